@@ -1,0 +1,2 @@
+pub mod CausesLemmas
+pub mod LogsLemmas
