@@ -1,0 +1,2 @@
+pub mod HistoriesLemmas
+pub mod AsksLemmas

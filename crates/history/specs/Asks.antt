@@ -1,0 +1,42 @@
+-- What asks do: one ask of an object that has a state, one ask of a desk that stands for a history, and many asks in turn.
+use Rattle.std.specs.Prelude.{◌≡◌, ℕ, List, [], ◌∷◌, ◌++◌, length, map, Some}
+use Rattle.history.specs.Rules.{Rules}
+use Rattle.history.specs.Histories.{end_state, IsLegal, reply_at, asked_at, calls_of}
+
+-- the entries of one ask, from the state that it finds: what goes before its call, and the call
+abbrev pub entries : {Q A S E R : Type 0} → Rules Q A S E R → S → Q → A → List E
+entries r state question answer = r.ticks state question answer ++ r.call question answer ∷ []
+
+-- One ask of an object: its entries are legal and lead from the old state to the new one, its last entry alone is a call, of
+-- this question, and that call's reply is the answer's.
+pub record IsAsk {Q A S E R : Type 0} (r : Rules Q A S E R) (old : S) (question : Q) (answer : A) (new : S) : Type 0 where
+  pub legal : IsLegal r old (entries r old question answer)
+  pub leads : new ≡ end_state r old (entries r old question answer)
+  pub quiet : (place : ℕ) → calls_of r place (r.ticks old question answer) ≡ []
+  pub asked : r.asked (r.call question answer) ≡ Some question
+  pub reply : r.reply (end_state r old (r.ticks old question answer)) (r.call question answer) ≡ Some (r.told answer)
+
+-- One ask of a desk that stood for the history `seen` and its own places `mine`: after what others did between, it stands for
+-- the history with the ask's entries at its end and with the call's place at the end of its own. The question at that
+-- place is this one, and the reply there is the answer's.
+pub record HasAsked {Q A S E R : Type 0} (r : Rules Q A S E R) (stands : List E → List ℕ → Type 0) (opening : S) (seen : List E) (mine : List ℕ) (question : Q) (answer : A) : Type 0 where
+  pub between : List E
+  pub before : List E
+  pub before_is : before ≡ (seen ++ between) ++ r.ticks (end_state r opening (seen ++ between)) question answer
+  pub stands_now : stands (before ++ r.call question answer ∷ []) (mine ++ length before ∷ [])
+  pub asked : asked_at r (before ++ r.call question answer ∷ []) (length before) ≡ Some question
+  pub reply : reply_at r opening (before ++ r.call question answer ∷ []) (length before) ≡ Some (r.told answer)
+
+-- Many asks in turn: the history that was seen goes on, the desk's own places gain one for each question, and there stand
+-- these questions with these replies, in order.
+pub record Gains {Q A S E R : Type 0} (r : Rules Q A S E R) (stands : List E → List ℕ → Type 0) (opening : S) (seen : List E) (mine : List ℕ) (questions : List Q) (replies : List R) : Type 0 where
+  pub since : List E
+  pub gained : List ℕ
+  pub stands_now : stands (seen ++ since) (mine ++ gained)
+  pub asked : map (asked_at r (seen ++ since)) gained ≡ map Some questions
+  pub replied : map (reply_at r opening (seen ++ since)) gained ≡ map Some replies
+
+-- whatever opening, history and places a desk stood for, it stands now for those after these asks, with these replies
+abbrev pub AsksInTurn : {Q A S E R O : Type 0} → Rules Q A S E R → (O → S) → (O → List E → List ℕ → Type 0) → (O → List E → List ℕ → Type 0) → List Q → List R → Type 0
+AsksInTurn {E = E} {O = O} r start old new questions replies =
+    (opening : O) (seen : List E) (mine : List ℕ) → old opening seen mine → Gains r (new opening) (start opening) seen mine questions replies
