@@ -1,0 +1,63 @@
+-- A `Doc`, level by level, and a `BTreeMap` beside the members that it stands for.
+use Rattle.std.proofs.Common.{◌≡◌, List, [], ◌∷◌, ◌++◌, String, Vec, BTreeMap, Global, Ordering, Less, Equal, Greater, string_bytes, string_cmp, nat_cmp, refl, ap, ◌∙◌, rules}
+use Rattle.std.proofs.lemmas.Cmp.{nat_list_cmp_total}
+use Rattle.std.specs.Cmp.Lexicographic.{slice_cmp}
+use Rattle.std.specs.List.{AllByRecursion}
+use Rattle.std.specs.List.Sorted.{IsStrictlySortedBy}
+use Rattle.std.specs.Map.{keys_of}
+use Rattle.std.specs.Ordering.{match_ordering, ordering_reverse}
+use Rattle.std.specs.BTreeMap.{insert_entry}
+use Rattle.json.specs.Token.{Token}
+use Rattle.json.specs.Tree.{json_tokens, items_tokens, members_tokens}
+use Rattle.serde_json.specs.Written.{outline, items_outline, members_outline}
+use Rattle.farm_text.specs.Document.{Document, array, object, items_of, Members, member, members_of, put, data_of, items_data, members_data}
+use Rattle.farm_text.specs.Doc.{document, documents, entries_of}
+use Rattle.farm_text.specs.declared.doc.Doc.{Doc, the_lemmas}
+use Rattle.farm_text.specs.declared.doc.Doc.TheVariants.{List as ListDoc, Map as MapDoc}
+
+abbrev pub Entry : Type 0
+Entry = String Global × Doc
+
+pub document-List : (v : Vec Doc Global) → document (ListDoc v) ≡ array (items_of (documents v.items))
+document-List v = search (rules, the_lemmas)
+
+pub document-Map : (m : BTreeMap (String Global) Doc) → document (MapDoc m) ≡ object (members_of (entries_of m.entries))
+document-Map m = search (rules, the_lemmas)
+
+-- the members of a map's entries
+abbrev pub members_in : List Entry → Members
+members_in es = members_of (entries_of es)
+
+-- the tokens that are written for a document, and for what stands inside
+abbrev pub tokens_of : Document → List Token
+tokens_of d = json_tokens (outline (data_of d))
+
+abbrev pub item_tokens_of : List Doc → List Token
+item_tokens_of ds = items_tokens (items_outline (items_data (items_of (documents ds))))
+
+abbrev pub member_tokens_of : List Entry → List Token
+member_tokens_of es = members_tokens (members_outline (members_data (members_in es)))
+
+members_in-match_ordering : (o : Ordering) (a b c : List Entry) → members_in (match_ordering o a b c) ≡ match_ordering o (members_in a) (members_in b) (members_in c)
+members_in-match_ordering Less a b c = refl
+members_in-match_ordering Equal a b c = refl
+members_in-match_ordering Greater a b c = refl
+
+-- an insert into the map puts the member
+pub members_in-insert_entry : (es : List Entry) (k : String Global) (v : Doc) → members_in (insert_entry string_cmp es k v) ≡ put (string_bytes k) (document v) (members_in es)
+members_in-insert_entry [] k v = refl
+members_in-insert_entry (e ∷ es) k v = members_in-match_ordering (string_cmp k e.0) _ _ _ ∙ rw (members_in-insert_entry es k v)
+
+below_middle : (first : Entry) (es : List Entry) (e : Entry) (more : List Entry) → AllByRecursion (λ y. string_cmp first.0 y ≡ Less) (keys_of (es ++ e ∷ more)) → string_cmp first.0 e.0 ≡ Less
+below_middle first [] e more h = h.0
+below_middle first (x ∷ es) e more h = below_middle first es e more h.1
+
+-- a key that is above those before it goes last
+pub put_last : (done : List Entry) (e : Entry) (more : List Entry) → IsStrictlySortedBy string_cmp (keys_of (done ++ e ∷ more))
+    → put (string_bytes e.0) (document e.1) (members_in done) ≡ members_in (done ++ e ∷ [])
+unfolding IsStrictlySortedBy
+put_last [] e more h = refl
+put_last (first ∷ done) e more h =
+    let above : slice_cmp nat_cmp (string_bytes e.0) (string_bytes first.0) ≡ Greater =
+    nat_list_cmp_total.antisymm (string_bytes e.0) (string_bytes first.0) ∙ ap ordering_reverse (below_middle first done e more h.0) in
+    rw above (ap (member (string_bytes first.0) (document first.1)) (put_last done e more h.1))

@@ -1,0 +1,5 @@
+pub mod DocLemmas
+pub mod ToldLemmas
+pub mod MomentLemmas
+pub mod SlugLemmas
+pub mod DrawLemmas

@@ -1,0 +1,6 @@
+pub mod Document
+pub mod Doc
+pub mod Entries
+pub mod Moment
+pub mod Slug
+pub mod Told

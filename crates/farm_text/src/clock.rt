@@ -1,0 +1,89 @@
+ghost use Rattle.std.specs.Prelude.{◌≡◌, ℕ, ◌+◌, ◌-◌, ◌^◌, ◌≤◌, List, [], ◌∷◌, min, Option, Some, None};
+ghost use Rattle.causes.specs.Logs.{LogGrows};
+ghost use Rattle.farm_text.specs.Told.{told_by, listed_moment};
+ghost use Rattle.farm_text.specs.declared.moment.TheConstants.{LAST_TOLD_MOMENT};
+
+use crate::moment::{LAST_TOLD_MOMENT, Moment};
+use std::marker::Model;
+use std::rt;
+
+/// Tells the time. No order of the moments is promised.
+pub trait Clock {
+    /// The moments told so far, where the clock keeps them.
+    ghost told: { Self → Option (List ℕ) };
+
+    fn now(&mut self) -> Moment
+        ensures told { LogGrows (told self.old) (told self.new) (result ∷ []) }
+        ensures within { result ≤ LAST_TOLD_MOMENT };
+}
+
+/// A clock that tells the moments of a list in order, and after them the last one again.
+///
+/// A contract sees it as its moments and the number of its calls.
+#[derive(Debug, Drop)]
+pub struct ListClock {
+    moments: Vec<Moment>,
+    calls: u64,
+}
+
+impl Model for ListClock {
+    ghost Value = { List ℕ × ℕ };
+
+    ghost view = { λ c. (c.moments.items, c.calls) };
+}
+
+impl ListClock {
+    /// A clock over these moments; of an empty list it tells moment 0.
+    ///
+    /// One after the last moment that a clock tells is told as that one.
+    pub fn new(moments: Vec<Moment>) -> ListClock
+        ensures { result ≡ (moments.items, 0) }
+    {
+        ListClock { moments, calls: 0 }
+    }
+}
+
+impl Clock for ListClock {
+    ghost told = { λ c. told_by (listed_moment c.0) c.1 };
+
+    fn now(&mut self) -> Moment
+        ensures told { LogGrows (told_by (listed_moment self.old.0) self.old.1)
+            (told_by (listed_moment self.new.0) self.new.1) (result ∷ []) }
+        ensures within { result ≤ LAST_TOLD_MOMENT }
+        ensures value { result ≡ listed_moment self.old.0 self.old.1 }
+        ensures next { self.new ≡ (self.old.0, min (self.old.1 + 1) (2 ^ 64 - 1)) }
+    {
+        let place = (self.calls as usize).min(self.moments.len().saturating_sub(1));
+        let moment = self.moments.get(place).copied().unwrap_or(Moment::FIRST);
+        self.calls = self.calls.saturating_add(1);
+        moment.min_told()
+    }
+}
+
+/// The clock of the runtime. Where that fails or stands before 1970, the moment told last is told again.
+#[derive(Drop)]
+pub struct HostClock<R: rt::Clock + Drop> {
+    rt: R,
+    last: Moment,
+}
+
+impl<R: rt::Clock + Drop> HostClock<R> {
+    /// The clock of this runtime.
+    pub fn new(rt: R) -> HostClock<R> {
+        HostClock {
+            rt,
+            last: Moment::FIRST,
+        }
+    }
+}
+
+impl<R: rt::Clock + Drop> Clock for HostClock<R> {
+    ghost told = { λ _. None };
+
+    fn now(&mut self) -> Moment {
+        if let Ok(since) = self.rt.since_1970() {
+            self.last = Moment::saturating(since.as_millis());
+        }
+        self.last.min_told()
+    }
+}

@@ -1,0 +1,136 @@
+ghost use Rattle.std.specs.Prelude.{◌≡◌, ◌++◌, OnOk, IfOk};
+ghost use Rattle.json.specs.Tree.{json_tokens, items_tokens, members_tokens};
+ghost use Rattle.serde_json.specs.Written.{outline, items_outline, members_outline};
+ghost use Rattle.farm_text.specs.Document.{data_of, items_data, members_data, document_text, items_of, members_of, text as plain_text};
+ghost use Rattle.farm_text.specs.Doc.{document, documents, entries_of};
+
+use crate::text::Text;
+use json::Writer;
+use std::alloc::{AllocError, Global};
+use std::collections::BTreeMap;
+use std::default::Emptied;
+
+/// A JSON document with whole numbers (RFC 8259). The keys of a map rise by bytes, and each stands once.
+#[derive(Debug, Drop)]
+pub enum Doc {
+    Null,
+    Bool(bool),
+    Int(i64),
+    Text(Text),
+    List(Vec<Doc>),
+    Map(BTreeMap<String, Doc>),
+}
+
+impl Doc {
+    /// A copy of the text, as a document.
+    pub fn text(alloc: Global, text: &str) -> Result<Doc, AllocError>
+        ensures { IfOk result (λ d. document d ≡ plain_text text.now) }
+    {
+        Ok(Doc::Text(Text::from_str(alloc, text)?))
+    }
+
+    /// The document as JSON without spaces.
+    pub fn write(&self, alloc: Global) -> Result<Text, AllocError>
+        ensures { IfOk result (λ t. t ≡ document_text (document self.now)) }
+    {
+        let mut out = Writer::new(Vec::with_capacity(alloc, 128)?);
+        write_value(self, &mut out)?;
+        let bytes = out.into_inner();
+        // The writer's bytes are proved to be UTF-8, so they are not read again.
+        let content = unsafe { String::from_utf8_unchecked(bytes) };
+        Ok(Text::from_string(content))
+    }
+}
+
+impl Clone for Doc {
+    ghost is_clone = { λ a b. document b ≡ document a };
+
+    fn clone(&self) -> Result<Doc, AllocError> {
+        copy_value(self)
+    }
+}
+
+#[cycle(write)]
+fn write_value(doc: &Doc, out: &mut Writer) -> Result<(), AllocError>
+    ensures ok { OnOk result (out.new.tokens
+        ≡ out.old.tokens ++ json_tokens (outline (data_of (document doc.now)))) }
+    ensures before { out.new.before ≡ out.old.before }
+{
+    match doc {
+        Doc::Null => out.null(),
+        Doc::Bool(b) => out.boolean(*b),
+        Doc::Int(n) => out.i64(*n),
+        Doc::Text(text) => out.string(text.as_str()),
+        Doc::List(items) => {
+            out.begin_array()?;
+            write_items(items, out)
+        }
+        Doc::Map(members) => {
+            out.begin_object()?;
+            write_members(members, out)
+        }
+    }
+}
+
+#[cycle(write)]
+fn write_items(items: &Vec<Doc>, out: &mut Writer) -> Result<(), AllocError>
+    ensures ok { OnOk result (out.new.tokens ≡ out.old.tokens
+        ++ items_tokens (items_outline (items_data (items_of (documents items.now.items))))) }
+    ensures before { out.new.before ≡ out.old.before }
+{
+    for item in items {
+        write_value(item, out)?;
+    }
+    out.end_array()
+}
+
+#[cycle(write)]
+fn write_members(members: &BTreeMap<String, Doc>, out: &mut Writer) -> Result<(), AllocError>
+    ensures ok { OnOk result (out.new.tokens ≡ out.old.tokens
+        ++ members_tokens (members_outline (members_data (members_of (entries_of members.now.entries))))) }
+    ensures before { out.new.before ≡ out.old.before }
+{
+    for (key, member) in members.iter() {
+        out.key(key.as_str())?;
+        write_value(member, out)?;
+    }
+    out.end_object()
+}
+
+#[cycle(copy)]
+fn copy_value(doc: &Doc) -> Result<Doc, AllocError>
+    ensures { IfOk result (λ d. document d ≡ document doc.now) }
+{
+    match doc {
+        Doc::Null => Ok(Doc::Null),
+        Doc::Bool(b) => Ok(Doc::Bool(*b)),
+        Doc::Int(n) => Ok(Doc::Int(*n)),
+        Doc::Text(text) => Ok(Doc::Text(text.clone()?)),
+        Doc::List(items) => Ok(Doc::List(copy_items(items)?)),
+        Doc::Map(members) => Ok(Doc::Map(copy_members(members)?)),
+    }
+}
+
+#[cycle(copy)]
+fn copy_items(items: &Vec<Doc>) -> Result<Vec<Doc>, AllocError>
+    ensures { IfOk result (λ v. items_of (documents v.items) ≡ items_of (documents items.now.items)) }
+{
+    let mut copies = Vec::with_capacity(*items.allocator(), items.len())?;
+    for item in items {
+        copies.push(copy_value(item)?)?;
+    }
+    Ok(copies)
+}
+
+#[cycle(copy)]
+fn copy_members(members: &BTreeMap<String, Doc>) -> Result<BTreeMap<String, Doc>, AllocError>
+    ensures { IfOk result (λ m. members_of (entries_of m.entries)
+        ≡ members_of (entries_of members.now.entries)) }
+{
+    let mut copies = BTreeMap::emptied(members)?;
+    for (key, member) in members.iter() {
+        let name = key.clone()?;
+        drop(copies.insert(name, copy_value(member)?)?);
+    }
+    Ok(copies)
+}

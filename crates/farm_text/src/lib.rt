@@ -1,0 +1,20 @@
+//! Texts, documents, slugids and moments, and the clock and the draws that a farm is told.
+#![tactic(auto)]
+
+mod clock;
+mod doc;
+mod draws;
+mod entries;
+mod moment;
+mod slug;
+#[cfg(test)]
+mod tests;
+mod text;
+
+pub use clock::{Clock, HostClock, ListClock};
+pub use doc::Doc;
+pub use draws::{Draws, HostDraws, ListDraws};
+pub use entries::Entries;
+pub use moment::{LAST_MOMENT, LAST_TOLD_MOMENT, Moment, moment_texts_are_one, write_moment};
+pub use slug::{SlugId, slugs_are_texts_of_uuids};
+pub use text::Text;
