@@ -1,0 +1,4 @@
+pub mod HeadLemmas
+pub mod KnownLemmas
+pub mod StreamLemmas
+pub mod StreamLaws

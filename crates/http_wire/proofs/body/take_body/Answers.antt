@@ -1,0 +1,47 @@
+use Rattle.std.proofs.Common.{◌≡◌, ◌+◌, ◌-◌, ◌≤◌, ◌++◌, min, length, take, drop, replicate, vec_len, ap, ◌∙◌, arith, take_all, length-take, length-drop}
+use Rattle.http_wire.proofs.KnownLemmas.{Leaves-cleared, body_taken, body_stop}
+use Rattle.http_wire.proofs.body.take_body.Goals as goal
+
+pub returns-in-Err-read_into-clause-leaves : goal.returns-in-Err-read_into-clause-leaves
+returns-in-Err-read_into-clause-leaves g c =
+    Leaves-cleared _ _ _ _ _ _ _ _ c.in-Err-read_into.wire c.clear.ensures.items c.in-Err-read_into.ensures.stop c.in-Err-read_into.ensures.lost
+
+pub returns-in-Err-read_into-clause-stop : goal.returns-in-Err-read_into-clause-stop
+returns-in-Err-read_into-clause-stop g c =
+    let held = c.args.held.now.items in
+    let size : length held ≡ c.len.result = omega (arith, c.args.held.now.ok.0, c.len.ensures) in
+    let now = c.deref_mut.result.now in
+    let have = c.min-have.result in
+    let rest = length-take (length now - have) (drop have now) in
+    let after = length-drop have now in
+    body_stop held c.args.start have _ c.args.size _ _ _ c.in-Err-read_into.wire (omega (arith, size, c.min-have.ensures)) (omega (arith, size, c.requires))
+    (omega (arith, rest, after, size, c.min-have.ensures, c.deref_mut.ensures.len, c.in-Ok-resize.ensures.len)) c.in-Err-read_into.ensures.stop
+
+pub returns-clause-bytes : goal.returns-clause-bytes
+returns-clause-bytes g c =
+    let held = c.args.held.now.items in
+    let start = c.args.start in
+    let have = c.min-have.result in
+    let now = c.deref_mut.result.now in
+    let zeros = replicate (c.args.size - vec_len c.in-Ok.body) 0 in
+    let size : length held ≡ c.len.result = omega (arith, c.args.held.now.ok.0, c.len.ensures) in
+    let part : (start + have) - start ≡ have = omega arith in
+    let first : c.in-Ok.body.items ≡ take have (drop start held) =
+    c.in-Ok.ensures.items ∙ ap (λ n. take n (drop start c.deref.result.now)) part ∙ ap (λ l. take have (drop start l)) c.deref.ensures.value in
+    let long : length c.in-Ok.body.items ≡ length (take have (drop start held)) = ap length first in
+    let least : have ≡ min (length held - start) c.args.size = omega (arith, size, c.min-have.ensures) in
+    let fits : length c.in-Ok.body.items ≤ c.args.size = omega (arith, long, length-take have (drop start held), least) in
+    let is : now ≡ take have (drop start held) ++ zeros =
+    c.deref_mut.ensures.value ∙ c.in-Ok-resize.ensures.items ∙ ap (λ l. l ++ zeros) (take_all c.args.size c.in-Ok.body.items fits ∙ first) in
+    let room = length-take (length now - have) (drop have now) in
+    let after = length-drop have now in
+    let sum : have + length c.read_into.new.buf ≡ c.args.size =
+    omega (arith, c.read_into.auto.buf, room, after, least, c.deref_mut.ensures.len, c.in-Ok-resize.ensures.len) in
+    body_taken held now zeros c.read_into.new.buf _ _ c.drop_front.new.bytes.items start have c.args.size c.resize.new.self.len _ _
+    least (omega (arith, size, c.requires)) is sum (c.in-Ok-resize.ensures.len) c.drop_front.ensures c.in_default.ensures.bytes
+
+pub returns-in-Err-clause-ended : goal.returns-in-Err-clause-ended
+returns-in-Err-clause-ended g c = tt
+
+pub returns-in-Err-resize-clause-ended : goal.returns-in-Err-resize-clause-ended
+returns-in-Err-resize-clause-ended g c = tt

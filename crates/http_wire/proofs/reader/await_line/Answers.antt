@@ -1,0 +1,19 @@
+use Rattle.std.proofs.Common.{◌≡◌, length, ◌∙◌, arith}
+use Rattle.std.proofs.KnownBytes.{Keeps-trans}
+use Rattle.http_wire.proofs.HeadLemmas.{IsOpen-piece}
+use Rattle.http_wire.proofs.reader.await_line.Goals as goal
+
+pub pieces-preserved : goal.pieces-preserved
+pieces-preserved g c =
+    let old = c.pieces.invariant in
+    let size : length c.pieces.held.items ≡ c.len-len.result = omega (arith, c.pieces.held.ok.0, c.len-len.ensures) in
+    let none = c.if-lines_end-gt0.false in
+    record {
+      short = omega arith;
+      neither = IsOpen-piece c.pieces.held.items c.fill.new.held.items c.deref.result.now c.in-Ok.ensures.grown.0 c.len-len.result c.in-Ok.ensures.grown.1 size c.deref.ensures.value old.neither (λ m some. c.lines_end.ensures.last m (omega arith));
+      longer = omega (arith, old.longer, c.in-Ok.ensures.count);
+      kept = Keeps-trans _ _ _ old.kept c.in-Ok.ensures.kept;
+      later = omega (arith, old.later, c.in-Ok.ensures.later);
+      written = c.in-Ok.ensures.written ∙ old.written;
+      write_faults = c.in-Ok.ensures.write_faults ∙ old.write_faults;
+    }

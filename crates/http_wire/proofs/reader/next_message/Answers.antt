@@ -1,0 +1,37 @@
+use Rattle.std.proofs.Common.{◌≡◌, Ok, Err, take, length, sym, ap, subst, arith}
+use Rattle.std.specs.Io.KnownBytes.{Consumes}
+use Rattle.httparse.specs.Spans.{IsRequestAt}
+use Rattle.http_wire.specs.Framing.{body_length}
+use Rattle.http_wire.specs.declared.message.Message.{Message}
+use Rattle.http_wire.proofs.KnownLemmas.{Leaves-then}
+use Rattle.http_wire.proofs.StreamLemmas.{fields_at, Stops-kept, stops_refused, refused_ends, takes_one, stops_body, TakesOne-kept}
+use Rattle.http_wire.proofs.reader.next_message.Goals as goal
+
+pub returns-in-Err-body_length-clause-stops : goal.returns-in-Err-body_length-clause-stops
+returns-in-Err-body_length-clause-stops g c =
+    let rule = subst (λ held. Err c.in-Err-body_length.wire ≡ body_length (fields_at held c.read_head.new.spans c.in-Ok.at)) c.deref.ensures.value c.in-Err-body_length.ensures in
+    Stops-kept _ _ _ c.in-Ok.ensures.kept (stops_refused _ _ c.in-Ok.at _ _ c.in-Ok.ensures.head rule)
+
+pub returns-in-Ok-take_body-clause-message : goal.returns-in-Ok-take_body-clause-message
+returns-in-Ok-take_body-clause-message g c =
+    let rule = subst (λ held. Ok c.in-Ok-body_length.size ≡ body_length (fields_at held c.read_head.new.spans c.in-Ok.at)) c.deref.ensures.value c.in-Ok-body_length.ensures in
+    let head = c.in-Ok.ensures.head.head in
+    let is = c.in-Ok-message_of.ensures head.0 (subst (λ held. IsRequestAt (take c.in-Ok.at.lines held) c.read_head.new.spans c.in-Ok.at.request head.0) (sym c.deref.ensures.value) head.1) in
+    let size : length c.from.result ≡ c.in-Ok-body_length.size = omega (arith, ap length c.from.ensures, c.in-Ok-take_body.body.ok.0, c.in-Ok-take_body.ensures.size) in
+    TakesOne-kept _ _ _ _ c.in-Ok.ensures.kept
+    (takes_one _ _ c.in-Ok.at _ c.in-Ok-body_length.size c.from.result _ _ _ c.in-Ok.ensures.head rule size
+    (subst (Consumes _ _) (sym c.from.ensures) c.in-Ok-take_body.ensures.bytes) (ap (λ (m : Message). record m { body = c.from.result }) is))
+
+pub returns-in-Err-take_body-clause-stops : goal.returns-in-Err-take_body-clause-stops
+returns-in-Err-take_body-clause-stops g c =
+    let rule = subst (λ held. Ok c.in-Ok-body_length.size ≡ body_length (fields_at held c.read_head.new.spans c.in-Ok.at)) c.deref.ensures.value c.in-Ok-body_length.ensures in
+    Stops-kept _ _ _ c.in-Ok.ensures.kept (stops_body _ _ c.in-Ok.at _ c.in-Ok-body_length.size _ _ _ c.in-Ok.ensures.head rule c.in-Err-take_body.ensures.stop)
+
+pub returns-in-Err-take_body-clause-leaves : goal.returns-in-Err-take_body-clause-leaves
+returns-in-Err-take_body-clause-leaves g c = Leaves-then _ _ _ _ c.in-Ok.ensures.kept c.in-Err-take_body.ensures.leaves
+
+pub returns-in-Err-body_length-clause-ended : goal.returns-in-Err-body_length-clause-ended
+returns-in-Err-body_length-clause-ended g c = refused_ends _ _ _ c.in-Err-body_length.ensures
+
+pub returns-in-Err-message_of-clause-ended : goal.returns-in-Err-message_of-clause-ended
+returns-in-Err-message_of-clause-ended g c = tt

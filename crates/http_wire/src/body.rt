@@ -1,0 +1,111 @@
+//! Bytes from a link: one more piece of a head, and a body.
+ghost use Rattle.std.specs.Prelude.{◌≡◌, ℕ, ◌+◌, ◌<◌, ◌≤◌, List, ◌++◌, length, drop, vec_len, IfOk, IfErr, OnOk};
+ghost use Rattle.std.specs.Io.KnownBytes.{prepend_known, Keeps, Consumes, IsAtEnd};
+ghost use Rattle.causes.specs.Causes.{Rose};
+ghost use Rattle.http_wire.specs.Reading.{IsFillStop, IsReadStop, IsBodyStop, Ends, Leaves, Loses};
+
+use crate::head::HEAD_LIMIT;
+use crate::link::Link;
+use crate::message::Wire;
+use causes::Failed;
+use std::alloc::Global;
+
+/// How many bytes a read asks for.
+const PIECE: usize = 8192;
+
+/// Reads one piece to the end of `held`, and says how many bytes came. None are the end of the input.
+pub(crate) fn fill<L: Link>(held: &mut Vec<u8>, link: &mut L) -> Result<usize, Wire>
+    requires { vec_len held.old < HEAD_LIMIT }
+    ensures count { IfOk result (λ n. vec_len held.new ≡ vec_len held.old + n) }
+    ensures end { IfOk result (λ n. n ≡ 0 → (held.new.items ≡ held.old.items) × IsAtEnd (L.left link.new)) }
+    ensures grown { OnOk result ((piece : List ℕ) × (held.new.items ≡ held.old.items ++ piece)) }
+    ensures stop { IfErr result (IsFillStop (L.read_faults link.old) (L.read_faults link.new)) }
+    ensures kept { Keeps (prepend_known held.old.items (L.left link.old)) (prepend_known held.new.items (L.left link.new)) }
+    ensures later { L.read_faults link.old ≤ L.read_faults link.new }
+    ensures written { L.written link.new ≡ L.written link.old }
+    ensures write_faults { L.write_faults link.new ≡ L.write_faults link.old }
+{
+    let len = held.len();
+    match held.resize(len + PIECE, 0) {
+        Ok(()) => {}
+        Err(_) => return Err(Wire::NoMemory),
+    }
+    match link.read(&mut held[len..]) {
+        Ok(count) => {
+            held.truncate(len + count);
+            Ok(count)
+        }
+        Err(Failed) => {
+            held.truncate(len);
+            Err(Wire::ReadFault)
+        }
+    }
+}
+
+/// Fills `buf`.
+fn read_into<L: Link>(buf: &mut [u8], link: &mut L) -> Result<(), Wire>
+    ensures bytes { OnOk result (Consumes (L.left link.old) (L.left link.new) buf.new) }
+    ensures stop { IfErr result (IsReadStop (length buf.old) (L.left link.old) (L.read_faults link.old) (L.read_faults link.new)) }
+    ensures lost { Loses (L.left link.old) (L.left link.new) }
+    ensures ended { IfErr result (Ends (L.left link.new)) }
+    ensures later { L.read_faults link.old ≤ L.read_faults link.new }
+    ensures written { L.written link.new ≡ L.written link.old }
+    ensures write_faults { L.write_faults link.new ≡ L.write_faults link.old }
+{
+    let mut filled = 0;
+    while filled < buf.len() {
+        match link.read(&mut buf[filled..]) {
+            Ok(0) => return Err(Wire::EndedInside),
+            Ok(count) => filled += count,
+            Err(Failed) => return Err(Wire::ReadFault),
+        }
+    }
+    Ok(())
+}
+
+/// Drops the first `count` bytes.
+fn drop_front(bytes: &mut Vec<u8>, count: usize)
+    requires { count ≤ vec_len bytes.old }
+    ensures { bytes.new.items ≡ drop count bytes.old.items }
+{
+    let rest = bytes.len() - count;
+    bytes.rotate_left(count);
+    bytes.truncate(rest);
+}
+
+/// Takes the body of `size` bytes that begins at `start` of those held, and drops all up to its end. Its room is taken
+/// before anything is read. Where it does not come whole, all that was held is gone.
+pub(crate) fn take_body<L: Link>(
+    alloc: Global,
+    held: &mut Vec<u8>,
+    start: usize,
+    size: usize,
+    link: &mut L,
+) -> Result<Vec<u8>, Wire>
+    requires { start ≤ vec_len held.old }
+    ensures size { IfOk result (λ body. vec_len body ≡ size) }
+    ensures bytes { IfOk result (λ body. Consumes (prepend_known (drop start held.old.items) (L.left link.old))
+        (prepend_known held.new.items (L.left link.new)) body.items) }
+    ensures leaves { IfErr result (Leaves (prepend_known held.old.items (L.left link.old)) (prepend_known held.new.items (L.left link.new))) }
+    ensures ended { IfErr result (Ends (L.left link.new)) }
+    ensures stop { IfErr result (IsBodyStop size (prepend_known (drop start held.old.items) (L.left link.old)) (L.read_faults link.old) (L.read_faults link.new)) }
+    ensures later { L.read_faults link.old ≤ L.read_faults link.new }
+    ensures written { L.written link.new ≡ L.written link.old }
+    ensures write_faults { L.write_faults link.new ≡ L.write_faults link.old }
+{
+    let have = (held.len() - start).min(size);
+    let mut body = match Vec::from_slice(alloc, &held[start..start + have]) {
+        Ok(body) => body,
+        Err(_) => return Err(Wire::NoMemory),
+    };
+    match body.resize(size, 0) {
+        Ok(()) => {}
+        Err(_) => return Err(Wire::NoMemory),
+    }
+    if let Err(wire) = read_into(&mut body[have..], link) {
+        held.clear();
+        return Err(wire);
+    }
+    drop_front(held, start + have);
+    Ok(body)
+}

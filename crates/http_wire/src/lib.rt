@@ -1,0 +1,31 @@
+//! HTTP/1.1 requests from a stream of bytes (RFC 9112), however the stream is cut.
+//!
+//! `specs/Stream.antt` says which messages stand in a stream of bytes, and how their list ends. A `Reader` takes
+//! them from a `Link` one by one. A link tells what it has left to read and what was written, where it is in
+//! memory, and counts the calls that failed.
+#![tactic(auto)]
+
+mod body;
+mod head;
+mod host;
+mod joined;
+mod laws;
+mod link;
+mod list;
+mod memory;
+mod message;
+mod reader;
+mod rules;
+
+pub use head::{BODY_LIMIT, FIELD_LIMIT, HEAD_LIMIT};
+pub use host::{HostSink, HostSource, StreamLink};
+pub use joined::Joined;
+pub use laws::{messages_are_one, outcome_is_one};
+pub use link::{Link, Sink, Source};
+pub use list::{ListEnd, MessageList, read_messages};
+pub use memory::{MemoryLink, MemorySink, MemorySource};
+pub use message::{Bytes, Message, Wire};
+pub use reader::Reader;
+
+#[cfg(test)]
+mod tests;

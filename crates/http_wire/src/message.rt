@@ -1,0 +1,118 @@
+//! A request, and why there is none.
+ghost use Rattle.std.specs.Prelude.{◌≡◌, ℕ, List, length, IsTrue, ◌↔◌, []};
+
+use std::alloc::AllocError;
+use std::error::Error;
+use std::fmt;
+use std::marker::Model;
+
+/// Bytes of a message, which contracts see as a list.
+#[derive(Debug, Drop)]
+pub struct Bytes {
+    bytes: Vec<u8>,
+}
+
+impl Model for Bytes {
+    ghost Value = { List ℕ };
+
+    ghost view = { λ b. b.bytes.items };
+}
+
+impl Bytes {
+    /// The bytes themselves.
+    pub fn as_slice(&self) -> &[u8]
+        ensures { result.now ≡ self.now }
+    {
+        self.bytes.as_slice()
+    }
+
+    /// How many bytes there are.
+    pub fn len(&self) -> usize
+        ensures { result ≡ length self.now }
+    {
+        self.bytes.len()
+    }
+
+    /// Whether there are none.
+    pub fn is_empty(&self) -> bool
+        ensures { IsTrue result ↔ (self.now ≡ []) }
+    {
+        self.bytes.is_empty()
+    }
+
+    /// The bytes as a vector. It takes no memory.
+    pub fn into_vec(self) -> Vec<u8>
+        ensures { result.items ≡ self }
+    {
+        self.bytes
+    }
+}
+
+impl From<Vec<u8>> for Bytes {
+    ghost from_gives = { λ v b. b ≡ v.items };
+
+    fn from(bytes: Vec<u8>) -> Bytes {
+        Bytes { bytes }
+    }
+}
+
+/// A request with its body. Of several fields with one name the first value counts.
+#[derive(Debug, Drop)]
+pub struct Message {
+    pub method: Bytes,
+    pub target: Bytes,
+    pub authorization: Option<Bytes>,
+    /// How many Authorization fields there are.
+    pub authorizations: u64,
+    pub content_type: Option<Bytes>,
+    pub body: Bytes,
+    /// The connection ends with this message (RFC 9112, section 9.3).
+    pub closes: bool,
+}
+
+/// Why a stream gives no further message.
+#[derive(Clone, Copy, Debug, PartialEq, Eq, Hash)]
+pub enum Wire {
+    /// The input ended where a message would begin.
+    End,
+    /// The bytes are no request, or Content-Length is doubled or not digits.
+    HeadFault,
+    /// No whole head in 16,384 bytes.
+    HeadTooLarge,
+    /// The request has a Transfer-Encoding.
+    NoLength,
+    /// Content-Length is above 1,048,576.
+    BodyTooLarge,
+    /// The input ended inside a message.
+    EndedInside,
+    /// A read failed.
+    ReadFault,
+    NoMemory,
+}
+
+impl fmt::Display for Wire {
+    fn fmt<W: fmt::Write>(&self, f: &mut fmt::Formatter<W>) -> fmt::Result {
+        f.write_str(match self {
+            Wire::End => "the input has ended",
+            Wire::HeadFault => "no request begins so",
+            Wire::HeadTooLarge => "the head is too large",
+            Wire::NoLength => "the length of the body is not stated",
+            Wire::BodyTooLarge => "the body is too large",
+            Wire::EndedInside => "the input has ended inside a message",
+            Wire::ReadFault => "a read has failed",
+            Wire::NoMemory => "out of memory",
+        })
+    }
+}
+
+impl Error for Wire {}
+
+impl From<AllocError> for Wire {
+    ghost use Rattle.http_wire.specs.declared.message.Wire.TheVariants.{NoMemory};
+
+    ghost from_gives = { λ _ w. w ≡ NoMemory };
+
+    fn from(_error: AllocError) -> Wire {
+        Wire::NoMemory
+    }
+}
