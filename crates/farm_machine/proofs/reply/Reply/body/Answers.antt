@@ -1,0 +1,7 @@
+use Rattle.std.proofs.Common.{refl}
+use Rattle.json.specs.Print.{escape_byte}
+use Rattle.farm_machine.proofs.reply.Reply.body.Goals as goal
+
+pub returns-in-OutOfMemory : goal.returns-in-OutOfMemory
+unfolding escape_byte
+returns-in-OutOfMemory c = rw c.in-OutOfMemory.is refl

@@ -1,0 +1,20 @@
+-- What happens to a farm: a tick, or a call and what became of it.
+use Rattle.std.specs.Prelude.{ℕ, List}
+use Rattle.farm_machine.specs.declared.question.Call.{Call}
+use Rattle.farm_machine.specs.declared.question.Caller.{Caller}
+
+-- a call as it was asked: the clock's moment, the id drawn for it, who calls, and what
+pub record Asking : Type 0 where
+  pub moment : ℕ
+  pub drawn : List ℕ
+  pub caller : Caller
+  pub call : Call
+
+-- what became of a call
+pub data Outcome : Type 0 where
+  finished : Outcome
+  out_of_memory : Outcome
+
+pub data Entry : Type 0 where
+  tick : (moment : ℕ) → Entry
+  call : (asking : Asking) → (outcome : Outcome) → Entry

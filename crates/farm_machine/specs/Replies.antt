@@ -1,0 +1,52 @@
+-- The bodies of replies, as JSON with its keys rising (RFC 8259), and their statuses (RFC 9110).
+use Rattle.std.specs.Prelude.{ℕ, List, [], ◌∷◌, codes, true, pos}
+use Rattle.farm_text.specs.Document.{Document, boolean, whole, text, object, Members, no_members, members_of, document_text}
+use Rattle.farm_machine.specs.declared.reply.Answer.{Answer}
+use Rattle.farm_machine.specs.declared.reply.Reply.{Reply}
+use Rattle.farm_machine.specs.declared.reply.Reply.TheVariants.{Answered, OutOfMemory}
+
+-- the text of an object of these members
+abbrev pub object_text : List (List ℕ × Document) → List ℕ
+object_text members = document_text (object (members_of members))
+
+-- the body of an error
+abbrev pub error_text : List ℕ → Members → List ℕ → List ℕ
+error_text code details message =
+    object_text ((codes "code", text code) ∷ (codes "details", object details) ∷ (codes "message", text message) ∷ [])
+
+-- the farm is there
+abbrev pub alive : Answer
+alive = record { status = 200; body = object_text ((codes "alive", boolean true) ∷ []) }
+
+-- nothing of this kind has that name
+abbrev pub not_found : List ℕ → List ℕ → Answer
+not_found kind name =
+    record {
+      status = 404;
+      body = error_text (codes "ResourceNotFound") (members_of ((codes "kind", text kind) ∷ (codes "name", text name) ∷ [])) (codes "nothing has that name");
+    }
+
+-- a parameter of the target is off its form
+abbrev pub bad_parameter : List ℕ → Answer
+bad_parameter name =
+    record {
+      status = 400;
+      body = error_text (codes "InputError") (members_of ((codes "name", text name) ∷ (codes "rule", whole (pos 22)) ∷ [])) (codes "the request breaks a rule");
+    }
+
+-- the caller's credentials are not accepted
+abbrev pub not_authentic : List ℕ → Answer
+not_authentic reason =
+    record {
+      status = 401;
+      body = error_text (codes "AuthenticationFailed") (members_of ((codes "reason", text reason) ∷ [])) (codes "the caller is not who it says");
+    }
+
+-- memory ran out
+abbrev pub no_memory : Answer
+no_memory = record { status = 503; body = error_text (codes "OutOfMemory") no_members (codes "no memory") }
+
+-- what a reply tells
+abbrev pub answer_of : Reply → Answer
+answer_of (Answered answer) = answer
+answer_of OutOfMemory = no_memory

@@ -1,0 +1,88 @@
+-- One step of a farm: which entries may come, the state after one, and its reply.
+use Rattle.std.specs.Prelude.{◌≡◌, ℕ, ◌≤◌, max, List, [], ◌∷◌, true, false, Option, Some, None, if◌then◌else◌}
+use Rattle.history.specs.Rules.{Rules}
+use Rattle.farm_text.specs.declared.moment.TheConstants.{LAST_TOLD_MOMENT}
+use Rattle.farm_machine.specs.declared.reply.Asked.{Asked}
+use Rattle.farm_machine.specs.declared.reply.Reply.{Reply}
+use Rattle.farm_machine.specs.declared.reply.Reply.TheVariants.{Answered, OutOfMemory}
+use Rattle.farm_machine.specs.Due.{is_due, advance}
+use Rattle.farm_machine.specs.Entry.{Asking, Outcome, finished, out_of_memory, Entry, tick, call}
+use Rattle.farm_machine.specs.State.{State, Contents}
+use Rattle.farm_machine.specs.Verdict.{Change, verdict}
+
+-- the moment of a call: the greater of the clock's and the last
+abbrev pub moment_of : Contents → Asking → ℕ
+moment_of contents asking = max asking.moment contents.last
+
+-- a moment is reached
+abbrev pub reached : Contents → ℕ → Contents
+reached contents moment = record contents { last = moment }
+
+-- a change is made at a moment
+abbrev pub applied : Contents → ℕ → Option Change → Contents
+applied contents moment None = reached contents moment
+applied contents moment (Some change) = elim change [ ]
+
+-- a tick comes where something is due
+pub record MayTick (state : State) (moment : ℕ) : Type 0 where
+  pub at_work : state.halted ≡ false
+  pub not_before : state.contents.last ≤ moment
+  pub told : moment ≤ LAST_TOLD_MOMENT
+  pub due : is_due state.contents moment ≡ true
+
+-- a call comes where nothing is due at its moment
+pub record MayCall (state : State) (asking : Asking) : Type 0 where
+  pub at_work : state.halted ≡ false
+  pub told : asking.moment ≤ LAST_TOLD_MOMENT
+  pub nothing_due : is_due state.contents (moment_of state.contents asking) ≡ false
+
+abbrev pub lawful : State → Entry → Type 0
+lawful state (tick moment) = MayTick state moment
+lawful state (call asking outcome) = MayCall state asking
+
+-- the state after a call that became this
+abbrev pub after_call : State → Asking → Outcome → State
+after_call state asking finished =
+    record state { contents = applied state.contents (moment_of state.contents asking) (verdict state asking).change }
+after_call state asking out_of_memory =
+    record state { contents = reached state.contents (moment_of state.contents asking) }
+
+abbrev pub after : State → Entry → State
+after state (tick moment) = record state { contents = advance state.contents moment }
+after state (call asking outcome) = after_call state asking outcome
+
+-- the reply to a call that became this
+abbrev pub reply_to : State → Asking → Outcome → Reply
+reply_to state asking finished = Answered (verdict state asking).answer
+reply_to state asking out_of_memory = OutOfMemory
+
+abbrev pub reply : State → Entry → Option Reply
+reply state (tick moment) = None
+reply state (call asking outcome) = Some (reply_to state asking outcome)
+
+-- what an entry asked
+abbrev pub asked : Entry → Option Asking
+asked (tick moment) = None
+asked (call asking outcome) = Some asking
+
+-- what became of a call, as its reply tells
+abbrev pub outcome_of : Reply → Outcome
+outcome_of (Answered answer) = finished
+outcome_of OutOfMemory = out_of_memory
+
+-- the tick before a call, where its answer tells of one
+abbrev pub ticks_before : State → Asking → Asked → List Entry
+ticks_before state asking answer = if answer.ticked then tick (moment_of state.contents asking) ∷ [] else []
+
+-- the law of a farm
+unfoldable pub farm_rules : Rules Asking Asked State Entry Reply
+farm_rules =
+    record {
+      lawful = lawful;
+      after = after;
+      reply = reply;
+      asked = asked;
+      ticks = ticks_before;
+      call = λ asking answer. call asking (outcome_of answer.reply);
+      told = λ answer. answer.reply;
+    }

@@ -1,0 +1,77 @@
+//! The law of a farm: the marker that names it, and laws about it.
+
+ghost use Rattle.std.specs.Prelude.{◌≡◌};
+ghost use Rattle.farm_machine.specs.Entry.{Asking};
+ghost use Rattle.farm_machine.specs.State.{State};
+ghost use Rattle.farm_machine.specs.Verdict.{verdict, answers_in_order, IsFirst};
+ghost use Rattle.farm_machine.specs.declared.reply.Answer.{Answer as Told};
+
+use crate::question::Question;
+use crate::reply::{Asked, Reply};
+use history::Machine;
+use std::marker::Model;
+
+/// The law of a farm, by name. No value of it is made.
+pub struct Farm {}
+
+/// Stands for the states of a farm where a type is asked for. No value of it is made.
+pub struct States {}
+
+impl Model for States {
+    ghost use Rattle.farm_machine.specs.State.{State, empty_state};
+
+    ghost Value = { State };
+
+    ghost view = { λ _. empty_state (record {}) };
+}
+
+/// Stands for the entries of a history where a type is asked for. No value of it is made.
+pub struct Entries {}
+
+impl Model for Entries {
+    ghost use Rattle.farm_machine.specs.Entry.{Entry, tick};
+
+    ghost Value = { Entry };
+
+    ghost view = { λ _. tick 0 };
+}
+
+/// Stands for the openings of a history where a type is asked for. No value of it is made.
+pub struct Openings {}
+
+impl Model for Openings {
+    ghost use Rattle.farm_machine.specs.Law.{Opening};
+    ghost use Rattle.farm_machine.specs.State.{empty_state};
+
+    ghost Value = { Opening };
+
+    ghost view = { λ _. record { state = empty_state (record {}) } };
+}
+
+impl Machine for Farm {
+    type Question = Question;
+
+    type Answer = Asked;
+
+    type State = States;
+
+    type Entry = Entries;
+
+    type Reply = Reply;
+
+    type Opening = Openings;
+
+    ghost use Rattle.farm_machine.specs.Law.{opened};
+    ghost use Rattle.farm_machine.specs.Step.{farm_rules};
+
+    ghost rules = { farm_rules };
+
+    ghost start = { opened };
+}
+
+/// The verdict of a call is one: it is the first answer that strikes in the order of refusals, and no other is.
+pub fn verdict_is_one()
+    ensures first { (state : State) (asking : Asking) → IsFirst (answers_in_order state asking) (verdict state asking).answer }
+    ensures only { (state : State) (asking : Asking) (answer : Told) → IsFirst (answers_in_order state asking) answer
+        → answer ≡ (verdict state asking).answer }
+{}

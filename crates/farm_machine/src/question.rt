@@ -1,0 +1,93 @@
+ghost use Rattle.std.specs.Prelude.{◌≡◌, ◌≤◌};
+ghost use Rattle.farm_text.specs.declared.moment.TheConstants.{LAST_TOLD_MOMENT};
+
+use farm_text::{Moment, SlugId, Text};
+use std::marker::Model;
+
+/// A parameter of a target, by the name in its route.
+#[derive(Clone, Copy, Debug, PartialEq, Eq)]
+pub enum Parameter {
+    TaskId,
+}
+
+/// Who calls, as far as the head of the request tells.
+#[derive(Clone, Copy, Debug, PartialEq, Eq)]
+pub enum Caller {
+    /// No credentials are given.
+    Anonymous,
+    /// Credentials are given in a form that has no reading.
+    BadHeader,
+}
+
+/// What is called.
+#[derive(Debug, Drop)]
+pub enum Call {
+    /// No route has the method and the target. The name is the target before `?` where it is printable ASCII, else `-`.
+    NoRoute(Text),
+    /// A route has them, and this parameter is off its form.
+    BadParameter(Parameter),
+    /// Whether the farm is there.
+    Ping,
+    /// The status of a task.
+    Status(SlugId),
+}
+
+/// One question to the farm: the moment that the clock told, the id that was drawn, who calls, and what.
+///
+/// Its moment is at most the greatest that a clock tells.
+#[derive(Debug, Drop)]
+pub struct Question {
+    moment: Moment,
+    drawn: SlugId,
+    caller: Caller,
+    call: Call,
+}
+
+impl Model for Question {
+    ghost use Rattle.std.specs.Prelude.{◌≤◌};
+    ghost use Rattle.farm_text.specs.declared.moment.TheConstants.{LAST_TOLD_MOMENT};
+    ghost use Rattle.farm_machine.specs.Entry.{Asking};
+
+    ghost Value = { Asking };
+
+    ghost view = { λ q. record { moment = q.moment; drawn = q.drawn; caller = q.caller; call = q.call } };
+
+    ghost invariant = { λ q. q.moment ≤ LAST_TOLD_MOMENT };
+}
+
+impl Question {
+    /// The question of a caller.
+    pub fn new(moment: Moment, drawn: SlugId, caller: Caller, call: Call) -> Self
+        requires { moment ≤ LAST_TOLD_MOMENT }
+        ensures { result ≡ record { moment = moment; drawn = drawn; caller = caller; call = call } }
+    {
+        Question {
+            moment,
+            drawn,
+            caller,
+            call,
+        }
+    }
+
+    /// The moment that the clock told.
+    pub fn moment(&self) -> Moment
+        ensures moment { result ≡ self.now.moment }
+        ensures told { result ≤ LAST_TOLD_MOMENT }
+    {
+        self.moment
+    }
+
+    /// Who calls.
+    pub fn caller(&self) -> Caller
+        ensures { result ≡ self.now.caller }
+    {
+        self.caller
+    }
+
+    /// What is called.
+    pub fn into_call(self) -> Call
+        ensures { result ≡ self.call }
+    {
+        self.call
+    }
+}

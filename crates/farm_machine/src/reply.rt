@@ -1,0 +1,52 @@
+ghost use Rattle.std.specs.Prelude.{◌≡◌};
+
+use farm_text::Text;
+use http::StatusCode;
+
+/// What a call is answered: a status of HTTP, and a JSON text.
+#[derive(Debug, Drop)]
+pub struct Answer {
+    pub status: StatusCode,
+    pub body: Text,
+}
+
+/// The reply to a call: its answer, or what kept the farm from giving one.
+#[derive(Debug, Drop)]
+pub enum Reply {
+    Answered(Answer),
+    OutOfMemory,
+}
+
+/// The reply to a call, and whether a tick came before it.
+#[derive(Debug, Drop)]
+pub struct Asked {
+    pub reply: Reply,
+    pub ticked: bool,
+}
+
+/// The body of a reply for want of memory.
+const NO_MEMORY: &str = "{\"code\":\"OutOfMemory\",\"details\":{},\"message\":\"no memory\"}";
+
+impl Reply {
+    ghost use Rattle.farm_machine.specs.Replies.{answer_of};
+
+    /// The status that it tells.
+    pub fn status(&self) -> StatusCode
+        ensures { result ≡ (answer_of self.now).status }
+    {
+        match self {
+            Reply::Answered(answer) => answer.status,
+            Reply::OutOfMemory => StatusCode::SERVICE_UNAVAILABLE,
+        }
+    }
+
+    /// The JSON text that it tells. It is borrowed.
+    pub fn body(&self) -> &str
+        ensures { result.now ≡ (answer_of self.now).body }
+    {
+        match self {
+            Reply::Answered(answer) => answer.body.as_str(),
+            Reply::OutOfMemory => NO_MEMORY,
+        }
+    }
+}

@@ -1,0 +1,73 @@
+//! A call in two steps: `plan` judges it and takes all its memory, `apply` makes its change.
+
+ghost use Rattle.std.specs.Prelude.{◌≡◌, ◌≤◌, false, IfOk, codes};
+ghost use Rattle.farm_machine.specs.Due.{is_due};
+ghost use Rattle.farm_machine.specs.Planned.{planned, IsPlanOn};
+ghost use Rattle.farm_machine.specs.Replies.{not_found};
+ghost use Rattle.farm_machine.specs.State.{State};
+ghost use Rattle.farm_machine.specs.Step.{moment_of, applied};
+ghost use Rattle.farm_machine.specs.Verdict.{judgement_of, only_answer};
+ghost use Rattle.farm_text.specs.Slug.{slug_text};
+
+use crate::answers;
+use crate::config::Config;
+use crate::plan::Plan;
+use crate::question::{Call, Caller, Parameter, Question};
+use crate::reply::{Answer, Reply};
+use crate::tables::Tables;
+use farm_text::{Moment, SlugId};
+use http::StatusCode;
+use std::alloc::{AllocError, Global};
+
+/// Judges a call and takes all the memory that it needs. The tables stay as they were.
+pub fn plan(
+    alloc: Global,
+    tables: &mut Tables,
+    config: &Config,
+    question: Question,
+) -> Result<Plan, AllocError>
+    requires { is_due tables.old (moment_of tables.old question) ≡ false }
+    ensures planned { IfOk result (λ p. p ≡ planned config.now tables.old question) }
+    ensures same { tables.new ≡ tables.old }
+{
+    let moment = question.moment().max(tables.last());
+    let caller = question.caller();
+    let answer = judge(alloc, caller, question.into_call())?;
+    Ok(Plan { moment, answer })
+}
+
+/// The answer to a call.
+fn judge(alloc: Global, caller: Caller, call: Call) -> Result<Answer, AllocError>
+    ensures { IfOk result (λ a. (state : State) → judgement_of call caller state ≡ only_answer a) }
+{
+    match call {
+        Call::NoRoute(name) => answers::not_found(alloc, "route", name.as_str()),
+        Call::BadParameter(Parameter::TaskId) => answers::bad_parameter(alloc, "taskId"),
+        Call::Ping => match caller {
+            Caller::Anonymous => answers::alive(alloc),
+            Caller::BadHeader => answers::not_authentic(alloc, "BadHeader"),
+        },
+        Call::Status(id) => match caller {
+            Caller::Anonymous => no_task(alloc, id),
+            Caller::BadHeader => answers::not_authentic(alloc, "BadHeader"),
+        },
+    }
+}
+
+/// No task has this id.
+fn no_task(alloc: Global, id: SlugId) -> Result<Answer, AllocError>
+    ensures { IfOk result (λ a. a ≡ not_found (codes "task") (slug_text id)) }
+{
+    let name = id.to_text(alloc)?;
+    answers::not_found(alloc, "task", name.as_str())
+}
+
+/// Makes the change of a plan that was made on these tables, and gives its reply. It takes no memory.
+pub fn apply(tables: &mut Tables, plan: Plan) -> Reply
+    requires { IsPlanOn tables.old plan }
+    ensures applied { tables.new ≡ applied tables.old plan.moment plan.judgement.change }
+    ensures reply { result ≡ Reply.Answered plan.judgement.answer }
+{
+    tables.reach(plan.moment);
+    Reply::Answered(plan.answer)
+}
