@@ -1,0 +1,352 @@
+-- How what a connection did goes together, message by message.
+use Rattle.std.proofs.Common.{◌≡◌, ◌≢◌, ℕ, suc, ◌-◌, ◌<◌, ◌≤◌, ◌⊎◌, inl, inr, Bool, true, false, ◌||◌, eqb, List, [], ◌∷◌, ◌++◌, length, map, Option, Some, None, IfSome, refl, sym, ◌∙◌, ap, subst, append_assoc, append-nil, arith}
+use Rattle.std.proofs.lemmas.Bool.{ne_eqb}
+use Rattle.std.specs.Io.KnownBytes.{Appends}
+use Rattle.std.proofs.KnownBytes.{Appends-nil, Appends-trans}
+use Rattle.causes.specs.Causes.{Rose}
+use Rattle.causes.proofs.CausesLemmas.{Rose-earlier}
+use Rattle.causes.proofs.LogsLemmas.{LogGrows-none, LogGrows-then}
+use Rattle.history.specs.Asks.{AsksInTurn}
+use Rattle.history.proofs.AsksLemmas.{AsksInTurn-none, AsksInTurn-then}
+use Rattle.http_wire.specs.declared.message.Message.{Message}
+use Rattle.http_wire.specs.declared.message.Wire.{Wire}
+use Rattle.http_wire.specs.declared.message.Wire.TheVariants as wire
+use Rattle.http_wire.specs.Stream.{whole, Gives, Ending, Messages, TakesOne, Stops, is_of_stream, stopped, closed, full}
+use Rattle.farm_machine.specs.declared.reply.Reply.{Reply}
+use Rattle.farm_machine.specs.Law.{opened}
+use Rattle.farm_machine.specs.Step.{farm_rules}
+use Rattle.farm_server.specs.ReplyText.{reply_text, wire_text}
+use Rattle.farm_server.specs.Routes.{question_of}
+use Rattle.farm_server.specs.Served.{Outside, Ask, messages_of, questions_of, reply_texts, IsFront, is_refused, EndsAs, IsOwnReply, IsFrontOf, Writes, IsCaused, IsCount, Standing, ServesWithin}
+use Rattle.farm_server.specs.Turn.{Telling, AsksOnce, Ends, Refuses, Goes, Turns}
+use Rattle.farm_server.specs.declared.served.Served.{Served}
+use Rattle.farm_server.specs.declared.served.Served.TheVariants.{Closed, EndedInside, WireFault, ReadFault, WriteFault, Full, NoMemory}
+
+-- without room there is no message
+Messages-no_room : (bytes : List ℕ) (ms : List Message) (e : Ending) → Messages 0 bytes ms e → (ms ≡ []) × (e ≡ full)
+Messages-no_room bytes [] e (inl done) = (refl, done.1)
+Messages-no_room bytes [] e (inr more) = absurd (omega (arith, more.0))
+Messages-no_room bytes (m ∷ ms) e more = absurd (omega (arith, more.0))
+
+IsFront-no_room : (bytes : List ℕ) (ms : List Message) → IsFront 0 bytes ms → ms ≡ []
+IsFront-no_room bytes [] front = refl
+IsFront-no_room bytes (m ∷ ms) front = absurd (omega (arith, front.0))
+
+-- the list of the bytes begins with a message, and goes on after it
+Messages-more : (room : ℕ) (bytes rest : List ℕ) (m : Message) (ms : List Message) (e : Ending) (closes : Bool) → 0 < room → m.closes ≡ closes → Gives bytes (whole m rest) → (closes ≡ false) ⊎ (room ≡ 1) → Messages (room - 1) rest ms e → Messages room bytes (m ∷ ms) e
+Messages-more room bytes rest m ms e false some is gives goes_on others =
+    (some, (rest, gives, rw is others))
+Messages-more room bytes rest m ms e true some is gives goes_on others =
+    let last : room ≡ 1 = only_last goes_on in
+    let one : room - 1 ≡ 0 = omega arith in
+    let P : ℕ → Type 0 = λ n. Messages n rest ms e in
+    let none = Messages-no_room rest ms e (subst P one others) in
+    (some, (rest, gives, rw (is, one) none))
+  where
+    only_last : (true ≡ false) ⊎ (room ≡ 1) → room ≡ 1
+    only_last (inl no_way) = cc
+    only_last (inr last) = last
+
+IsFront-more : (room : ℕ) (bytes rest : List ℕ) (m : Message) (ms : List Message) (closes : Bool) → 0 < room → m.closes ≡ closes → Gives bytes (whole m rest) → (closes ≡ false) ⊎ (room ≡ 1) → IsFront (room - 1) rest ms → IsFront room bytes (m ∷ ms)
+IsFront-more room bytes rest m ms false some is gives goes_on others =
+    (some, (rest, gives, rw is others))
+IsFront-more room bytes rest m ms true some is gives goes_on others =
+    let last : room ≡ 1 = only_last goes_on in
+    let one : room - 1 ≡ 0 = omega arith in
+    let P : ℕ → Type 0 = λ n. IsFront n rest ms in
+    let none = IsFront-no_room rest ms (subst P one others) in
+    (some, (rest, gives, rw is none))
+  where
+    only_last : (true ≡ false) ⊎ (room ≡ 1) → room ≡ 1
+    only_last (inl no_way) = cc
+    only_last (inr last) = last
+
+EndsAs-more : (room : ℕ) (bytes rest : List ℕ) (m : Message) (ms : List Message) (served : Served) → 0 < room → Gives bytes (whole m rest) → (m.closes ≡ false) ⊎ (room ≡ 1) → EndsAs (room - 1) rest ms served → EndsAs room bytes (m ∷ ms) served
+EndsAs-more room bytes rest m ms Closed some gives goes_on (inl others) =
+    inl (Messages-more room bytes rest m ms closed m.closes some refl gives goes_on others)
+EndsAs-more room bytes rest m ms Closed some gives goes_on (inr others) =
+    inr (Messages-more room bytes rest m ms (stopped wire.End) m.closes some refl gives goes_on others)
+EndsAs-more room bytes rest m ms Full some gives goes_on others =
+    Messages-more room bytes rest m ms full m.closes some refl gives goes_on others
+EndsAs-more room bytes rest m ms EndedInside some gives goes_on others =
+    Messages-more room bytes rest m ms (stopped wire.EndedInside) m.closes some refl gives goes_on others
+EndsAs-more room bytes rest m ms (WireFault reason) some gives goes_on others =
+    Messages-more room bytes rest m ms (stopped reason) m.closes some refl gives goes_on others
+EndsAs-more room bytes rest m ms ReadFault some gives goes_on others =
+    IsFront-more room bytes rest m ms m.closes some refl gives goes_on others
+EndsAs-more room bytes rest m ms WriteFault some gives goes_on others =
+    IsFront-more room bytes rest m ms m.closes some refl gives goes_on others
+EndsAs-more room bytes rest m ms NoMemory some gives goes_on others =
+    IsFront-more room bytes rest m ms m.closes some refl gives goes_on others
+
+-- the same where it is not known whether the bytes are told
+taken-more : (room : ℕ) (left next : Option (List ℕ)) (m : Message) (ms : List Message) (served : Served) → 0 < room → TakesOne left m next → (m.closes ≡ false) ⊎ (room ≡ 1) → IfSome next (λ bytes. EndsAs (room - 1) bytes ms served) → IfSome left (λ bytes. EndsAs room bytes (m ∷ ms) served)
+taken-more room None next m ms served some takes goes_on others = tt
+taken-more room (Some bytes) None m ms served some takes goes_on others = absurd takes
+taken-more room (Some bytes) (Some rest) m ms served some takes goes_on others =
+    EndsAs-more room bytes rest m ms served some takes goes_on others
+
+IsOwnReply-more : (room : ℕ) (left next : Option (List ℕ)) (m : Message) (ms : List Message) (own : List ℕ) → 0 < room → TakesOne left m next → (m.closes ≡ false) ⊎ (room ≡ 1) → IsOwnReply (room - 1) next ms own → IsOwnReply room left (m ∷ ms) own
+IsOwnReply-more room left next m ms own some takes goes_on (inl none) = inl none
+IsOwnReply-more room left next m ms own some takes goes_on (inr refused) =
+    inr (refused.0, refused.1, refused.2, known left next takes refused.3)
+  where
+    known : (left next : Option (List ℕ)) → TakesOne left m next → IfSome next (λ bytes. Messages (room - 1) bytes ms (stopped refused.0)) → IfSome left (λ bytes. Messages room bytes (m ∷ ms) (stopped refused.0))
+    known None next takes others = tt
+    known (Some bytes) None takes others = absurd takes
+    known (Some bytes) (Some rest) takes others =
+        Messages-more room bytes rest m ms (stopped refused.0) m.closes some refl takes goes_on others
+
+IsCount-more : (room count : ℕ) (served : Served) → 0 < room → IsCount (room - 1) count served → IsCount room (suc count) served
+IsCount-more room count Closed some counted = omega arith
+IsCount-more room count Full some counted = omega arith
+IsCount-more room count EndedInside some counted = omega arith
+IsCount-more room count (WireFault reason) some counted = omega arith
+IsCount-more room count ReadFault some counted = omega arith
+IsCount-more room count WriteFault some counted = omega arith
+IsCount-more room count NoMemory some counted = omega arith
+
+IsCaused-more : (before between after : Outside) (served : Served) → before.read_faults ≤ between.read_faults → before.write_faults ≤ between.write_faults → IsCaused between after served → IsCaused before after served
+IsCaused-more before between after Closed reads writes caused = tt
+IsCaused-more before between after Full reads writes caused = tt
+IsCaused-more before between after EndedInside reads writes caused = tt
+IsCaused-more before between after (WireFault reason) reads writes caused = tt
+IsCaused-more before between after ReadFault reads writes caused =
+    Rose-earlier before.read_faults between.read_faults after.read_faults reads caused
+IsCaused-more before between after WriteFault reads writes caused =
+    Rose-earlier before.write_faults between.write_faults after.write_faults writes caused
+IsCaused-more before between after NoMemory reads writes caused = tt
+
+Writes-more : (room : ℕ) (before between after : Outside) (m : Message) (ms : List Message) (text texts : List ℕ) (served : Served) → 0 < room → TakesOne before.left m between.left → (m.closes ≡ false) ⊎ (room ≡ 1) → Appends before.written between.written text → Writes (room - 1) between after ms texts served → Writes room before after (m ∷ ms) (text ++ texts) served
+Writes-more room before between after m ms text texts Closed some takes goes_on first others =
+    Appends-trans before.written between.written after.written text texts first others
+Writes-more room before between after m ms text texts Full some takes goes_on first others =
+    Appends-trans before.written between.written after.written text texts first others
+Writes-more room before between after m ms text texts EndedInside some takes goes_on first others =
+    Appends-trans before.written between.written after.written text texts first others
+Writes-more room before between after m ms text texts ReadFault some takes goes_on first others =
+    Appends-trans before.written between.written after.written text texts first others
+Writes-more room before between after m ms text texts NoMemory some takes goes_on first others =
+    Appends-trans before.written between.written after.written text texts first others
+Writes-more room before between after m ms text texts (WireFault reason) some takes goes_on first others =
+    (others.0, rw (append_assoc text texts (wire_text reason)) (Appends-trans before.written between.written after.written text (texts ++ wire_text reason) first others.1))
+Writes-more room before between after m ms text texts WriteFault some takes goes_on first others =
+    let own = others.0 in
+    let wrote = others.1 in
+    let begins = others.3 in
+    (own, text ++ wrote, IsOwnReply-more room before.left between.left m ms own some takes goes_on others.2, (begins.0, append_assoc text texts own ∙ (ap (λ xs. text ++ xs) begins.1 ∙ sym (append_assoc text wrote begins.0))), Appends-trans before.written between.written after.written text wrote first others.4)
+
+-- one message, and then what follows it
+pub ServesWithin-more : (room : ℕ) (old middle new : Standing) (before between after : Outside) (left : Option (List ℕ)) (served : Served) → 0 < room → Goes room old middle before between left → ServesWithin (room - 1) middle new (record between { left = left }) after served → ServesWithin room old new before after served
+ServesWithin-more room old middle new before between after left served some goes rest =
+    let m = goes.message in
+    let from : Outside = record between { left = left } in
+    let others = rest.spoke in
+    record {
+      asks = record { message = m; moment = goes.once.moment; id = goes.once.id } ∷ rest.asks;
+      replies = goes.reply ∷ rest.replies;
+      spoke = record {
+        count = IsCount-more room (length rest.asks) served some others.count;
+        taken = taken-more room before.left left m (messages_of rest.asks) served some goes.taken goes.goes_on others.taken;
+        moments = LogGrows-then before.moments between.moments after.moments (goes.once.moment ∷ []) (map (λ (ask : Ask). ask.moment) rest.asks) goes.once.moments others.moments;
+        ids = LogGrows-then before.ids between.ids after.ids (goes.once.id ∷ []) (map (λ (ask : Ask). ask.id) rest.asks) goes.once.ids others.ids;
+        written = Writes-more room before from after m (messages_of rest.asks) (reply_text goes.reply (m.closes || eqb room 1)) (reply_texts (room - 1) rest.asks rest.replies) served some goes.taken goes.goes_on goes.written others.written;
+        cause = IsCaused-more before from after served goes.reads_later goes.writes_later others.cause;
+        reads_later = omega (arith, goes.reads_later, others.reads_later);
+        writes_later = omega (arith, goes.writes_later, others.writes_later);
+      };
+      asked = AsksInTurn-then farm_rules opened old.stands middle.stands new.stands (question_of m goes.once.moment goes.once.id ∷ []) (questions_of rest.asks) (goes.reply ∷ []) rest.replies goes.once.asked rest.asked;
+      spent = omega (arith, goes.once.spent, rest.spent);
+    }
+
+-- what the outside tells, from what it tells of answers
+abbrev pub outside : Option (List ℕ) → Telling → ℕ → Outside
+outside left telling reads = record {
+  left = left;
+  written = telling.written;
+  moments = telling.moments;
+  ids = telling.ids;
+  read_faults = reads;
+  write_faults = telling.write_faults;
+}
+
+-- nothing was said, and it ended so
+pub ServesWithin-none : (room : ℕ) (old new : Standing) (before after : Outside) (served : Served) → AsksInTurn farm_rules opened old.stands new.stands [] [] → old.spare ≡ new.spare → before.moments ≡ after.moments → before.ids ≡ after.ids → IsCount room 0 served → IfSome before.left (λ bytes. EndsAs room bytes [] served) → Writes room before after [] [] served → IsCaused before after served → before.read_faults ≤ after.read_faults → before.write_faults ≤ after.write_faults → ServesWithin room old new before after served
+ServesWithin-none room old new before after served asked same_spare same_moments same_ids count taken written cause reads writes = record {
+  asks = [];
+  replies = [];
+  spoke = record {
+    count = count;
+    taken = taken;
+    moments = rw same_moments (LogGrows-none after.moments);
+    ids = rw same_ids (LogGrows-none after.ids);
+    written = written;
+    cause = cause;
+    reads_later = reads;
+    writes_later = writes;
+  };
+  asked = asked;
+  spent = omega (arith, same_spare);
+}
+
+-- one message was asked, and it ended so
+ServesWithin-one : (room : ℕ) (old new : Standing) (before after : Outside) (m : Message) (reply : Reply) (served : Served) → AsksOnce old new before.moments after.moments before.ids after.ids m reply → IsCount room 1 served → IfSome before.left (λ bytes. EndsAs room bytes (m ∷ []) served) → Writes room before after (m ∷ []) (reply_text reply (m.closes || eqb room 1) ++ []) served → IsCaused before after served → before.read_faults ≤ after.read_faults → before.write_faults ≤ after.write_faults → ServesWithin room old new before after served
+ServesWithin-one room old new before after m reply served once count taken written cause reads writes = record {
+  asks = record { message = m; moment = once.moment; id = once.id } ∷ [];
+  replies = reply ∷ [];
+  spoke = record {
+    count = count;
+    taken = taken;
+    moments = once.moments;
+    ids = once.ids;
+    written = written;
+    cause = cause;
+    reads_later = reads;
+    writes_later = writes;
+  };
+  asked = once.asked;
+  spent = once.spent;
+}
+
+-- the list ends with a message that closes before the last that there is room for
+closed_last : (room : ℕ) (bytes rest : List ℕ) (m : Message) → 0 < room → Gives bytes (whole m rest) → m.closes ≡ true → room ≢ 1 → Messages room bytes (m ∷ []) closed
+closed_last room bytes rest m some gives closes not_last =
+    let more : eqb (room - 1) 0 ≡ false = ne_eqb (room - 1) 0 (λ same. not_last (omega arith)) in
+    (some, (rest, gives, rw closes (refl, rw more refl)))
+
+-- a message is the first of the list
+IsFront-one : (room : ℕ) (bytes rest : List ℕ) (m : Message) (closes : Bool) → 0 < room → m.closes ≡ closes → Gives bytes (whole m rest) → IsFront room bytes (m ∷ [])
+IsFront-one room bytes rest m true some is gives = (some, (rest, gives, rw is refl))
+IsFront-one room bytes rest m false some is gives = (some, (rest, gives, rw is tt))
+
+taken_closed : (room : ℕ) (left next : Option (List ℕ)) (m : Message) → 0 < room → TakesOne left m next → m.closes ≡ true → room ≢ 1 → IfSome left (λ bytes. EndsAs room bytes (m ∷ []) Closed)
+taken_closed room None next m some takes closes not_last = tt
+taken_closed room (Some bytes) None m some takes closes not_last = absurd takes
+taken_closed room (Some bytes) (Some rest) m some takes closes not_last =
+    inl (closed_last room bytes rest m some takes closes not_last)
+
+taken_front : (room : ℕ) (left next : Option (List ℕ)) (m : Message) → 0 < room → TakesOne left m next → IfSome left (λ bytes. EndsAs room bytes (m ∷ []) WriteFault)
+taken_front room None next m some takes = tt
+taken_front room (Some bytes) None m some takes = absurd takes
+taken_front room (Some bytes) (Some rest) m some takes =
+    IsFront-one room bytes rest m m.closes some refl takes
+
+no_front : (room : ℕ) (left : Option (List ℕ)) → IfSome left (λ bytes. EndsAs room bytes [] NoMemory)
+no_front room None = tt
+no_front room (Some bytes) = tt
+
+-- a front of a text is a front of it and of nothing more
+front_alone : (front text : List ℕ) → IsFrontOf front text → IsFrontOf front ((text ++ []) ++ [])
+front_alone front text begins = rw (append-nil text, append-nil text) begins
+
+-- what one message does to a connection
+pub Turns-from_ends : (room : ℕ) (old new : Standing) (stream left_now rest : Option (List ℕ)) (reads now : ℕ) (before after : Telling) (m : Message) (result : Option Served) → 0 < room → TakesOne stream m rest → reads ≤ now → Ends room old new before after m result → Turns room old new (outside stream before reads) (outside left_now after now) rest result
+Turns-from_ends room old new stream left_now rest reads now before after m None some takes later ends =
+    let said = ends.0 in
+    record {
+      message = m;
+      reply = said.reply;
+      taken = takes;
+      once = said.once;
+      written = said.written;
+      goes_on = ends.1;
+      reads_later = later;
+      writes_later = said.later;
+    }
+Turns-from_ends room old new stream left_now rest reads now before after m (Some Closed) some takes later ends =
+    let said = ends.0 in
+    ServesWithin-one room old new (outside stream before reads) (outside left_now after now) m said.reply Closed said.once (omega arith) (taken_closed room stream rest m some takes ends.1 ends.2) (rw append-nil said.written) tt later said.later
+Turns-from_ends room old new stream left_now rest reads now before after m (Some WriteFault) some takes later ends =
+    ServesWithin-one room old new (outside stream before reads) (outside left_now after now) m ends.reply WriteFault ends.once (omega arith) (taken_front room stream rest m some takes) ([], ends.written.0, inl refl, front_alone ends.written.0 (reply_text ends.reply (m.closes || eqb room 1)) ends.written.1, ends.written.2) ends.rose later ends.later
+Turns-from_ends room old new stream left_now rest reads now before after m (Some NoMemory) some takes later ends =
+    let P : Telling → Type 0 = λ t. ServesWithin room old new (outside stream before reads) (outside left_now t now) NoMemory in
+    subst P (sym ends.0) (ServesWithin-none room old new (outside stream before reads) (outside left_now before now) NoMemory ends.1 ends.2 refl refl (omega arith) (no_front room stream) (Appends-nil before.written) tt later (omega arith))
+Turns-from_ends room old new stream left_now rest reads now before after m (Some Full) some takes later ends =
+    absurd ends
+Turns-from_ends room old new stream left_now rest reads now before after m (Some EndedInside) some takes later ends =
+    absurd ends
+Turns-from_ends room old new stream left_now rest reads now before after m (Some (WireFault reason)) some takes later ends =
+    absurd ends
+Turns-from_ends room old new stream left_now rest reads now before after m (Some ReadFault) some takes later ends =
+    absurd ends
+
+-- the same where what was told of answers has another name
+pub Turns-answered : (room : ℕ) (old new : Standing) (stream left_now rest : Option (List ℕ)) (reads now : ℕ) (before between after : Telling) (m : Message) (result : Option Served) → 0 < room → TakesOne stream m rest → reads ≤ now → between ≡ before → Ends room old new between after m result → Turns room old new (outside stream before reads) (outside left_now after now) rest result
+Turns-answered room old new stream left_now rest reads now before between after m result some takes later same ends =
+    let P : Telling → Type 0 = λ t. Ends room old new t after m result in
+    Turns-from_ends room old new stream left_now rest reads now before after m result some takes later (subst P same ends)
+
+pub telling_same : (written written_now moments : Option (List ℕ)) (ids : Option (List (List ℕ))) (faults faults_now : ℕ) → written_now ≡ written → faults_now ≡ faults → ◌≡◌ {A = Telling} (record { written = written_now; moments = moments; ids = ids; write_faults = faults_now }) (record { written = written; moments = moments; ids = ids; write_faults = faults })
+telling_same written written_now moments ids faults faults_now w f = rw (w, f) refl
+
+-- a stream that gives no message for a reason of its own
+stopped_here : (room : ℕ) (stream : Option (List ℕ)) (reason : Wire) → 0 < room → is_of_stream reason ≡ true → Stops stream reason → IfSome stream (λ bytes. Messages room bytes [] (stopped reason))
+stopped_here room None reason some of_stream halts = tt
+stopped_here room (Some bytes) reason some of_stream halts =
+    let gives = rw of_stream at halts in
+    inr (some, (reason, gives, refl))
+
+refused-of_stream : (reason : Wire) → is_refused reason ≡ true → is_of_stream reason ≡ true
+refused-of_stream wire.HeadFault refused = refl
+refused-of_stream wire.HeadTooLarge refused = refl
+refused-of_stream wire.NoLength refused = refl
+refused-of_stream wire.BodyTooLarge refused = refl
+refused-of_stream wire.End refused = cc
+refused-of_stream wire.EndedInside refused = cc
+refused-of_stream wire.ReadFault refused = cc
+refused-of_stream wire.NoMemory refused = cc
+
+-- no message came, and the connection ends so
+pub Turns-refused : (room : ℕ) (old : Standing) (stream left_now : Option (List ℕ)) (reads now : ℕ) (before after : Telling) (reason : Wire) (served : Served) → 0 < room → Stops stream reason → (reason ≡ wire.ReadFault → Rose reads now) → reads ≤ now → before.moments ≡ after.moments → before.ids ≡ after.ids → before.write_faults ≤ after.write_faults → Refuses before.written after.written before.write_faults after.write_faults reason served → ServesWithin room old old (outside stream before reads) (outside left_now after now) served
+Turns-refused room old stream left_now reads now before after reason Closed some halts fault later moments ids writes refuses =
+    let P : Wire → Type 0 = λ r. Stops stream r in
+    ServesWithin-none room old old (outside stream before reads) (outside left_now after now) Closed (AsksInTurn-none farm_rules opened old.stands) refl moments ids (omega arith) (closes_there stream (subst P refuses.0 halts)) refuses.1 tt later writes
+  where
+    closes_there : (stream : Option (List ℕ)) → Stops stream wire.End → IfSome stream (λ bytes. EndsAs room bytes [] Closed)
+    closes_there None halts = tt
+    closes_there (Some bytes) halts = inr (stopped_here room (Some bytes) wire.End some refl halts)
+Turns-refused room old stream left_now reads now before after reason EndedInside some halts fault later moments ids writes refuses =
+    let P : Wire → Type 0 = λ r. Stops stream r in
+    ServesWithin-none room old old (outside stream before reads) (outside left_now after now) EndedInside (AsksInTurn-none farm_rules opened old.stands) refl moments ids (omega arith) (stopped_here room stream wire.EndedInside some refl (subst P refuses.0 halts)) refuses.1 tt later writes
+Turns-refused room old stream left_now reads now before after reason ReadFault some halts fault later moments ids writes refuses =
+    ServesWithin-none room old old (outside stream before reads) (outside left_now after now) ReadFault (AsksInTurn-none farm_rules opened old.stands) refl moments ids (omega arith) (no_read stream) refuses.1 (fault refuses.0) later writes
+  where
+    no_read : (stream : Option (List ℕ)) → IfSome stream (λ bytes. EndsAs room bytes [] ReadFault)
+    no_read None = tt
+    no_read (Some bytes) = tt
+Turns-refused room old stream left_now reads now before after reason NoMemory some halts fault later moments ids writes refuses =
+    ServesWithin-none room old old (outside stream before reads) (outside left_now after now) NoMemory (AsksInTurn-none farm_rules opened old.stands) refl moments ids (omega arith) (no_front room stream) refuses.1 tt later writes
+Turns-refused room old stream left_now reads now before after reason (WireFault told) some halts fault later moments ids writes refuses =
+    let P : Wire → Type 0 = λ r. Stops stream r in
+    let refused : is_refused told ≡ true = rw refuses.0 refuses.1 in
+    ServesWithin-none room old old (outside stream before reads) (outside left_now after now) (WireFault told) (AsksInTurn-none farm_rules opened old.stands) refl moments ids (omega arith) (stopped_here room stream told some (refused-of_stream told refused) (subst P (sym refuses.0) halts)) (refused, rw refuses.0 refuses.2) tt later writes
+Turns-refused room old stream left_now reads now before after reason WriteFault some halts fault later moments ids writes refuses =
+    let there = stopped_here room stream reason some (refused-of_stream reason refuses.0) halts in
+    let front = refuses.1 in
+    ServesWithin-none room old old (outside stream before reads) (outside left_now after now) WriteFault (AsksInTurn-none farm_rules opened old.stands) refl moments ids (omega arith) (no_write stream) (wire_text reason, front.0, inr (reason, refuses.0, refl, there), front.1, front.2) refuses.2 later writes
+  where
+    no_write : (stream : Option (List ℕ)) → IfSome stream (λ bytes. EndsAs room bytes [] WriteFault)
+    no_write None = tt
+    no_write (Some bytes) = tt
+Turns-refused room old stream left_now reads now before after reason Full some halts fault later moments ids writes refuses =
+    absurd refuses
+
+-- the room is used up
+pub ServesWithin-full : (room : ℕ) (old : Standing) (stream left_now : Option (List ℕ)) (reads : ℕ) (before : Telling) → room ≡ 0 → ServesWithin room old old (outside stream before reads) (outside left_now before reads) Full
+ServesWithin-full room old stream left_now reads before none =
+    ServesWithin-none room old old (outside stream before reads) (outside left_now before reads) Full (AsksInTurn-none farm_rules opened old.stands) refl refl refl (sym none) (all_taken stream) (Appends-nil before.written) tt (omega arith) (omega arith)
+  where
+    all_taken : (stream : Option (List ℕ)) → IfSome stream (λ bytes. EndsAs room bytes [] Full)
+    all_taken None = tt
+    all_taken (Some bytes) = inl (none, refl)
+
+-- want of memory before the first message
+pub ServesWithin-no_memory : (room : ℕ) (old : Standing) (before : Outside) → ServesWithin room old old before before NoMemory
+ServesWithin-no_memory room old before =
+    ServesWithin-none room old old before before NoMemory (AsksInTurn-none farm_rules opened old.stands) refl refl refl (omega arith) (no_front room before.left) (Appends-nil before.written) tt (omega arith) (omega arith)
+
+-- one message, and then what follows it with the room that is left then
+pub ServesWithin-next : (room next : ℕ) (old middle new : Standing) (before between after : Outside) (left : Option (List ℕ)) (served : Served) → next ≡ room - 1 → 0 < room → Goes room old middle before between left → ServesWithin next middle new (record between { left = left }) after served → ServesWithin room old new before after served
+ServesWithin-next room next old middle new before between after left served is some goes rest =
+    let P : ℕ → Type 0 = λ n. ServesWithin n middle new (record between { left = left }) after served in
+    ServesWithin-more room old middle new before between after left served some goes (subst P is rest)

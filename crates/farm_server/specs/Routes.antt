@@ -1,0 +1,88 @@
+-- Which call a message makes (the queue service's routes of the Taskcluster reference).
+use Rattle.std.specs.Prelude.{ℕ, List, [], ◌∷◌, Bool, ◌&&◌, ◌==◌, nat_le, codes, bytes_eq, Option, Some, None, option_map, if◌then◌else◌}
+use Rattle.std.specs.List.{slice_split, before_first, list_all}
+use Rattle.percent_encoding.specs.Percent.{percent_decode}
+use Rattle.http_wire.specs.declared.message.Message.{Message}
+use Rattle.farm_text.specs.Slug.{slug_of}
+use Rattle.farm_machine.specs.declared.question.Call.{Call}
+use Rattle.farm_machine.specs.declared.question.Call.TheVariants.{NoRoute, BadParameter, Ping, Status}
+use Rattle.farm_machine.specs.declared.question.Parameter.TheVariants.{TaskId}
+use Rattle.farm_machine.specs.declared.question.Caller.{Caller}
+use Rattle.farm_machine.specs.declared.question.Caller.TheVariants.{Anonymous, BadHeader}
+use Rattle.farm_machine.specs.Entry.{Asking}
+
+-- the target before its query (RFC 3986, section 3.4)
+abbrev pub path_of : List ℕ → List ℕ
+path_of target = before_first (λ b. b == 63) target
+
+-- the parts of a path, between its slashes
+abbrev pub parts_of : List ℕ → List (List ℕ)
+parts_of path = slice_split (λ b. b == 47) path
+
+-- a part of a route: this word, or any part that is not empty
+pub data Segment : Type 0 where
+  word : List ℕ → Segment
+  parameter : Segment
+
+-- the parts that stand for the route's parameters, where the parts of a path fit the route
+abbrev pub parameters_in : List Segment → List (List ℕ) → Option (List (List ℕ))
+parameters_in [] [] = Some []
+parameters_in [] (part ∷ parts) = None
+parameters_in (segment ∷ segments) [] = None
+parameters_in (word w ∷ segments) (part ∷ parts) = if bytes_eq part w then parameters_in segments parts else None
+parameters_in (parameter ∷ segments) ([] ∷ parts) = None
+parameters_in (parameter ∷ segments) ((b ∷ bs) ∷ parts) = option_map (λ found. (b ∷ bs) ∷ found) (parameters_in segments parts)
+
+-- a route of the queue service
+abbrev pub queue_route : List Segment → List Segment
+queue_route segments = word [] ∷ word (codes "api") ∷ word (codes "queue") ∷ word (codes "v1") ∷ segments
+
+-- `/ping`
+abbrev pub ping_route : List Segment
+ping_route = queue_route (word (codes "ping") ∷ [])
+
+-- `/task/{taskId}/status`
+abbrev pub status_route : List Segment
+status_route = queue_route (word (codes "task") ∷ parameter ∷ word (codes "status") ∷ [])
+
+-- a byte of printable ASCII
+abbrev pub is_printable : ℕ → Bool
+is_printable b = nat_le 32 b && nat_le b 126
+
+-- the name by which a reply tells of a path that has no route
+abbrev pub route_name : List ℕ → List ℕ
+route_name path = if list_all is_printable path then path else codes "-"
+
+-- the status call of a task, whose id is percent-encoded (RFC 3986, section 2.1)
+abbrev pub status_call : Option (List ℕ) → Call
+status_call None = BadParameter TaskId
+status_call (Some id) = Status id
+
+-- the call of a route with these parameters, where the path fits; of the routes that are left, otherwise
+abbrev pub status_or : Option (List (List ℕ)) → List ℕ → Call
+status_or None path = NoRoute (route_name path)
+status_or (Some []) path = NoRoute (route_name path)
+status_or (Some (part ∷ parts)) path = status_call (slug_of (percent_decode part))
+
+abbrev pub ping_or : Option (List (List ℕ)) → List ℕ → Call
+ping_or (Some parts) path = Ping
+ping_or None path = status_or (parameters_in status_route (parts_of path)) path
+
+-- the call of a method and a path
+abbrev pub routed : List ℕ → List ℕ → Call
+routed method path =
+    if bytes_eq method (codes "GET") then ping_or (parameters_in ping_route (parts_of path)) path else NoRoute (route_name path)
+
+-- what a message calls
+unfoldable pub call_of : Message → Call
+call_of message = routed message.method (path_of message.target)
+
+-- Who sends a message. Credentials have no reading yet, so any field with some is off its form.
+abbrev pub caller_from : Option (List ℕ) → Caller
+caller_from None = Anonymous
+caller_from (Some credentials) = BadHeader
+
+-- the question of a message, with the moment and the id that were told for it
+abbrev pub question_of : Message → ℕ → List ℕ → Asking
+question_of message moment id =
+    record { moment = moment; drawn = id; caller = caller_from message.authorization; call = call_of message }

@@ -1,0 +1,135 @@
+-- What one connection did: which messages were asked, with which moments and ids, what was written, and why it ended.
+use Rattle.std.specs.Prelude.{◌≡◌, ℕ, ◌+◌, ◌-◌, ◌<◌, ◌≤◌, ◌⊎◌, List, [], ◌∷◌, ◌++◌, length, map, Bool, true, false, ◌||◌, ◌==◌, Option, IfSome}
+use Rattle.std.specs.Bool.{MatchBool}
+use Rattle.std.specs.Io.KnownBytes.{Appends}
+use Rattle.causes.specs.Causes.{Rose}
+use Rattle.causes.specs.Logs.{LogGrows}
+use Rattle.history.specs.Asks.{AsksInTurn}
+use Rattle.http_wire.specs.declared.message.Message.{Message}
+use Rattle.http_wire.specs.declared.message.Wire.{Wire}
+use Rattle.http_wire.specs.declared.message.Wire.TheVariants as wire
+use Rattle.http_wire.specs.Stream.{whole, Gives, Messages, stopped, closed, full}
+use Rattle.farm_machine.specs.declared.reply.Reply.{Reply}
+use Rattle.farm_machine.specs.Entry.{Asking, Entry}
+use Rattle.farm_machine.specs.Law.{Opening, opened}
+use Rattle.farm_machine.specs.Step.{farm_rules}
+use Rattle.farm_server.specs.ReplyText.{reply_text, wire_text}
+use Rattle.farm_server.specs.Routes.{question_of}
+use Rattle.farm_server.specs.declared.served.Served.{Served}
+use Rattle.farm_server.specs.declared.served.Served.TheVariants.{Closed, EndedInside, WireFault, ReadFault, WriteFault, Full, NoMemory}
+use Rattle.farm_server.specs.declared.served.TheConstants.{REQUESTS}
+
+-- what the outside tells at one moment: what is left to read, what was written, which moments and ids were told, and both counts of faults
+pub record Outside : Type 0 where
+  pub left : Option (List ℕ)
+  pub written : Option (List ℕ)
+  pub moments : Option (List ℕ)
+  pub ids : Option (List (List ℕ))
+  pub read_faults : ℕ
+  pub write_faults : ℕ
+
+-- a message that was asked, with the moment and the id told for it
+pub record Ask : Type 0 where
+  pub message : Message
+  pub moment : ℕ
+  pub id : List ℕ
+
+-- the messages of asks
+abbrev pub messages_of : List Ask → List Message
+messages_of asks = map (λ ask. ask.message) asks
+
+-- the questions of asks
+abbrev pub questions_of : List Ask → List Asking
+questions_of asks = map (λ ask. question_of ask.message ask.moment ask.id) asks
+
+-- The bytes of the replies in order, with room for so many messages. A reply closes where its message does, and the last that there is room for does.
+abbrev pub reply_texts : ℕ → List Ask → List Reply → List ℕ
+reply_texts room [] replies = []
+reply_texts room (ask ∷ asks) [] = []
+reply_texts room (ask ∷ asks) (reply ∷ replies) =
+    reply_text reply (ask.message.closes || (room == 1)) ++ reply_texts (room - 1) asks replies
+
+-- these are the first messages of the list of the bytes, with room for so many
+abbrev pub IsFront : ℕ → List ℕ → List Message → Type 0
+IsFront room bytes [] = Unit {0}
+IsFront room bytes (m ∷ ms) =
+    (0 < room) × ((rest : List ℕ) × Gives bytes (whole m rest) × MatchBool m.closes (ms ≡ []) (IsFront (room - 1) rest ms))
+
+-- the reasons for which the wire itself replies
+abbrev pub is_refused : Wire → Bool
+is_refused wire.HeadFault = true
+is_refused wire.HeadTooLarge = true
+is_refused wire.NoLength = true
+is_refused wire.BodyTooLarge = true
+is_refused reason = false
+
+-- which messages were asked, where the bytes are known and there was room for so many: the whole list, which ends so, or its first ones
+abbrev pub EndsAs : ℕ → List ℕ → List Message → Served → Type 0
+EndsAs room bytes messages Closed = Messages room bytes messages closed ⊎ Messages room bytes messages (stopped wire.End)
+EndsAs room bytes messages Full = Messages room bytes messages full
+EndsAs room bytes messages EndedInside = Messages room bytes messages (stopped wire.EndedInside)
+EndsAs room bytes messages (WireFault reason) = Messages room bytes messages (stopped reason)
+EndsAs room bytes messages ReadFault = IsFront room bytes messages
+EndsAs room bytes messages WriteFault = IsFront room bytes messages
+EndsAs room bytes messages NoMemory = IsFront room bytes messages
+
+-- The wire's own reply, which follows the last message of a list that ends with a refusal; or there is none.
+abbrev pub IsOwnReply : ℕ → Option (List ℕ) → List Message → List ℕ → Type 0
+IsOwnReply room left messages own =
+    (own ≡ []) ⊎ ((reason : Wire) × (is_refused reason ≡ true) × (own ≡ wire_text reason)
+    × IfSome left (λ bytes. Messages room bytes messages (stopped reason)))
+
+-- front is how text begins
+abbrev pub IsFrontOf : List ℕ → List ℕ → Type 0
+IsFrontOf front text = (more : List ℕ) × (text ≡ front ++ more)
+
+-- What was written: the texts of the replies, and then the wire's own reply where it refuses; after a failed write a front of that.
+abbrev pub Writes : ℕ → Outside → Outside → List Message → List ℕ → Served → Type 0
+Writes room before after messages texts (WireFault reason) =
+    (is_refused reason ≡ true) × Appends before.written after.written (texts ++ wire_text reason)
+Writes room before after messages texts WriteFault =
+    (own wrote : List ℕ) × IsOwnReply room before.left messages own × IsFrontOf wrote (texts ++ own) × Appends before.written after.written wrote
+Writes room before after messages texts served = Appends before.written after.written texts
+
+-- a failed read and a failed write have their counts as cause
+abbrev pub IsCaused : Outside → Outside → Served → Type 0
+IsCaused before after ReadFault = Rose before.read_faults after.read_faults
+IsCaused before after WriteFault = Rose before.write_faults after.write_faults
+IsCaused before after served = Unit {0}
+
+-- so many messages were asked: all that there is room for, or no more
+abbrev pub IsCount : ℕ → ℕ → Served → Type 0
+IsCount room count Full = count ≡ room
+IsCount room count served = count ≤ room
+
+-- What was said where there was room for so many messages: these were asked, with these replies, and then it ended so.
+pub record SpokeWithin (room : ℕ) (before after : Outside) (asks : List Ask) (replies : List Reply) (served : Served) : Type 0 where
+  pub count : IsCount room (length asks) served
+  pub taken : IfSome before.left (λ bytes. EndsAs room bytes (messages_of asks) served)
+  pub moments : LogGrows before.moments after.moments (map (λ ask. ask.moment) asks)
+  pub ids : LogGrows before.ids after.ids (map (λ ask. ask.id) asks)
+  pub written : Writes room before after (messages_of asks) (reply_texts room asks replies) served
+  pub cause : IsCaused before after served
+  pub reads_later : before.read_faults ≤ after.read_faults
+  pub writes_later : before.write_faults ≤ after.write_faults
+
+-- What was said over a connection.
+abbrev pub Spoke : Outside → Outside → List Ask → List Reply → Served → Type 0
+Spoke = SpokeWithin REQUESTS
+
+-- what a desk stands for, and how many asks it has left
+pub record Standing : Type 1 where
+  pub stands : Opening → List Entry → List ℕ → Type 0
+  pub spare : ℕ
+
+-- The same, with the desk before and after: it was asked these questions in turn, and has as many asks less.
+pub record ServesWithin (room : ℕ) (old new : Standing) (before after : Outside) (served : Served) : Type 0 where
+  pub asks : List Ask
+  pub replies : List Reply
+  pub spoke : SpokeWithin room before after asks replies served
+  pub asked : AsksInTurn farm_rules opened old.stands new.stands (questions_of asks) replies
+  pub spent : old.spare ≡ new.spare + length asks
+
+-- What one connection did: the desk before and after, what the outside told before and after, and why it ended.
+abbrev pub Serves : Standing → Standing → Outside → Outside → Served → Type 0
+Serves = ServesWithin REQUESTS

@@ -1,0 +1,217 @@
+//! One connection, message by message.
+ghost use Rattle.std.specs.Prelude.{◌≡◌, ◌-◌, ◌<◌, ◌≤◌};
+ghost use Rattle.std.specs.Io.KnownBytes.{prepend_known};
+ghost use Rattle.farm_server.specs.Routes.{call_of as call_made};
+ghost use Rattle.farm_server.specs.Served.{Serves};
+ghost use Rattle.farm_server.specs.Turn.{AsksOnce, Ends, Refuses, Turns};
+ghost use Rattle.farm_server.specs.declared.served.TheConstants.{REQUESTS};
+
+use crate::gate::{Gate, When};
+use crate::routes::{call_of, question};
+use crate::served::{REQUESTS, Served};
+use crate::wire_replies::own_reply;
+use crate::write::{write_all, write_reply};
+use causes::Failed;
+use farm_desk::Desk;
+use farm_machine::law::Farm;
+use farm_machine::question::{Call, Question};
+use farm_machine::reply::{Asked, Reply};
+use farm_text::{Clock, Draws};
+use http_wire::{Link, Message, Reader, Wire};
+use std::alloc::Global;
+
+/// Serves one connection: takes requests from the link (RFC 9112), asks the desk each of them, and writes the replies in
+/// order, until the stream ends, a request closes it (section 9.6), or a thousand were answered.
+///
+/// For each request the clock is read once, one id is drawn and the desk is asked once, so a desk that has a thousand asks
+/// left is needed. The gate is told before each ask and after each reply. Of the answers but `NoMemory` each has its cause
+/// in the bytes that were read or in a count of the link.
+pub fn serve_connection<
+    L: Link,
+    K: Desk<Question = Question, Answer = Asked, Law = Farm>,
+    C: Clock,
+    R: Draws,
+    G: Gate,
+>(alloc: Global, link: &mut L, desk: &mut K, clock: &mut C, draws: &mut R, gate: &mut G) -> Served
+    requires { REQUESTS ≤ K.spare desk.old }
+    ensures home { K.home desk.new ≡ K.home desk.old }
+    ensures serves { Serves
+        (record { stands = K.stands desk.old; spare = K.spare desk.old })
+        (record { stands = K.stands desk.new; spare = K.spare desk.new })
+        (record {
+          left = L.left link.old;
+          written = L.written link.old;
+          moments = C.told clock.old;
+          ids = R.told draws.old;
+          read_faults = L.read_faults link.old;
+          write_faults = L.write_faults link.old;
+        })
+        (record {
+          left = L.left link.new;
+          written = L.written link.new;
+          moments = C.told clock.new;
+          ids = R.told draws.new;
+          read_faults = L.read_faults link.new;
+          write_faults = L.write_faults link.new;
+        })
+        result }
+{
+    let mut reader = match Reader::new(alloc) {
+        Ok(reader) => reader,
+        Err(_) => return Served::NoMemory,
+    };
+    'requests: for place in 0..REQUESTS {
+        let ended = turn(alloc, &mut reader, place, link, desk, clock, draws, gate);
+        if let Some(served) = ended {
+            return served;
+        }
+    }
+    Served::Full
+}
+
+/// Takes one message from the link and answers it, and says why the connection ends here, if it does.
+fn turn<
+    L: Link,
+    K: Desk<Question = Question, Answer = Asked, Law = Farm>,
+    C: Clock,
+    R: Draws,
+    G: Gate,
+>(
+    alloc: Global,
+    reader: &mut Reader,
+    place: u64,
+    link: &mut L,
+    desk: &mut K,
+    clock: &mut C,
+    draws: &mut R,
+    gate: &mut G,
+) -> Option<Served>
+    requires within { place < REQUESTS }
+    requires spare { 0 < K.spare desk.old }
+    ensures home { K.home desk.new ≡ K.home desk.old }
+    ensures turns { Turns (REQUESTS - place)
+        (record { stands = K.stands desk.old; spare = K.spare desk.old })
+        (record { stands = K.stands desk.new; spare = K.spare desk.new })
+        (record {
+          left = prepend_known reader.old (L.left link.old);
+          written = L.written link.old;
+          moments = C.told clock.old;
+          ids = R.told draws.old;
+          read_faults = L.read_faults link.old;
+          write_faults = L.write_faults link.old;
+        })
+        (record {
+          left = L.left link.new;
+          written = L.written link.new;
+          moments = C.told clock.new;
+          ids = R.told draws.new;
+          read_faults = L.read_faults link.new;
+          write_faults = L.write_faults link.new;
+        })
+        (prepend_known reader.new (L.left link.new)) result }
+{
+    match reader.next_request(alloc, link) {
+        Ok(message) => answer(alloc, &message, place, link, desk, clock, draws, gate),
+        Err(reason) => Some(refuse(link, reason)),
+    }
+}
+
+/// Answers one message, and says why the connection ends here, if it does.
+fn answer<
+    L: Link,
+    K: Desk<Question = Question, Answer = Asked, Law = Farm>,
+    C: Clock,
+    R: Draws,
+    G: Gate,
+>(
+    alloc: Global,
+    message: &Message,
+    place: u64,
+    link: &mut L,
+    desk: &mut K,
+    clock: &mut C,
+    draws: &mut R,
+    gate: &mut G,
+) -> Option<Served>
+    requires within { place < REQUESTS }
+    requires spare { 0 < K.spare desk.old }
+    ensures home { K.home desk.new ≡ K.home desk.old }
+    ensures ends { Ends (REQUESTS - place)
+        (record { stands = K.stands desk.old; spare = K.spare desk.old })
+        (record { stands = K.stands desk.new; spare = K.spare desk.new })
+        (record {
+          written = L.written link.old;
+          moments = C.told clock.old;
+          ids = R.told draws.old;
+          write_faults = L.write_faults link.old;
+        })
+        (record {
+          written = L.written link.new;
+          moments = C.told clock.new;
+          ids = R.told draws.new;
+          write_faults = L.write_faults link.new;
+        })
+        message.now result }
+    ensures left { L.left link.new ≡ L.left link.old }
+    ensures read_faults { L.read_faults link.new ≡ L.read_faults link.old }
+{
+    let call = match call_of(alloc, message) {
+        Ok(call) => call,
+        Err(_) => return Some(Served::NoMemory),
+    };
+    gate.at(When::Asked(place));
+    let reply = ask(message, call, desk, clock, draws);
+    let is_last = place >= REQUESTS - 1;
+    if let Err(Failed) = write_reply(link, &reply, message.closes || is_last) {
+        return Some(Served::WriteFault);
+    }
+    gate.at(When::Answered(place));
+    if message.closes && !is_last {
+        return Some(Served::Closed);
+    }
+    None
+}
+
+/// Asks the desk what a message asks.
+fn ask<K: Desk<Question = Question, Answer = Asked, Law = Farm>, C: Clock, R: Draws>(
+    message: &Message,
+    call: Call,
+    desk: &mut K,
+    clock: &mut C,
+    draws: &mut R,
+) -> Reply
+    requires called { call ≡ call_made message.now }
+    requires spare { 0 < K.spare desk.old }
+    ensures home { K.home desk.new ≡ K.home desk.old }
+    ensures once { AsksOnce
+        (record { stands = K.stands desk.old; spare = K.spare desk.old })
+        (record { stands = K.stands desk.new; spare = K.spare desk.new })
+        (C.told clock.old) (C.told clock.new) (R.told draws.old) (R.told draws.new)
+        message.now result }
+{
+    let moment = clock.now();
+    let id = draws.draw();
+    desk.ask(question(message, call, moment, id)).reply
+}
+
+/// Ends a connection on which no message came, after the wire's own reply where it refuses what came.
+fn refuse<L: Link>(link: &mut L, reason: Wire) -> Served
+    ensures refuses { Refuses (L.written link.old) (L.written link.new) (L.write_faults link.old)
+        (L.write_faults link.new) reason result }
+    ensures later { L.write_faults link.old ≤ L.write_faults link.new }
+    ensures left { L.left link.new ≡ L.left link.old }
+    ensures read_faults { L.read_faults link.new ≡ L.read_faults link.old }
+{
+    match reason {
+        Wire::End => Served::Closed,
+        Wire::EndedInside => Served::EndedInside,
+        Wire::ReadFault => Served::ReadFault,
+        Wire::NoMemory => Served::NoMemory,
+        Wire::HeadFault | Wire::HeadTooLarge | Wire::NoLength | Wire::BodyTooLarge => {
+            match write_all(link, own_reply(reason)) {
+                Ok(()) => Served::WireFault(reason),
+                Err(Failed) => Served::WriteFault,
+            }
+        }
+    }
+}

@@ -1,0 +1,262 @@
+//! Connections over links in memory, with what the queue service's reference and HTTP/1.1 say of them.
+ghost use Rattle.std.specs.Prelude.{◌≤◌, ◌^◌};
+ghost use Rattle.history.specs.Histories.{Leads};
+ghost use Rattle.farm_desk.specs.Home.{nowhere};
+ghost use Rattle.farm_machine.specs.Law.{opened};
+ghost use Rattle.farm_machine.specs.Step.{farm_rules};
+ghost use Rattle.farm_server.specs.declared.served.TheConstants.{REQUESTS};
+
+use super::*;
+use farm_desk::{Desk, Object, Solo, Spare};
+use farm_machine::config::Config;
+use farm_machine::law::Farm;
+use farm_machine::question::{Call, Caller, Question};
+use farm_machine::reply::Asked;
+use farm_text::{ListClock, ListDraws, Moment, SlugId};
+use http_wire::{Joined, MemorySink, MemorySource, Wire};
+use std::alloc::{AllocError, Global};
+use std::test::Fail;
+
+const PING: &[u8] = b"GET /api/queue/v1/ping HTTP/1.1\r\n\r\n";
+
+const STATUS: &[u8] = b"GET /api/queue/v1/task/AAAAAAAAQACAAAAAAAAAAA/status HTTP/1.1\r\n\r\n";
+
+const ALIVE: &[u8] =
+    b"HTTP/1.1 200 OK\r\nContent-Length: 14\r\nContent-Type: application/json\r\n\r\n{\"alive\":true}";
+
+const NO_TASK: &[u8] =
+    b"HTTP/1.1 404 Not Found\r\nContent-Length: 119\r\nContent-Type: application/json\r\n\r\n{\"code\":\"ResourceNotFound\",\"details\":{\"kind\":\"task\",\"name\":\"AAAAAAAAQACAAAAAAAAAAA\"},\"message\":\"nothing has that name\"}";
+
+/// What is served of an input, and which calls fail.
+#[derive(Clone, Copy)]
+struct Input<'a> {
+    bytes: &'a [u8],
+    failing_reads: &'a [u64],
+    failing_writes: &'a [u64],
+}
+
+impl<'a> Input<'a> {
+    fn of(bytes: &'a [u8]) -> Input<'a> {
+        Input {
+            bytes,
+            failing_reads: &[],
+            failing_writes: &[],
+        }
+    }
+}
+
+/// How a connection ended, and what was written.
+#[derive(Drop)]
+struct Output {
+    served: Served,
+    written: Vec<u8>,
+}
+
+/// Serves the input over this desk.
+fn serve_over<K: Desk<Question = Question, Answer = Asked, Law = Farm>>(
+    alloc: Global,
+    input: &Input,
+    desk: &mut K,
+) -> Result<Output, AllocError>
+    requires { REQUESTS ≤ K.spare desk.old }
+{
+    let source = MemorySource::new(
+        Vec::from_slice(alloc, input.bytes)?,
+        Vec::from_slice(alloc, input.failing_reads)?,
+        8_192,
+    );
+    let failing = Vec::from_slice(alloc, input.failing_writes)?;
+    let mut link = Joined {
+        source,
+        sink: MemorySink::new(alloc, 200_000, failing)?,
+    };
+    let mut clock = ListClock::new(Vec::new(alloc));
+    let mut draws = ListDraws::new(Vec::new(alloc));
+    let served = serve_connection(alloc, &mut link, desk, &mut clock, &mut draws, &mut NoGate);
+    let written = Vec::from_slice(alloc, link.sink.written())?;
+    Ok(Output { served, written })
+}
+
+/// Serves the input over an empty farm.
+fn serve(alloc: Global, input: &Input) -> Result<Output, AllocError> {
+    let mut desk = Solo::new(Bare::new(alloc, Config));
+    serve_over(alloc, input, &mut desk)
+}
+
+fn both(alloc: Global, first: &[u8], second: &[u8]) -> Result<Vec<u8>, AllocError> {
+    let mut bytes = Vec::from_slice(alloc, first)?;
+    bytes.extend_from_slice(second)?;
+    Ok(bytes)
+}
+
+#[test]
+fn a_ping_and_a_status(rt: HostRuntime) -> Result<(), Fail> {
+    let alloc = rt.alloc();
+    let input = both(alloc, PING, STATUS)?;
+    let replies = both(alloc, ALIVE, NO_TASK)?;
+    let output = serve(alloc, &Input::of(&input))?;
+    assert_eq!(rt; output.served, Served::Closed);
+    assert_eq!(rt; output.written, replies);
+    Ok(())
+}
+
+#[test]
+fn a_farm_without_a_disk_answers(rt: HostRuntime) -> Result<(), Fail> {
+    let alloc = rt.alloc();
+    let Some(id) = SlugId::read(b"AAAAAAAAQACAAAAAAAAAAA") else {
+        return Err(Fail::from("no slugid"));
+    };
+    let mut farm = Bare::new(alloc, Config);
+    let asked = farm.ask(Question::new(Moment::FIRST, id, Caller::Anonymous, Call::Ping));
+    assert_eq!(rt; asked.reply.body(), "{\"alive\":true}");
+    assert!(rt; !asked.ticked);
+    Ok(())
+}
+
+#[test]
+fn a_failed_write_leaves_a_front(rt: HostRuntime) -> Result<(), Fail> {
+    let alloc = rt.alloc();
+    let bytes = both(alloc, PING, STATUS)?;
+    for (failing, wanted) in [(0, b"".as_slice()), (1, ALIVE)] {
+        let input = Input {
+            bytes: &bytes,
+            failing_reads: &[],
+            failing_writes: &[failing],
+        };
+        let output = serve(alloc, &input)?;
+        assert_eq!(rt; output.served, Served::WriteFault);
+        assert_eq!(rt; output.written.as_slice(), wanted);
+    }
+    Ok(())
+}
+
+#[test]
+fn a_failed_read_ends_what_was_answered(rt: HostRuntime) -> Result<(), Fail> {
+    let alloc = rt.alloc();
+    let bytes = both(alloc, PING, STATUS)?;
+    let replies = both(alloc, ALIVE, NO_TASK)?;
+    for (failing, wanted) in [(0, b"".as_slice()), (1, replies.as_slice())] {
+        let input = Input {
+            bytes: &bytes,
+            failing_reads: &[failing],
+            failing_writes: &[],
+        };
+        let output = serve(alloc, &input)?;
+        assert_eq!(rt; output.served, Served::ReadFault);
+        assert_eq!(rt; output.written.as_slice(), wanted);
+    }
+    Ok(())
+}
+
+#[test]
+fn a_stream_may_end_at_each_byte(rt: HostRuntime) -> Result<(), Fail> {
+    let alloc = rt.alloc();
+    let input = both(alloc, PING, STATUS)?;
+    for end in 0..input.len() {
+        let output = serve(alloc, &Input::of(&input[..end]))?;
+        let served = if end == 0 || end == PING.len() {
+            Served::Closed
+        } else {
+            Served::EndedInside
+        };
+        let replies = if end < PING.len() {
+            b"".as_slice()
+        } else {
+            ALIVE
+        };
+        assert_eq!(rt; output.served, served, "cut at {end}");
+        assert_eq!(rt; output.written.as_slice(), replies, "cut at {end}");
+    }
+    Ok(())
+}
+
+#[test]
+fn what_is_not_read_is_refused(rt: HostRuntime) -> Result<(), Fail> {
+    let alloc = rt.alloc();
+    let output = serve(
+        alloc,
+        &Input::of(b"POST / HTTP/1.1\r\nContent-Length: 1048577\r\n\r\n"),
+    )?;
+    assert_eq!(rt; output.served, Served::WireFault(Wire::BodyTooLarge));
+    assert_eq!(rt;
+        output.written.as_slice(),
+        b"HTTP/1.1 413 Payload Too Large\r\nConnection: close\r\nContent-Length: 72\r\nContent-Type: application/json\r\n\r\n{\"code\":\"PayloadTooLarge\",\"details\":{},\"message\":\"the body is too long\"}".as_slice()
+    );
+    Ok(())
+}
+
+#[test]
+fn the_thousandth_reply_closes(rt: HostRuntime) -> Result<(), Fail> {
+    let alloc = rt.alloc();
+    let mut input = Vec::new(alloc);
+    let mut replies = Vec::new(alloc);
+    for place in 0..1_001 {
+        input.extend_from_slice(PING)?;
+        if place < 999 {
+            replies.extend_from_slice(ALIVE)?;
+        }
+    }
+    replies.extend_from_slice(
+        b"HTTP/1.1 200 OK\r\nConnection: close\r\nContent-Length: 14\r\nContent-Type: application/json\r\n\r\n{\"alive\":true}",
+    )?;
+    let output = serve(alloc, &Input::of(&input))?;
+    assert_eq!(rt; output.served, Served::Full);
+    assert_eq!(rt; output.written.len(), replies.len());
+    assert!(rt; output.written == replies);
+    Ok(())
+}
+
+/// A desk at which another caller asks first, each time.
+#[derive(Drop)]
+struct Busy {
+    farm: Bare,
+    others: SlugId,
+    left: u64,
+}
+
+impl Spare for Busy {
+    ghost spare = { λ busy. busy.left };
+
+    fn left(&self) -> u64 {
+        self.left
+    }
+}
+
+impl Desk for Busy {
+    type Question = Question;
+
+    type Answer = Asked;
+
+    type Law = Farm;
+
+    ghost stands = { λ busy opening seen mine. Leads farm_rules (opened opening) seen busy.farm };
+
+    ghost home = { λ busy. nowhere };
+
+    fn ask(&mut self, question: Question) -> Asked {
+        self.left -= 1;
+        let other = Question::new(Moment::FIRST, self.others, Caller::BadHeader, Call::Ping);
+        let _ = self.farm.ask(other);
+        self.farm.ask(question)
+    }
+
+    ghost legal = { λ busy opening seen mine stood. stood.0 };
+}
+
+#[test]
+fn others_may_ask_between(rt: HostRuntime) -> Result<(), Fail> {
+    let alloc = rt.alloc();
+    let Some(others) = SlugId::read(b"AAAAAAAAQACAAAAAAAAAAA") else {
+        return Err(Fail::from("no slugid"));
+    };
+    let mut desk = Busy {
+        farm: Bare::new(alloc, Config),
+        others,
+        left: 1_000,
+    };
+    let output = serve_over(alloc, &Input::of(PING), &mut desk)?;
+    assert_eq!(rt; output.served, Served::Closed);
+    assert_eq!(rt; output.written.as_slice(), ALIVE);
+    assert_eq!(rt; desk.left(), 999);
+    Ok(())
+}

@@ -1,0 +1,86 @@
+//! Bytes to a link.
+ghost use Rattle.std.specs.Prelude.{◌≡◌, ◌+◌, ◌≤◌, ◌++◌, length, OnOk, OnErr};
+ghost use Rattle.std.specs.Io.KnownBytes.{Appends};
+ghost use Rattle.causes.specs.Causes.{HasCause};
+ghost use Rattle.farm_server.specs.ReplyText.{reply_text};
+ghost use Rattle.farm_server.specs.Turn.{AppendsFront};
+
+use crate::head::reply_head;
+use causes::Failed;
+use farm_machine::reply::Reply;
+use http_wire::Link;
+
+/// Up to how many bytes a head and a body are put together for one write.
+const PIECE: usize = 1_024;
+
+/// Writes all of the bytes.
+pub(crate) fn write_all<L: Link>(link: &mut L, bytes: &[u8]) -> Result<(), Failed>
+    ensures ok { OnOk result (Appends (L.written link.old) (L.written link.new) bytes.now) }
+    ensures front { OnErr result (AppendsFront (L.written link.old) (L.written link.new) bytes.now) }
+    ensures cause { HasCause (L.write_faults link.old) (L.write_faults link.new) result }
+    ensures left { L.left link.new ≡ L.left link.old }
+    ensures read_faults { L.read_faults link.new ≡ L.read_faults link.old }
+{
+    let mut rest = bytes;
+    while !rest.is_empty() {
+        match link.write(rest) {
+            Ok(count) => rest = &rest[count..],
+            Err(Failed) => return Err(Failed),
+        }
+    }
+    Ok(())
+}
+
+/// Writes a reply, which says whether it closes the connection: in one write, where it is short.
+pub(crate) fn write_reply<L: Link>(link: &mut L, reply: &Reply, closes: bool) -> Result<(), Failed>
+    ensures ok { OnOk result (Appends (L.written link.old) (L.written link.new) (reply_text reply.now closes)) }
+    ensures front { OnErr result (AppendsFront (L.written link.old) (L.written link.new) (reply_text reply.now closes)) }
+    ensures cause { HasCause (L.write_faults link.old) (L.write_faults link.new) result }
+    ensures left { L.left link.new ≡ L.left link.old }
+    ensures read_faults { L.read_faults link.new ≡ L.read_faults link.old }
+{
+    let head = reply_head(reply, closes);
+    write_pair(link, head.as_slice(), reply.body().as_bytes())
+}
+
+/// Writes the bytes of the one and then of the other.
+fn write_pair<L: Link>(link: &mut L, head: &[u8], body: &[u8]) -> Result<(), Failed>
+    ensures ok { OnOk result (Appends (L.written link.old) (L.written link.new) (head.now ++ body.now)) }
+    ensures front { OnErr result (AppendsFront (L.written link.old) (L.written link.new) (head.now ++ body.now)) }
+    ensures cause { HasCause (L.write_faults link.old) (L.write_faults link.new) result }
+    ensures left { L.left link.new ≡ L.left link.old }
+    ensures read_faults { L.read_faults link.new ≡ L.read_faults link.old }
+{
+    if head.len() <= PIECE && body.len() <= PIECE - head.len() {
+        return write_joined(link, head, body);
+    }
+    if let Err(Failed) = write_all(link, head) {
+        return Err(Failed);
+    }
+    write_all(link, body)
+}
+
+/// The same, put together first.
+fn write_joined<L: Link>(link: &mut L, head: &[u8], body: &[u8]) -> Result<(), Failed>
+    requires { length head.now + length body.now ≤ PIECE }
+    ensures ok { OnOk result (Appends (L.written link.old) (L.written link.new) (head.now ++ body.now)) }
+    ensures front { OnErr result (AppendsFront (L.written link.old) (L.written link.new) (head.now ++ body.now)) }
+    ensures cause { HasCause (L.write_faults link.old) (L.write_faults link.new) result }
+    ensures left { L.left link.new ≡ L.left link.old }
+    ensures read_faults { L.read_faults link.new ≡ L.read_faults link.old }
+{
+    let mut piece = [0; PIECE];
+    let end = head.len() + body.len();
+    join(&mut piece[..end], head, body);
+    write_all(link, &piece[..end])
+}
+
+/// Makes the piece the bytes of the one and then of the other.
+fn join(piece: &mut [u8], head: &[u8], body: &[u8])
+    requires { length piece.old ≡ length head.now + length body.now }
+    ensures { piece.new ≡ head.now ++ body.now }
+{
+    let (front, back) = piece.split_at_mut(head.len());
+    front.copy_from_slice(head);
+    back.copy_from_slice(body);
+}
