@@ -1,0 +1,5 @@
+pub mod CompleteLemmas
+pub mod HomeLemmas
+pub mod ReasonLemmas
+pub mod RunLemmas
+pub mod RunsLemmas

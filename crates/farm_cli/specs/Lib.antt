@@ -1,0 +1,9 @@
+pub mod Complete
+pub mod Home
+pub mod House
+pub mod MemoryHouse
+pub mod Reasons
+pub mod Run
+pub mod Runs
+pub mod Status
+pub mod Words

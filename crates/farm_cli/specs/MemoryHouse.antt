@@ -1,0 +1,21 @@
+-- What a house in memory holds.
+use Rattle.std.specs.Prelude.{ℕ, List, bytes_eq, Bool, true, false}
+use Rattle.farm_cli.specs.declared.lending.Lending.{Lending}
+use Rattle.farm_cli.specs.declared.lending.Lending.TheVariants.{Ready, Out, Back, Untold}
+use Rattle.farm_cli.specs.House.{Held, holds, refuses, Files, unopened, out, back, untold}
+
+-- the file, where it is asked for by its name
+abbrev pub held_if : {T : Type 0} → Bool → T → Held T
+held_if true file = holds file
+held_if false file = refuses
+
+-- the only file of a house, which has this name
+abbrev pub only_file : {T : Type 0} → List ℕ → T → List ℕ → Held T
+only_file name file asked = held_if (bytes_eq name asked) file
+
+-- what the house tells of its files, of which it has this one
+abbrev pub files_of : {T : Type 0} → List ℕ → Lending T → Files T
+files_of name (Ready file) = unopened (only_file name file)
+files_of name Out = out
+files_of name (Back file) = back file
+files_of name Untold = untold

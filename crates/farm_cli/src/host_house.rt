@@ -1,0 +1,112 @@
+//! The house of the system: its files, its standard streams, its clock and its random numbers.
+ghost use Rattle.std.specs.Prelude.{◌≡◌, IfOk};
+ghost use Rattle.farm_cli.specs.House.{untold};
+ghost use Rattle.farm_cli.specs.declared.lending.Lending.TheVariants.{Untold};
+
+use crate::house::House;
+use causes::{Failed, FaultCount};
+use farm_text::{HostClock, HostDraws};
+use http_wire::{HostSink, HostSource, Joined};
+use std::fs;
+use std::fs::File;
+use std::io::{Stderr, Stdin, Stdout};
+
+/// The house of the system, which does not tell what passes through the objects that it lends.
+#[derive(Drop)]
+pub struct HostHouse {
+    rt: HostRuntime,
+    draws: HostDraws,
+    refusals: FaultCount,
+}
+
+impl HostHouse {
+    /// The house of this runtime. It seeds its random numbers, which fails where the runtime gives none.
+    pub fn new(rt: HostRuntime) -> Result<HostHouse, Failed>
+        ensures { IfOk result (λ house. ⟦<HostHouse as House>⟧.refusals house ≡ 0) }
+    {
+        let draws = HostDraws::new(&rt)?;
+        Ok(HostHouse {
+            rt,
+            draws,
+            refusals: FaultCount::new(),
+        })
+    }
+}
+
+impl House for HostHouse {
+    type File = HostSource<File>;
+
+    type Console = Joined<HostSource<Stdin>, HostSink<Stdout>>;
+
+    type Notes = HostSink<Stderr>;
+
+    type Time = HostClock<HostRuntime>;
+
+    type Ids = HostDraws;
+
+    ghost lends = { λ _. record { file = untold; console = Untold; notes = Untold; clock = Untold; draws = Untold } };
+
+    ghost refusals = { λ h. h.refusals };
+
+    fn farm_file(&mut self, name: &str) -> Result<HostSource<File>, Failed> {
+        match fs::open(&self.rt, name) {
+            Ok(file) => Ok(HostSource::new(file)),
+            Err(_) => {
+                self.refusals.raise();
+                Err(Failed)
+            }
+        }
+    }
+
+    fn back_farm_file(&mut self, _file: HostSource<File>) {}
+
+    fn console(&mut self) -> Joined<HostSource<Stdin>, HostSink<Stdout>> {
+        Joined {
+            source: HostSource::new(self.rt.stdin()),
+            sink: HostSink::new(self.rt.stdout()),
+        }
+    }
+
+    fn back_console(&mut self, _console: Joined<HostSource<Stdin>, HostSink<Stdout>>) {}
+
+    fn notes(&mut self) -> HostSink<Stderr> {
+        HostSink::new(self.rt.stderr())
+    }
+
+    fn back_notes(&mut self, _notes: HostSink<Stderr>) {}
+
+    fn clock(&mut self) -> HostClock<HostRuntime> {
+        HostClock::new(self.rt)
+    }
+
+    fn back_clock(&mut self, _clock: HostClock<HostRuntime>) {}
+
+    fn draws(&mut self) -> HostDraws {
+        self.draws.fork()
+    }
+
+    fn back_draws(&mut self, _draws: HostDraws) {}
+}
+
+#[cfg(test)]
+mod tests {
+    use super::*;
+    use farm_text::Draws;
+    use http_wire::Source;
+    use std::test::Fail;
+
+    #[test]
+    fn the_system_lends_files_and_draws(rt: HostRuntime) -> Result<(), Fail> {
+        let mut house = HostHouse::new(rt)?;
+        assert!(rt; house.farm_file("no/such/farm.toml").is_err());
+        let mut file = house.farm_file("/dev/null")?;
+        assert_eq!(rt; file.read(&mut [0u8; 1])?, 0);
+        house.back_farm_file(file);
+        let mut draws = house.draws();
+        let mut others = house.draws();
+        assert_ne!(rt; draws.draw().uuid(), others.draw().uuid());
+        house.back_draws(draws);
+        house.back_draws(others);
+        Ok(())
+    }
+}

@@ -1,0 +1,48 @@
+//! The farm as a program: what its words ask for is run over what the system lends.
+#![tactic(auto)]
+
+mod host_house;
+mod house;
+mod lending;
+mod memory_house;
+mod run;
+mod status;
+#[cfg(test)]
+mod tests;
+mod words;
+
+use causes::Failed;
+use host_house::HostHouse;
+use status::Status;
+use std::process::ExitCode;
+use std::{env, io};
+
+fn main(rt: HostRuntime) -> ExitCode {
+    let status = match begin(rt) {
+        Ok((words, mut house)) => run::run(rt.alloc(), words.as_slice(), &mut house),
+        Err(status) => {
+            let _ = eprint!(rt; "{}", status.line());
+            status
+        }
+    };
+    ExitCode::from(status.code())
+}
+
+/// The words of the command line, without the program's name, and the house of the system.
+fn begin(rt: HostRuntime) -> Result<(Vec<String>, HostHouse), Status> {
+    let words = match command_line(&rt) {
+        Ok(words) => words,
+        Err(error) if error.kind() == io::ErrorKind::OutOfMemory => return Err(Status::NoMemory),
+        Err(_) => return Err(Status::Usage),
+    };
+    match HostHouse::new(rt) {
+        Ok(house) => Ok((words, house)),
+        Err(Failed) => Err(Status::Read),
+    }
+}
+
+/// The words of the command line, without the program's name. One that is not UTF-8 is an error.
+fn command_line(rt: &HostRuntime) -> io::Result<Vec<String>> {
+    let words = env::args(rt)?.skip(1).collect(rt.alloc())?;
+    Ok(words)
+}

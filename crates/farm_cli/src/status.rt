@@ -1,0 +1,58 @@
+ghost use Rattle.std.specs.Prelude.{◌≡◌};
+
+/// How a run ended. Of several causes the one with the least number stands.
+#[derive(Clone, Copy, Debug, PartialEq, Eq)]
+pub enum Status {
+    /// The input was read to its end, to a request that closes, or to the thousandth.
+    Done,
+    /// The words have no reading.
+    Usage,
+    /// The farm file is refused.
+    FarmFile,
+    /// An opening was refused.
+    Opening,
+    /// A read failed.
+    Read,
+    /// A write failed.
+    Write,
+    /// Memory ran out.
+    NoMemory,
+    /// What came is no request, or the input ended inside one.
+    Wire,
+}
+
+impl Status {
+    ghost use Rattle.farm_cli.specs.Status.{code_of, line_of};
+
+    /// The status by which the program ends.
+    pub fn code(self) -> u8
+        ensures { result ≡ code_of self }
+    {
+        match self {
+            Status::Done => 0,
+            Status::Usage => 2,
+            Status::FarmFile => 3,
+            Status::Opening => 4,
+            Status::Read => 5,
+            Status::Write => 6,
+            Status::NoMemory => 7,
+            Status::Wire => 8,
+        }
+    }
+
+    /// The line that notes are told; of a run that is done there is none.
+    pub fn line(self) -> &'static str
+        ensures { result.now ≡ line_of self }
+    {
+        match self {
+            Status::Done => "",
+            Status::Usage => "usage: farm_cli answer FARM\n",
+            Status::FarmFile => "the farm file is refused: it has to be empty\n",
+            Status::Opening => "the farm file cannot be opened\n",
+            Status::Read => "a read failed\n",
+            Status::Write => "a write failed\n",
+            Status::NoMemory => "memory ran out\n",
+            Status::Wire => "the input is no request, or ends inside one\n",
+        }
+    }
+}

@@ -1,0 +1,157 @@
+//! Runs over houses in memory.
+
+use crate::memory_house::MemoryHouse;
+use crate::run;
+use crate::status::Status;
+use farm_text::{ListClock, ListDraws};
+use http_wire::{Joined, MemorySink, MemorySource};
+use std::alloc::{AllocError, Global};
+use std::test::Fail;
+
+/// A command line, what a house has for it, and which reads and writes fail, by their numbers from 0 on.
+#[derive(Clone, Copy)]
+struct Case<'a> {
+    words: &'a [&'a str],
+    farm: &'a [u8],
+    failing_farm_reads: &'a [u64],
+    input: &'a [u8],
+    failing_reads: &'a [u64],
+    failing_writes: &'a [u64],
+}
+
+impl<'a> Case<'a> {
+    /// The words `answer farm.toml` over an empty farm file and this input. Nothing fails.
+    fn over(input: &'a [u8]) -> Case<'a> {
+        Case {
+            words: &["answer", "farm.toml"],
+            farm: &[],
+            failing_farm_reads: &[],
+            input,
+            failing_reads: &[],
+            failing_writes: &[],
+        }
+    }
+}
+
+/// How a run ended, and what it wrote to the console and to the notes.
+#[derive(Drop)]
+struct Outcome {
+    status: Status,
+    output: Vec<u8>,
+    notes: Vec<u8>,
+}
+
+/// A house with a farm file `farm.toml`, and room for some replies and a note.
+fn house_of(alloc: Global, case: &Case) -> Result<MemoryHouse, AllocError> {
+    let farm_file = MemorySource::new(
+        case.farm.to_vec(alloc)?,
+        case.failing_farm_reads.to_vec(alloc)?,
+        8,
+    );
+    let console = Joined {
+        source: MemorySource::new(
+            case.input.to_vec(alloc)?,
+            case.failing_reads.to_vec(alloc)?,
+            8192,
+        ),
+        sink: MemorySink::new(alloc, 1024, case.failing_writes.to_vec(alloc)?)?,
+    };
+    let notes = MemorySink::new(alloc, 100, Vec::new(alloc))?;
+    let clock = ListClock::new(Vec::new(alloc));
+    let draws = ListDraws::new(Vec::new(alloc));
+    let farm_name = String::from_str(alloc, "farm.toml")?;
+    Ok(MemoryHouse::new(alloc, farm_name, farm_file, console, notes, clock, draws))
+}
+
+/// Runs a case.
+fn outcome_of(alloc: Global, case: &Case) -> Result<Outcome, AllocError> {
+    let mut house = house_of(alloc, case)?;
+    let mut words = Vec::new(alloc);
+    for word in case.words {
+        words.push(String::from_str(alloc, word)?)?;
+    }
+    let status = run::run(alloc, words.as_slice(), &mut house);
+    let mut output = Vec::new(alloc);
+    if let Some(console) = house.returned_console() {
+        output.extend_from_slice(console.sink.written())?;
+    }
+    let mut notes = Vec::new(alloc);
+    if let Some(sink) = house.returned_notes() {
+        notes.extend_from_slice(sink.written())?;
+    }
+    Ok(Outcome {
+        status,
+        output,
+        notes,
+    })
+}
+
+const PING: &[u8] = b"GET /api/queue/v1/ping HTTP/1.1\r\n\r\n";
+
+#[test]
+fn requests_are_answered(rt: HostRuntime) -> Result<(), Fail> {
+    let input =
+        b"GET /api/queue/v1/ping HTTP/1.1\r\n\r\nGET /api/queue/v1/task/AAAAAAAAQACAAAAAAAAAAA/status HTTP/1.1\r\n\r\n";
+    let done = outcome_of(rt.alloc(), &Case::over(input))?;
+    assert_eq!(rt; done.status, Status::Done);
+    let output: &[u8] =
+        b"HTTP/1.1 200 OK\r\nContent-Length: 14\r\nContent-Type: application/json\r\n\r\n{\"alive\":true}HTTP/1.1 404 Not Found\r\nContent-Length: 119\r\nContent-Type: application/json\r\n\r\n{\"code\":\"ResourceNotFound\",\"details\":{\"kind\":\"task\",\"name\":\"AAAAAAAAQACAAAAAAAAAAA\"},\"message\":\"nothing has that name\"}";
+    assert_eq!(rt; done.output.as_slice(), output);
+    assert_eq!(rt; done.notes.len(), 0);
+    Ok(())
+}
+
+#[test]
+fn input_that_is_no_request_ends_with_8(rt: HostRuntime) -> Result<(), Fail> {
+    let cut = outcome_of(rt.alloc(), &Case::over(b"GET /api/queue/v1/ping HT"))?;
+    assert_eq!(rt; cut.status.code(), 8);
+    assert_eq!(rt; cut.output.len(), 0);
+    let note: &[u8] = b"the input is no request, or ends inside one\n";
+    assert_eq!(rt; cut.notes.as_slice(), note);
+
+    let head = vec![in rt.alloc(); b'a'; 16_385]?;
+    let long = outcome_of(rt.alloc(), &Case::over(head.as_slice()))?;
+    assert_eq!(rt; long.status.code(), 8);
+    let output: &[u8] =
+        b"HTTP/1.1 431 Request Header Fields Too Large\r\nConnection: close\r\nContent-Length: 69\r\nContent-Type: application/json\r\n\r\n{\"code\":\"HeadTooLarge\",\"details\":{},\"message\":\"the head is too long\"}";
+    assert_eq!(rt; long.output.as_slice(), output);
+    Ok(())
+}
+
+#[test]
+fn what_fails_ends_with_its_status(rt: HostRuntime) -> Result<(), Fail> {
+    let usage = Case {
+        words: &["answer"],
+        ..Case::over(PING)
+    };
+    let refused = Case {
+        farm: b"a",
+        ..Case::over(PING)
+    };
+    let missing = Case {
+        words: &["answer", "other.toml"],
+        ..Case::over(PING)
+    };
+    let unread_farm = Case {
+        failing_farm_reads: &[0],
+        ..Case::over(PING)
+    };
+    let unread = Case {
+        failing_reads: &[0],
+        ..Case::over(PING)
+    };
+    let unwritten = Case {
+        failing_writes: &[0],
+        ..Case::over(PING)
+    };
+    let cases = [usage, refused, missing, unread_farm, unread, unwritten];
+    let mut codes = Vec::new(rt.alloc());
+    for case in &cases {
+        let outcome = outcome_of(rt.alloc(), case)?;
+        assert_eq!(rt; outcome.output.len(), 0);
+        codes.push(outcome.status.code())?;
+    }
+    let expected: &[u8] = &[2, 3, 4, 5, 5, 6];
+    assert_eq!(rt; codes.as_slice(), expected);
+    Ok(())
+}
