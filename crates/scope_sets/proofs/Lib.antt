@@ -1,0 +1,4 @@
+pub mod SatisfyingLemmas
+pub mod OrderLemmas
+pub mod ExpressionLemmas
+pub mod LawLemmas
