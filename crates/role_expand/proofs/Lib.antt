@@ -1,0 +1,11 @@
+pub mod FillLemmas
+pub mod GrowthLemmas
+pub mod GivesLemmas
+pub mod ClosureLemmas
+pub mod PlaceLemmas
+pub mod EdgeLemmas
+pub mod LevelLemmas
+pub mod SetLemmas
+pub mod StarLemmas
+pub mod LengthLemmas
+pub mod RefusalLemmas

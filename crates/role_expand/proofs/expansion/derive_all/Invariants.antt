@@ -1,0 +1,11 @@
+use Rattle.std.proofs.Common.{◌-◌}
+use Rattle.role_expand.specs.Known.{known_data}
+use Rattle.role_expand.specs.declared.expansion.TheConstants.{MOST_SCOPES}
+use Rattle.role_expand.proofs.ClosureLemmas.{IsPartly}
+use Rattle.role_expand.proofs.expansion.derive_all.Given as goal
+
+abbrev pub invariant-loop-next : goal.invariant-loop-next
+invariant-loop-next l = IsPartly (known_data l.roles) l.start MOST_SCOPES l.found.items l.next
+
+abbrev pub decreases-loop-next : goal.decreases-loop-next
+decreases-loop-next l = MOST_SCOPES - l.next

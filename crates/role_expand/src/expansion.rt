@@ -1,0 +1,240 @@
+//! What is derived from scopes that are held: the steps of an expansion.
+ghost use Rattle.std.specs.Prelude.{◌≡◌, ℕ, ◌≤◌, ◌<◌, ◌^◌, ◌++◌, ◌∷◌, [], List, All, Contains, IfOk, MatchResult, MatchOption, ◌≢◌, string_bytes};
+ghost use Rattle.scope_sets.specs.Scopes.{IsPrintable};
+ghost use Rattle.role_expand.specs.Roles.{role_data, assume, HasHoleForm, HasRoleForm, FillsHole, Gives};
+ghost use Rattle.role_expand.specs.Closures.{GivenBy, IsAllDerivable, FailsToExpand};
+ghost use Rattle.role_expand.specs.Growth.{Gains, FailsToGain, IsFilledFrom, KeepsAfter, IsGrantedAsWritten, IsGrantedByFront, IsGrantedWithStar};
+ghost use Rattle.role_expand.specs.Known.{known_data};
+
+use crate::roles::KnownRole;
+use scope_sets::{LONGEST_SCOPE, Scope, satisfies};
+use std::alloc::{AllocError, AllocFailed, Global};
+
+/// The greatest number of scopes that a start list may expand to.
+pub const MOST_SCOPES: usize = 10_000;
+
+/// Why a start list was not expanded.
+#[derive(Clone, Copy, Debug, PartialEq, Eq)]
+pub enum ExpandFault {
+    /// More than `MOST_SCOPES` scopes are derivable.
+    TooMany,
+    NoMemory,
+}
+
+impl From<AllocError> for ExpandFault {
+    ghost use Rattle.std.specs.Prelude.{◌≡◌};
+    ghost use Rattle.role_expand.specs.declared.expansion.ExpandFault.{ExpandFault};
+
+    ghost from_gives = { λ _ fault. fault ≡ ExpandFault.NoMemory };
+
+    fn from(_error: AllocError) -> ExpandFault {
+        ExpandFault::NoMemory
+    }
+}
+
+impl<T: Drop> From<AllocFailed<T>> for ExpandFault {
+    ghost use Rattle.std.specs.Prelude.{◌≡◌};
+    ghost use Rattle.role_expand.specs.declared.expansion.ExpandFault.{ExpandFault};
+
+    ghost from_gives = { λ _ fault. fault ≡ ExpandFault.NoMemory };
+
+    fn from(_error: AllocFailed<T>) -> ExpandFault {
+        ExpandFault::NoMemory
+    }
+}
+
+/// Puts a scope at the end of those found so far, unless it is there.
+fn add(found: &mut Vec<Scope>, scope: Scope) -> Result<(), ExpandFault>
+    ensures { MatchResult result
+        (λ _. Gains MOST_SCOPES (λ s. s ≡ scope) found.old.items found.new.items)
+        (FailsToGain MOST_SCOPES (λ s. s ≡ scope) found.old.items) }
+{
+    if found.contains(&scope) {
+        return Ok(());
+    }
+    if found.len() >= MOST_SCOPES {
+        return Err(ExpandFault::TooMany);
+    }
+    found.push(scope)?;
+    Ok(())
+}
+
+/// Adds each of these scopes.
+pub(crate) fn add_all(found: &mut Vec<Scope>, scopes: &[Scope]) -> Result<(), ExpandFault>
+    ensures { MatchResult result
+        (λ _. Gains MOST_SCOPES (Contains scopes.now) found.old.items found.new.items)
+        (FailsToGain MOST_SCOPES (Contains scopes.now) found.old.items) }
+{
+    for scope in scopes {
+        add(found, scope.clone()?)?;
+    }
+    Ok(())
+}
+
+/// The scope with the parameter in place of `<..>`. What follows `<..>` is dropped where the parameter ends with `*`.
+fn fill(alloc: Global, scope: &Scope, parameter: &str) -> Result<Scope, AllocError>
+    requires { All IsPrintable parameter.now }
+    ensures { IfOk result (FillsHole parameter.now scope.now) }
+{
+    match scope.as_str().split_once("<..>") {
+        None => scope.clone(),
+        Some((before, after)) => {
+            let mut text = String::from_str(alloc, before)?;
+            text.push_str(parameter)?;
+            text.push_str(kept_after(parameter, after))?;
+            Ok(Scope::from_printable(text))
+        }
+    }
+}
+
+/// What stays of the text after `<..>`.
+fn kept_after<'a>(parameter: &str, after: &'a str) -> &'a str
+    ensures { KeepsAfter parameter.now after.now result.now }
+{
+    if parameter.ends_with('*') { "" } else { after }
+}
+
+/// Adds each of these scopes with the parameter in place of `<..>`.
+fn add_filled(
+    alloc: Global,
+    found: &mut Vec<Scope>,
+    scopes: &[Scope],
+    parameter: &str,
+) -> Result<(), ExpandFault>
+    requires printable { All IsPrintable parameter.now }
+    requires holes { All HasHoleForm scopes.now }
+    ensures { MatchResult result
+        (λ _. Gains MOST_SCOPES (IsFilledFrom scopes.now parameter.now) found.old.items found.new.items)
+        (FailsToGain MOST_SCOPES (IsFilledFrom scopes.now parameter.now) found.old.items) }
+{
+    for scope in scopes {
+        add(found, fill(alloc, scope, parameter)?)?;
+    }
+    Ok(())
+}
+
+/// The parameter with which `assume:`, this front and that parameter grant a role, if the scope is of that form.
+fn parameter_of<'a>(held: &'a str, front: &str) -> Option<&'a str>
+    ensures { MatchOption result ((parameter : List ℕ) → held.now ≢ assume ++ (front.now ++ parameter))
+        (λ parameter. held.now ≡ assume ++ (front.now ++ parameter.now)) }
+{
+    held.strip_prefix("assume:")?.strip_prefix(front)
+}
+
+/// Adds these scopes as written, if the held scope satisfies the one that grants them.
+fn add_as_written(
+    found: &mut Vec<Scope>,
+    scopes: &[Scope],
+    held: &Scope,
+    grant: &Scope,
+) -> Result<(), ExpandFault>
+    ensures { MatchResult result
+        (λ _. Gains MOST_SCOPES (IsGrantedAsWritten held.now grant.now scopes.now) found.old.items found.new.items)
+        (FailsToGain MOST_SCOPES (IsGrantedAsWritten held.now grant.now scopes.now) found.old.items) }
+{
+    if !satisfies(held, grant) {
+        return Ok(());
+    }
+    add_all(found, scopes)
+}
+
+/// Adds these scopes with what follows `assume:` and the front in the held scope, if it begins so.
+fn add_by_front(
+    alloc: Global,
+    found: &mut Vec<Scope>,
+    scopes: &[Scope],
+    held: &Scope,
+    front: &str,
+) -> Result<(), ExpandFault>
+    requires { All HasHoleForm scopes.now }
+    ensures { MatchResult result
+        (λ _. Gains MOST_SCOPES (IsGrantedByFront held.now front.now scopes.now) found.old.items found.new.items)
+        (FailsToGain MOST_SCOPES (IsGrantedByFront held.now front.now scopes.now) found.old.items) }
+{
+    match parameter_of(held.as_str(), front) {
+        None => Ok(()),
+        Some(parameter) => add_filled(alloc, found, scopes, parameter),
+    }
+}
+
+/// Adds these scopes with the parameter `*`, if the held scope satisfies the one that grants them.
+fn add_with_star(
+    alloc: Global,
+    found: &mut Vec<Scope>,
+    scopes: &[Scope],
+    held: &Scope,
+    grant: &Scope,
+) -> Result<(), ExpandFault>
+    requires { All HasHoleForm scopes.now }
+    ensures { MatchResult result
+        (λ _. Gains MOST_SCOPES (IsGrantedWithStar held.now grant.now scopes.now) found.old.items found.new.items)
+        (FailsToGain MOST_SCOPES (IsGrantedWithStar held.now grant.now scopes.now) found.old.items) }
+{
+    if !satisfies(held, grant) {
+        return Ok(());
+    }
+    add_filled(alloc, found, scopes, "*")
+}
+
+/// Adds all that a role gives to whoever has the held scope.
+pub(crate) fn add_given(
+    alloc: Global,
+    found: &mut Vec<Scope>,
+    known: &KnownRole,
+    held: &Scope,
+) -> Result<(), ExpandFault>
+    requires { HasRoleForm LONGEST_SCOPE (role_data known.now.role) }
+    ensures { MatchResult result
+        (λ _. Gains MOST_SCOPES (Gives (role_data known.now.role) held.now) found.old.items found.new.items)
+        (FailsToGain MOST_SCOPES (Gives (role_data known.now.role) held.now) found.old.items) }
+{
+    let scopes = known.role.scopes.as_slice();
+    match known.role.id.as_str().strip_suffix('*') {
+        None => add_as_written(found, scopes, held, &known.grant),
+        Some(front) => {
+            add_by_front(alloc, found, scopes, held, front)?;
+            add_with_star(alloc, found, scopes, held, &known.grant)
+        }
+    }
+}
+
+/// Adds all that the roles give to whoever has the held scope.
+fn add_given_by_all(
+    alloc: Global,
+    found: &mut Vec<Scope>,
+    roles: &[KnownRole],
+    held: &Scope,
+) -> Result<(), ExpandFault>
+    requires { All (HasRoleForm LONGEST_SCOPE) (known_data roles.now) }
+    ensures { MatchResult result
+        (λ _. Gains MOST_SCOPES (GivenBy (known_data roles.now) held.now) found.old.items found.new.items)
+        (FailsToGain MOST_SCOPES (GivenBy (known_data roles.now) held.now) found.old.items) }
+{
+    for known in roles {
+        add_given(alloc, found, known, held)?;
+    }
+    Ok(())
+}
+
+/// All scopes that are derived from the start list, in the order in which they are found: those of the list, and then, for each
+/// scope in turn, what the roles give to whoever has it.
+pub(crate) fn derive_all(
+    alloc: Global,
+    roles: &[KnownRole],
+    start: &[Scope],
+) -> Result<Vec<Scope>, ExpandFault>
+    requires { All (HasRoleForm LONGEST_SCOPE) (known_data roles.now) }
+    ensures { MatchResult result
+        (λ found. IsAllDerivable MOST_SCOPES (known_data roles.now) start.now found.items)
+        (FailsToExpand MOST_SCOPES (known_data roles.now) start.now) }
+{
+    let mut found = Vec::new(alloc);
+    add_all(&mut found, start)?;
+    let mut next = 0;
+    while next < found.len() {
+        let held = found[next].clone()?;
+        add_given_by_all(alloc, &mut found, roles, &held)?;
+        next += 1;
+    }
+    Ok(found)
+}

@@ -1,0 +1,104 @@
+ghost use Rattle.std.specs.Prelude.{◌≡◌, ℕ, All, IfOk, MatchResult, length};
+ghost use Rattle.role_expand.specs.Roles.{RoleData, role_data, roles_data, HasRoleForm};
+ghost use Rattle.role_expand.specs.Closures.{IsClosure, FailsToExpand};
+ghost use Rattle.role_expand.specs.Cycles.{IsAccepted};
+ghost use Rattle.role_expand.specs.Refusals.{Refuses};
+ghost use Rattle.role_expand.specs.Known.{known_data};
+
+use crate::cycles::first_cycle;
+use crate::expansion::{ExpandFault, MOST_SCOPES, derive_all};
+use crate::refusals::{BuildFault, first_bad_role, first_repeat};
+use crate::roles::{KnownRole, Role};
+use scope_sets::{LONGEST_SCOPE, Scope, ScopeSet};
+use std::alloc::{AllocError, Global};
+use std::marker::Model;
+
+/// A set of roles: each of its form, no id twice, and no cycle of parameter edges.
+///
+/// There is a parameter edge from a role `p*` to a role `q*` if a scope of the first has `<..>` and, of the text before it and
+/// `assume:q`, one begins with the other: what the first gives may then grant the second, with a longer parameter.
+#[derive(Debug, Drop)]
+pub struct RoleSet {
+    roles: Vec<KnownRole>,
+}
+
+impl Model for RoleSet {
+    ghost use Rattle.std.specs.Prelude.{List};
+    ghost use Rattle.scope_sets.specs.declared.scopes.TheConstants.{LONGEST_SCOPE};
+    ghost use Rattle.role_expand.specs.Roles.{RoleData};
+    ghost use Rattle.role_expand.specs.Cycles.{IsAccepted};
+    ghost use Rattle.role_expand.specs.Known.{known_data};
+
+    ghost Value = { List RoleData };
+
+    ghost view = { λ s. known_data s.roles.items };
+
+    ghost invariant = { λ s. IsAccepted LONGEST_SCOPE (known_data s.roles.items) };
+}
+
+impl RoleSet {
+    /// The set of these roles, unless it is refused.
+    pub fn build(alloc: Global, roles: Vec<Role>) -> Result<RoleSet, BuildFault>
+        ensures { MatchResult result
+            (λ set. (set ≡ roles_data roles.items) × IsAccepted LONGEST_SCOPE (roles_data roles.items))
+            (Refuses LONGEST_SCOPE (roles_data roles.items)) }
+    {
+        if let Some(place) = first_bad_role(&roles) {
+            return Err(BuildFault::BadRole(place));
+        }
+        if let Some((earlier, later)) = first_repeat(&roles) {
+            return Err(BuildFault::DuplicateRole(earlier, later));
+        }
+        if let Some(cycle) = first_cycle(alloc, &roles)? {
+            return Err(BuildFault::ParameterCycle(cycle));
+        }
+        Ok(RoleSet {
+            roles: know_all(alloc, roles)?,
+        })
+    }
+
+    /// The number of roles.
+    pub fn len(&self) -> usize
+        ensures { result ≡ length self.now }
+    {
+        self.roles.len()
+    }
+
+    /// All scopes that are derivable from the start list: those of the list, and what the roles give to whoever has one of them,
+    /// again and again.
+    ///
+    /// It follows each scope that it finds through all roles, and looks for each scope that they give among those found so far.
+    pub fn expand(&self, alloc: Global, start: &[Scope]) -> Result<ScopeSet, ExpandFault>
+        ensures closure { MatchResult result (IsClosure MOST_SCOPES self.now start.now)
+            (FailsToExpand MOST_SCOPES self.now start.now) }
+        ensures accepted { IsAccepted LONGEST_SCOPE self.now }
+    {
+        let found = derive_all(alloc, &self.roles, start)?;
+        Ok(ScopeSet::from_list(found))
+    }
+}
+
+/// The role with the scope that grants it.
+fn know(alloc: Global, role: Role) -> Result<KnownRole, AllocError>
+    requires { HasRoleForm LONGEST_SCOPE (role_data role) }
+    ensures { IfOk result (λ known. role_data known.role ≡ role_data role) }
+{
+    let mut grant = String::from_str(alloc, "assume:")?;
+    grant.push_str(role.id.as_str())?;
+    Ok(KnownRole {
+        role,
+        grant: Scope::from_printable(grant),
+    })
+}
+
+/// The roles, each with the scope that grants it.
+fn know_all(alloc: Global, roles: Vec<Role>) -> Result<Vec<KnownRole>, AllocError>
+    requires { All (HasRoleForm LONGEST_SCOPE) (roles_data roles.items) }
+    ensures { IfOk result (λ known. known_data known.items ≡ roles_data roles.items) }
+{
+    let mut known = Vec::new(alloc);
+    for role in roles {
+        known.push(know(alloc, role)?)?;
+    }
+    Ok(known)
+}
