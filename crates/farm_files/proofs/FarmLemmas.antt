@@ -1,0 +1,400 @@
+-- The first fault of a file.
+use Rattle.std.proofs.Common.{◌≡◌, ℕ, ◌<◌, ◌≤◌, inl, inr, true, false, List, [], length, take, get_or, map, Some, None, Option, option_map, Result, Ok, Err, refl, sym, ap, ◌∙◌, subst, arith}
+use Rattle.std.specs.Prelude.{codes, Any, slice_get, MatchResult, IsUtf8, nat_lt, ◌==◌, if◌then◌else◌}
+use Rattle.std.proofs.lemmas.Bool.{false≢true, cases_lt}
+use Rattle.std.proofs.lemmas.List.{length-map, length-take, take-map, get_or-take}
+use Rattle.std.proofs.lemmas.Option.{slice_get-map, slice_get_within, get_or_from_slice_get}
+use Rattle.role_expand.specs.Roles.{RoleData, HasRoleForm}
+use Rattle.role_expand.specs.Refusals.{IsFirstBadRole, IsFirstRepeat}
+use Rattle.toml.specs.Parse.{parse_document}
+use Rattle.toml.specs.Data.{Data, string, integer, float, boolean, datetime, array, table, Members, get_member}
+use Rattle.farm_files.specs.declared.fault.Table.{Table}
+use Rattle.farm_files.specs.declared.fault.Table.TheVariants.{File, Farm, Role}
+use Rattle.farm_files.specs.declared.fault.Rule.{Rule}
+use Rattle.farm_files.specs.declared.fault.Rule.TheVariants.{NotToml, UnknownKey, MissingKey, WrongKind, OutOfForm, RepeatedId, ParameterCycle, TooLong}
+use Rattle.farm_files.specs.declared.fault.Fault.{Fault}
+use Rattle.farm_files.specs.Faults.{rule_number, fault_at, turn, IsBefore, IsFirst, IsLeastRule}
+use Rattle.farm_files.specs.Values.{has_only, list_of}
+use Rattle.farm_files.specs.Rows.{HasRowForm, RowBreaks, RowAtBreaks, RowsBreak, LiesOnCycle, role_of, roles_in}
+use Rattle.farm_files.specs.Files.{table_names, FarmBreaks, farm_in, TablesBreak, IsToml, BytesBreak, Breaks}
+use Rattle.farm_files.specs.Parts.{IsFirstRow, IsFirstOnCycle, RefusesRows, RefusesCycle}
+use Rattle.farm_files.specs.declared.fault.FileFault.{FileFault}
+use Rattle.farm_files.specs.declared.fault.FileFault.TheVariants as faults
+use Rattle.farm_files.specs.declared.reading.FarmFile.{FarmFile}
+use Rattle.farm_files.specs.Farms.{FarmData, farm_data, farm_of, SaysTables, Says, Refuses, RefusesTables}
+
+role_turn : (r : Rule) → 4 ≤ turn Role r
+role_turn NotToml = omega arith
+role_turn UnknownKey = omega arith
+role_turn MissingKey = omega arith
+role_turn WrongKind = omega arith
+role_turn OutOfForm = omega arith
+role_turn RepeatedId = omega arith
+role_turn ParameterCycle = omega arith
+role_turn TooLong = omega arith
+
+row_turn : (r : Rule) → (r ≡ ParameterCycle → ⊥) → turn Role r ≡ 4
+row_turn NotToml h = refl
+row_turn UnknownKey h = refl
+row_turn MissingKey h = refl
+row_turn WrongKind h = refl
+row_turn OutOfForm h = refl
+row_turn RepeatedId h = refl
+row_turn ParameterCycle h = absurd (h refl)
+row_turn TooLong h = refl
+
+-- a later turn is not before
+later : (f g : Fault) → turn g.table g.rule < turn f.table f.rule → IsBefore f g → ⊥
+later f g lt (inl h) = absurd (omega arith)
+later f g lt (inr h) = absurd (omega (arith, h.0))
+
+row_no_cycle : (es : List RoleData) (i : ℕ) (d : Data) → RowBreaks es i d ParameterCycle → ⊥
+row_no_cycle es i (string s) h = h
+row_no_cycle es i (integer z) h = h
+row_no_cycle es i (float x) h = h
+row_no_cycle es i (boolean b) h = h
+row_no_cycle es i (datetime t) h = h
+row_no_cycle es i (array ds) h = h
+row_no_cycle es i (table ms) h = h
+
+wrong_cycle : WrongKind ≡ ParameterCycle → ⊥
+wrong_cycle e = absurd cc
+
+rows_no_cycle : (o : Option Data) (row : ℕ) → RowsBreak o row ParameterCycle → ⊥
+rows_no_cycle None row h = h
+rows_no_cycle (Some (string s)) row h = wrong_cycle (sym h.1)
+rows_no_cycle (Some (integer z)) row h = wrong_cycle (sym h.1)
+rows_no_cycle (Some (float x)) row h = wrong_cycle (sym h.1)
+rows_no_cycle (Some (boolean b)) row h = wrong_cycle (sym h.1)
+rows_no_cycle (Some (datetime t)) row h = wrong_cycle (sym h.1)
+rows_no_cycle (Some (array ds)) row h = row_no_cycle _ row h.0 h.2
+rows_no_cycle (Some (table ms)) row h = wrong_cycle (sym h.1)
+
+-- no rule of the file as a whole
+file_sound : (top : Members) (row : ℕ) (r : Rule) → has_only table_names top ≡ true → TablesBreak top File row r → ⊥
+file_sound top row NotToml only h = h
+file_sound top row UnknownKey only h = false≢true (sym h.1 ∙ only)
+file_sound top row MissingKey only h = h
+file_sound top row WrongKind only h = h
+file_sound top row OutOfForm only h = h
+file_sound top row RepeatedId only h = h
+file_sound top row ParameterCycle only h = h
+file_sound top row TooLong only h = h
+
+-- ---- the tables
+
+unknown_before : (top : Members) (t : Table) (row : ℕ) (r : Rule) → IsBefore (fault_at t row r) (fault_at File 0 UnknownKey) → TablesBreak top t row r → ⊥
+unknown_before top File row NotToml b h = h
+unknown_before top File row UnknownKey (inl lt) h = absurd (omega arith)
+unknown_before top File row UnknownKey (inr (e, inl lt)) h = absurd (omega arith)
+unknown_before top File row UnknownKey (inr (e, inr k)) h = absurd (omega (arith, k.1))
+unknown_before top File row MissingKey b h = h
+unknown_before top File row WrongKind b h = h
+unknown_before top File row OutOfForm b h = h
+unknown_before top File row RepeatedId b h = h
+unknown_before top File row ParameterCycle b h = h
+unknown_before top File row TooLong b h = h
+unknown_before top Farm row r b h = later (fault_at Farm row r) (fault_at File 0 UnknownKey) (omega arith) b
+unknown_before top Role row r b h = later (fault_at Role row r) (fault_at File 0 UnknownKey) (omega (arith, role_turn r)) b
+
+pub first_unknown : (top : Members) → has_only table_names top ≡ false → IsFirst (λ g. TablesBreak top g.table g.row g.rule) (fault_at File 0 UnknownKey)
+first_unknown top h = record { breaks = (refl, h); first = λ g b x. unknown_before top g.table g.row g.rule b x }
+
+farm_before : (top : Members) (rule : Rule) → has_only table_names top ≡ true → IsLeastRule (FarmBreaks (farm_in top)) rule
+    → (t : Table) (row : ℕ) (r : Rule) → IsBefore (fault_at t row r) (fault_at Farm 0 rule) → TablesBreak top t row r → ⊥
+farm_before top rule only least File row r b h = file_sound top row r only h
+farm_before top rule only least Farm row r (inl lt) h = absurd (omega arith)
+farm_before top rule only least Farm row r (inr (e, inl lt)) h = absurd (omega arith)
+farm_before top rule only least Farm row r (inr (e, inr k)) h = least.least r k.1 h.1
+farm_before top rule only least Role row r b h = later (fault_at Role row r) (fault_at Farm 0 rule) (omega (arith, role_turn r)) b
+
+pub first_farm : (top : Members) (rule : Rule) → has_only table_names top ≡ true → IsLeastRule (FarmBreaks (farm_in top)) rule
+    → IsFirst (λ g. TablesBreak top g.table g.row g.rule) (fault_at Farm 0 rule)
+first_farm top rule only least = record { breaks = (refl, least.breaks); first = λ g b x. farm_before top rule only least g.table g.row g.rule b x }
+
+module _ (top : Members) (only : has_only table_names top ≡ true) (farm : (rule : Rule) → ¬ FarmBreaks (farm_in top) rule) where
+  role_before : (f : Fault) → IsFirstRow (RowsBreak (get_member (codes "role") top)) f
+      → (t : Table) (row : ℕ) (r : Rule) → IsBefore (fault_at t row r) (fault_at Role f.row f.rule) → TablesBreak top t row r → ⊥
+  role_before f first File row r b h = file_sound top row r only h
+  role_before f first Farm row r b h = farm r h.1
+  role_before f first Role row r b (inr k) =
+      let mine : turn Role f.rule ≡ 4 = row_turn f.rule (λ e. rows_no_cycle (get_member (codes "role") top) f.row (subst (λ (x : Rule). RowsBreak (get_member (codes "role") top) f.row x) e first.breaks)) in
+      later (fault_at Role row r) (fault_at Role f.row f.rule) (omega (arith, mine, ap (turn Role) k.0)) b
+  role_before f first Role row r (inl lt) (inl h) =
+      let mine : turn Role f.rule ≡ 4 = row_turn f.rule (λ e. rows_no_cycle (get_member (codes "role") top) f.row (subst (λ (x : Rule). RowsBreak (get_member (codes "role") top) f.row x) e first.breaks)) in
+      absurd (omega (arith, mine, role_turn r))
+  role_before f first Role row r (inr (e, inl lt)) (inl h) = first.earlier row r lt h
+  role_before f first Role row r (inr (e, inr k)) (inl h) =
+      first.least r k.1 (subst (λ (n : ℕ). RowsBreak (get_member (codes "role") top) n r) k.0 h)
+
+  pub first_role : (f : Fault) → IsFirstRow (RowsBreak (get_member (codes "role") top)) f → IsFirst (λ g. TablesBreak top g.table g.row g.rule) f
+  first_role f first =
+      let is : fault_at Role f.row f.rule ≡ f = ap (λ (t : Table). fault_at t f.row f.rule) (sym first.role) in
+      subst (λ (x : Fault). IsFirst (λ g. TablesBreak top g.table g.row g.rule) x) is
+      record { breaks = inl first.breaks; first = λ g b x. role_before f first g.table g.row g.rule b x }
+
+  module _ (rows : (row : ℕ) (rule : Rule) → ¬ RowsBreak (get_member (codes "role") top) row rule) where
+    cycle_before : (f : Fault) → IsFirstOnCycle (roles_in (get_member (codes "role") top)) f
+        → (t : Table) (row : ℕ) (r : Rule) → IsBefore (fault_at t row r) (fault_at Role f.row ParameterCycle) → TablesBreak top t row r → ⊥
+    cycle_before f first File row r b h = file_sound top row r only h
+    cycle_before f first Farm row r b h = farm r h.1
+    cycle_before f first Role row r b (inl h) = rows row r h
+    cycle_before f first Role row r (inl lt) (inr k) = absurd (omega (arith, ap (turn Role) k.0))
+    cycle_before f first Role row r (inr (e, inl lt)) (inr k) = first.earlier row lt k.1
+    cycle_before f first Role row r (inr (e, inr q)) (inr k) = absurd (omega (arith, q.1, ap rule_number k.0))
+
+    pub first_cycle : (roles : List RoleData) (f : Fault) → roles ≡ roles_in (get_member (codes "role") top) → IsFirstOnCycle roles f → IsFirst (λ g. TablesBreak top g.table g.row g.rule) f
+    first_cycle roles f same on =
+        let first = subst (λ (rs : List RoleData). IsFirstOnCycle rs f) same on in
+        subst (λ (x : Fault). IsFirst (λ g. TablesBreak top g.table g.row g.rule) x) (sym first.is)
+        record { breaks = inr (refl, first.lies); first = λ g b x. cycle_before f first g.table g.row g.rule b x }
+
+    sound_at : ((row : ℕ) → ¬ LiesOnCycle (roles_in (get_member (codes "role") top)) row) → (t : Table) (row : ℕ) (r : Rule) → TablesBreak top t row r → ⊥
+    sound_at acyclic File row r h = file_sound top row r only h
+    sound_at acyclic Farm row r h = farm r h.1
+    sound_at acyclic Role row r (inl h) = rows row r h
+    sound_at acyclic Role row r (inr k) = acyclic row k.1
+
+    pub tables_sound : (roles : List RoleData) → roles ≡ roles_in (get_member (codes "role") top) → ((row : ℕ) → ¬ LiesOnCycle roles row) → (f : Fault) → ¬ TablesBreak top f.table f.row f.rule
+    tables_sound roles same acyclic f =
+        sound_at (subst (λ (rs : List RoleData). (row : ℕ) → ¬ LiesOnCycle rs row) same acyclic) f.table f.row f.rule
+
+-- ---- the bytes
+
+bytes_sound : (longest : ℕ) (bytes : List ℕ) (top : Members) → length bytes ≤ longest → IsToml bytes top → (r : Rule) → BytesBreak longest bytes r → ⊥
+bytes_sound longest bytes top le toml NotToml h = h top toml
+bytes_sound longest bytes top le toml UnknownKey h = h
+bytes_sound longest bytes top le toml MissingKey h = h
+bytes_sound longest bytes top le toml WrongKind h = h
+bytes_sound longest bytes top le toml OutOfForm h = h
+bytes_sound longest bytes top le toml RepeatedId h = h
+bytes_sound longest bytes top le toml ParameterCycle h = h
+bytes_sound longest bytes top le toml TooLong h = absurd (omega arith)
+
+some_members : (a b : Members) → Some a ≡ Some b → a ≡ b
+some_members a b e = cc
+
+pub toml_one : (bytes : List ℕ) (a b : Members) → IsToml bytes a → IsToml bytes b → a ≡ b
+toml_one bytes a b p q = some_members a b (sym p.members ∙ q.members)
+
+pub first_of_tables : (longest : ℕ) (bytes : List ℕ) (top : Members) (f : Fault) → length bytes ≤ longest → IsToml bytes top
+    → IsFirst (λ g. TablesBreak top g.table g.row g.rule) f → IsFirst (Breaks longest bytes) f
+first_of_tables longest bytes top f le toml h = record {
+  breaks = inr (top, toml, h.breaks);
+  first = λ g b x.
+      elim x [
+        | inl k ↦ bytes_sound longest bytes top le toml g.rule k.2
+        | inr k ↦ h.first g b (subst (λ (t : Members). TablesBreak t g.table g.row g.rule) (toml_one bytes k.0 top k.1 toml) k.2)
+      ];
+}
+
+pub sound_of_tables : (longest : ℕ) (bytes : List ℕ) (top : Members) → length bytes ≤ longest → IsToml bytes top
+    → ((f : Fault) → ¬ TablesBreak top f.table f.row f.rule) → (f : Fault) → ¬ Breaks longest bytes f
+sound_of_tables longest bytes top le toml h f (inl k) = bytes_sound longest bytes top le toml f.rule k.2
+sound_of_tables longest bytes top le toml h f (inr k) = h f (subst (λ (t : Members). TablesBreak t f.table f.row f.rule) (toml_one bytes k.0 top k.1 toml) k.2)
+
+turn_zero : (t : Table) (r : Rule) → turn t r ≡ 0 → rule_number r ≡ 9
+turn_zero File NotToml e = absurd (omega arith)
+turn_zero File UnknownKey e = absurd (omega arith)
+turn_zero File MissingKey e = absurd (omega arith)
+turn_zero File WrongKind e = absurd (omega arith)
+turn_zero File OutOfForm e = absurd (omega arith)
+turn_zero File RepeatedId e = absurd (omega arith)
+turn_zero File ParameterCycle e = absurd (omega arith)
+turn_zero File TooLong e = refl
+turn_zero Farm r e = absurd (omega arith)
+turn_zero Role r e = absurd (omega (arith, role_turn r))
+
+none_before_long : (g : Fault) → IsBefore g (fault_at File 0 TooLong) → ⊥
+none_before_long g (inl lt) = absurd (omega arith)
+none_before_long g (inr (e, inl lt)) = absurd (omega arith)
+none_before_long g (inr (e, inr k)) = absurd (omega (arith, k.1, turn_zero g.table g.rule e))
+
+pub first_long : (longest : ℕ) (bytes : List ℕ) → longest < length bytes → IsFirst (Breaks longest bytes) (fault_at File 0 TooLong)
+first_long longest bytes lt = record { breaks = inl (refl, refl, lt); first = λ g b x. none_before_long g b }
+
+toml_before : (longest : ℕ) (bytes : List ℕ) → length bytes ≤ longest → (t : Table) (row : ℕ) (r : Rule) → IsBefore (fault_at t row r) (fault_at File 0 NotToml)
+    → (t ≡ File) × (row ≡ 0) × BytesBreak longest bytes r → ⊥
+toml_before longest bytes le File row NotToml (inl lt) h = absurd (omega arith)
+toml_before longest bytes le File row NotToml (inr (e, inl lt)) h = absurd (omega arith)
+toml_before longest bytes le File row NotToml (inr (e, inr k)) h = absurd (omega (arith, k.1))
+toml_before longest bytes le Farm row NotToml b h = absurd (let e : Farm ≡ File = h.0 in cc)
+toml_before longest bytes le Role row NotToml b h = absurd (let e : Role ≡ File = h.0 in cc)
+toml_before longest bytes le t row UnknownKey b h = h.2
+toml_before longest bytes le t row MissingKey b h = h.2
+toml_before longest bytes le t row WrongKind b h = h.2
+toml_before longest bytes le t row OutOfForm b h = h.2
+toml_before longest bytes le t row RepeatedId b h = h.2
+toml_before longest bytes le t row ParameterCycle b h = h.2
+toml_before longest bytes le t row TooLong b h = absurd (omega (arith, h.2))
+
+pub first_not_toml : (longest : ℕ) (bytes : List ℕ) → length bytes ≤ longest → ((top : Members) → ¬ IsToml bytes top) → IsFirst (Breaks longest bytes) (fault_at File 0 NotToml)
+first_not_toml longest bytes le never = record {
+  breaks = inl (refl, refl, never);
+  first = λ g b x. elim x [ inl k ↦ toml_before longest bytes le g.table g.row g.rule b k | inr k ↦ never k.0 k.1 ];
+}
+
+-- ---- what sound rows rule out of their roles
+
+row_form : (es : List RoleData) (i : ℕ) (d : Data) → ((rule : Rule) → ¬ RowBreaks es i d rule) → ¬ (¬ HasRowForm i (role_of d))
+row_form es i (table ms) sound never = sound OutOfForm never
+row_form es i (string s) sound never = sound WrongKind tt
+row_form es i (integer z) sound never = sound WrongKind tt
+row_form es i (float x) sound never = sound WrongKind tt
+row_form es i (boolean b) sound never = sound WrongKind tt
+row_form es i (datetime t) sound never = sound WrongKind tt
+row_form es i (array ds) sound never = sound WrongKind tt
+
+row_apart : (es : List RoleData) (i : ℕ) (d : Data) → ((rule : Rule) → ¬ RowBreaks es i d rule) → ¬ Any (λ role. role.id ≡ (role_of d).id) es
+row_apart es i (table ms) sound found = sound RepeatedId found
+row_apart es i (string s) sound found = sound WrongKind tt
+row_apart es i (integer z) sound found = sound WrongKind tt
+row_apart es i (float x) sound found = sound WrongKind tt
+row_apart es i (boolean b) sound found = sound WrongKind tt
+row_apart es i (datetime t) sound found = sound WrongKind tt
+row_apart es i (array ds) sound found = sound WrongKind tt
+
+mapped : (o : Option Data) (r : RoleData) → option_map role_of o ≡ Some r → (d : Data) × (o ≡ Some d) × (role_of d ≡ r)
+mapped None r e = absurd cc
+mapped (Some d) r e = (d, refl, cc)
+
+role_at : (xs : List Data) (i : ℕ) (r : RoleData) → slice_get (map role_of xs) i ≡ Some r → (d : Data) × (slice_get xs i ≡ Some d) × (role_of d ≡ r)
+role_at xs i r e = mapped (slice_get xs i) r (sym (slice_get-map role_of xs i) ∙ e)
+
+list_forms : (xs : List Data) → ((row : ℕ) (rule : Rule) → ¬ RowAtBreaks xs row rule) → (place : ℕ) → ¬ IsFirstBadRole 4096 (map role_of xs) place
+list_forms xs sound place bad =
+    let at = role_at xs place bad.role bad.at in
+    row_form (map role_of (take place xs)) place at.0 (λ rule b. sound place rule (at.0, at.1, b))
+    (λ form. bad.bad (subst (λ (r : RoleData). HasRoleForm 4096 r) at.2 form.form))
+
+list_apart : (xs : List Data) → ((row : ℕ) (rule : Rule) → ¬ RowAtBreaks xs row rule) → (i j : ℕ) → ¬ IsFirstRepeat (map role_of xs) i j
+list_apart xs sound i j again =
+    let at = role_at xs j again.second again.at_j in
+    let within : j < length xs = slice_get_within xs j at.0 at.1 in
+    let lt : i < j = again.earlier in
+    let long : i < length (map role_of (take j xs)) = omega (arith, length-map (take j xs) role_of, length-take {A = Data}) in
+    let here : get_or (map role_of (take j xs)) i again.first ≡ again.first =
+    ap (λ (rs : List RoleData). get_or rs i again.first) (sym (take-map role_of j xs))
+    ∙ get_or-take j (map role_of xs) i again.first lt
+    ∙ get_or_from_slice_get (map role_of xs) i again.first again.first again.at_i in
+    row_apart (map role_of (take j xs)) j at.0 (λ rule b. sound j rule (at.0, at.1, b)) (i, again.first, long, here, again.same ∙ ap (λ (r : RoleData). r.id) (sym at.2))
+
+no_roles_forms : (place : ℕ) → ¬ IsFirstBadRole 4096 [] place
+no_roles_forms place bad = absurd (let e : None ≡ Some bad.role = bad.at in cc)
+
+no_roles_apart : (i j : ℕ) → ¬ IsFirstRepeat [] i j
+no_roles_apart i j again = absurd (let e : None ≡ Some again.first = again.at_i in cc)
+
+forms_in : (o : Option Data) → ((row : ℕ) (rule : Rule) → ¬ RowsBreak o row rule) → (place : ℕ) → ¬ IsFirstBadRole 4096 (roles_in o) place
+forms_in None sound = no_roles_forms
+forms_in (Some (array ds)) sound = list_forms (list_of ds) sound
+forms_in (Some (string s)) sound = no_roles_forms
+forms_in (Some (integer z)) sound = no_roles_forms
+forms_in (Some (float x)) sound = no_roles_forms
+forms_in (Some (boolean b)) sound = no_roles_forms
+forms_in (Some (datetime t)) sound = no_roles_forms
+forms_in (Some (table ms)) sound = no_roles_forms
+
+apart_in : (o : Option Data) → ((row : ℕ) (rule : Rule) → ¬ RowsBreak o row rule) → (i j : ℕ) → ¬ IsFirstRepeat (roles_in o) i j
+apart_in None sound = no_roles_apart
+apart_in (Some (array ds)) sound = list_apart (list_of ds) sound
+apart_in (Some (string s)) sound = no_roles_apart
+apart_in (Some (integer z)) sound = no_roles_apart
+apart_in (Some (float x)) sound = no_roles_apart
+apart_in (Some (boolean b)) sound = no_roles_apart
+apart_in (Some (datetime t)) sound = no_roles_apart
+apart_in (Some (table ms)) sound = no_roles_apart
+
+pub forms : (o : Option Data) (roles : List RoleData) → roles ≡ roles_in o → ((row : ℕ) (rule : Rule) → ¬ RowsBreak o row rule) → (place : ℕ) → ¬ IsFirstBadRole 4096 roles place
+forms o roles same sound = subst (λ (rs : List RoleData). (place : ℕ) → ¬ IsFirstBadRole 4096 rs place) (sym same) (forms_in o sound)
+
+pub apart : (o : Option Data) (roles : List RoleData) → roles ≡ roles_in o → ((row : ℕ) (rule : Rule) → ¬ RowsBreak o row rule) → (i j : ℕ) → ¬ IsFirstRepeat roles i j
+apart o roles same sound = subst (λ (rs : List RoleData). (i j : ℕ) → ¬ IsFirstRepeat rs i j) (sym same) (apart_in o sound)
+
+-- ---- results
+
+pub refuses_rows : (top : Members) → has_only table_names top ≡ true → ((rule : Rule) → ¬ FarmBreaks (farm_in top) rule) → (e : FileFault)
+    → RefusesRows (RowsBreak (get_member (codes "role") top)) e → RefusesTables top e
+refuses_rows top only farm (faults.Fault f) h = first_role top only farm f h
+refuses_rows top only farm faults.NoMemory h = tt
+
+pub refuses_cycle : (top : Members) → has_only table_names top ≡ true → ((rule : Rule) → ¬ FarmBreaks (farm_in top) rule) → ((row : ℕ) (rule : Rule) → ¬ RowsBreak (get_member (codes "role") top) row rule)
+    → (roles : List RoleData) → roles ≡ roles_in (get_member (codes "role") top) → (e : FileFault) → RefusesCycle roles e → RefusesTables top e
+refuses_cycle top only farm rows roles same (faults.Fault f) h = first_cycle top only farm rows roles f same h
+refuses_cycle top only farm rows roles same faults.NoMemory h = tt
+
+pub says_farm : (longest : ℕ) (bytes : List ℕ) (top : Members) → length bytes ≤ longest → IsToml bytes top → (r : Result FarmFile FileFault)
+    → MatchResult r (λ farm. SaysTables top (farm_data farm)) (RefusesTables top) → MatchResult r (λ farm. Says longest bytes (farm_data farm)) (Refuses longest bytes)
+says_farm longest bytes top le toml (Ok farm) h = record { sound = sound_of_tables longest bytes top le toml h.sound; top = top; toml = toml; said = h.said }
+says_farm longest bytes top le toml (Err (faults.Fault f)) h = first_of_tables longest bytes top f le toml h
+says_farm longest bytes top le toml (Err faults.NoMemory) h = tt
+
+pub never_toml : (bytes : List ℕ) → (IsUtf8 bytes → parse_document bytes ≡ None) → (top : Members) → ¬ IsToml bytes top
+never_toml bytes h top t = absurd (let e : None ≡ Some top = sym (h t.text) ∙ t.members in cc)
+
+-- ---- a fault is told once
+
+rule_at : ℕ → Rule
+rule_at n =
+    if n == 1 then NotToml else (if n == 2 then UnknownKey else (if n == 3 then MissingKey else (if n == 4 then WrongKind else
+    (if n == 5 then OutOfForm else (if n == 6 then RepeatedId else (if n == 7 then ParameterCycle else TooLong))))))
+
+rule_at-number : (r : Rule) → rule_at (rule_number r) ≡ r
+unfolding rule_at
+rule_at-number NotToml = refl
+rule_at-number UnknownKey = refl
+rule_at-number MissingKey = refl
+rule_at-number WrongKind = refl
+rule_at-number OutOfForm = refl
+rule_at-number RepeatedId = refl
+rule_at-number ParameterCycle = refl
+rule_at-number TooLong = refl
+
+table_at : ℕ → Table
+table_at n = if nat_lt n 3 then File else (if nat_lt n 4 then Farm else Role)
+
+table_at-turn : (t : Table) (r : Rule) → table_at (turn t r) ≡ t
+unfolding table_at
+table_at-turn File NotToml = refl
+table_at-turn File UnknownKey = refl
+table_at-turn File MissingKey = refl
+table_at-turn File WrongKind = refl
+table_at-turn File OutOfForm = refl
+table_at-turn File RepeatedId = refl
+table_at-turn File ParameterCycle = refl
+table_at-turn File TooLong = refl
+table_at-turn Farm r = refl
+table_at-turn Role NotToml = refl
+table_at-turn Role UnknownKey = refl
+table_at-turn Role MissingKey = refl
+table_at-turn Role WrongKind = refl
+table_at-turn Role OutOfForm = refl
+table_at-turn Role RepeatedId = refl
+table_at-turn Role ParameterCycle = refl
+table_at-turn Role TooLong = refl
+
+level : (m n : ℕ) → ¬ (m < n) → ¬ (n < m) → m ≡ n
+level m n a b =
+    elim (cases_lt m n) [
+      | inl lt ↦ absurd (a lt)
+      | inr le ↦ elim (cases_lt n m) [ inl lt ↦ absurd (b lt) | inr ge ↦ omega arith ]
+    ]
+
+fault_is : (f g : Fault) → f.table ≡ g.table → f.row ≡ g.row → f.rule ≡ g.rule → f ≡ g
+fault_is f g t n r =
+    ap (λ (x : Table). fault_at x f.row f.rule) t ∙ ap (λ (x : ℕ). fault_at g.table x f.rule) n ∙ ap (λ (x : Rule). fault_at g.table g.row x) r
+
+-- two faults of which neither is before the other are one
+neither : (f g : Fault) → ¬ IsBefore f g → ¬ IsBefore g f → f ≡ g
+neither f g a b =
+    let turns : turn f.table f.rule ≡ turn g.table g.rule = level _ _ (λ lt. a (inl lt)) (λ lt. b (inl lt)) in
+    let rows : f.row ≡ g.row = level _ _ (λ lt. a (inr (turns, inl lt))) (λ lt. b (inr (sym turns, inl lt))) in
+    let rules : rule_number f.rule ≡ rule_number g.rule = level _ _ (λ lt. a (inr (turns, inr (rows, lt)))) (λ lt. b (inr (sym turns, inr (sym rows, lt)))) in
+    fault_is f g (sym (table_at-turn f.table f.rule) ∙ ap table_at turns ∙ table_at-turn g.table g.rule) rows
+    (sym (rule_at-number f.rule) ∙ ap rule_at rules ∙ rule_at-number g.rule)
+
+pub first_one : (P : Fault → Type 0) (f g : Fault) → IsFirst P f → IsFirst P g → f ≡ g
+first_one P f g p q = neither f g (λ before. q.first f before p.breaks) (λ before. p.first g before q.breaks)
+
+pub says_one : (longest : ℕ) (bytes : List ℕ) (a b : FarmData) → Says longest bytes a → Says longest bytes b → a ≡ b
+says_one longest bytes a b p q = p.said ∙ ap farm_of (toml_one bytes p.top q.top p.toml q.toml) ∙ sym q.said

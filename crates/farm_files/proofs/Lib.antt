@@ -1,0 +1,4 @@
+pub mod ValueLemmas
+pub mod RuleLemmas
+pub mod RowLemmas
+pub mod FarmLemmas

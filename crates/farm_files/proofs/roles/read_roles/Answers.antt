@@ -1,0 +1,37 @@
+use Rattle.std.proofs.Common.{◌≡◌, ℕ, ◌≤◌, List, Some, None, Option, map, sym, ap, ◌∙◌, subst, arith, vec_len}
+use Rattle.std.specs.Prelude.{MatchResult, codes}
+use Rattle.role_expand.specs.Roles.{roles_data}
+use Rattle.toml.specs.Data.{Data, array, get_member}
+use Rattle.toml.specs.View.{view, items_of, table_view}
+use Rattle.toml.specs.declared.value.Value.{Value}
+use Rattle.toml.proofs.Views.{table_get}
+use Rattle.farm_files.specs.declared.fault.Table.TheVariants.{Role}
+use Rattle.farm_files.specs.declared.fault.Rule.{Rule}
+use Rattle.farm_files.specs.declared.fault.Rule.TheVariants.{WrongKind}
+use Rattle.farm_files.specs.Faults.{fault_at}
+use Rattle.farm_files.specs.Rows.{RowAtBreaks, RowsBreak, role_of, roles_in}
+use Rattle.farm_files.specs.Parts.{IsFirstRow, RefusesRows}
+use Rattle.farm_files.proofs.ValueLemmas.{list_of-items}
+use Rattle.farm_files.proofs.RowLemmas.{array_is, rows_none, no_array}
+use Rattle.farm_files.proofs.roles.read_roles.Goals as goal
+
+pub returns-in-None : goal.returns-in-None
+returns-in-None c =
+    let e = table_get None (codes "role") c.args.top.now.entries c.in-None.ensures.value in
+    (rows_none (get_member (codes "role") (table_view c.args.top.now)) e, ap roles_data c.new.ensures.items ∙ ap roles_in e, omega (arith, c.new.ensures.len))
+
+pub returns-in-Some-as_array : goal.returns-in-Some-as_array
+returns-in-Some-as_array c =
+    let vs = c.deref.result.now in
+    let P : Option Data → Type 0 = λ o. MatchResult c.read_rows.result (λ roles. ((row : ℕ) (rule : Rule) → ¬ RowsBreak o row rule) × (roles_data roles.items ≡ roles_in o) × (vec_len roles ≤ 10000)) (RefusesRows (RowsBreak o)) in
+    let Q : List Data → Type 0 = λ xs. MatchResult c.read_rows.result (λ roles. ((row : ℕ) (rule : Rule) → ¬ RowAtBreaks xs row rule) × (roles_data roles.items ≡ map role_of xs) × (vec_len roles ≤ 10000)) (RefusesRows (RowAtBreaks xs)) in
+    let e : Some (array (items_of (map view vs))) ≡ get_member (codes "role") (table_view c.args.top.now) =
+    ap (λ (us : List Value). Some (array (items_of (map view us)))) c.deref.ensures.value
+    ∙ ap (λ (d : Data). Some d) (sym (array_is (view c.in-Some.value.now) _ c.in-Some-as_array.ensures))
+    ∙ table_get (Some c.in-Some.value) (codes "role") c.args.top.now.entries c.in-Some.ensures.value in
+    subst P e (subst Q (sym (list_of-items vs)) c.read_rows.ensures)
+
+pub returns-in-None-as_array : goal.returns-in-None-as_array
+returns-in-None-as_array c =
+    let e = table_get (Some c.in-Some.value) (codes "role") c.args.top.now.entries c.in-Some.ensures.value in
+    rw c.at.ensures (subst (λ (o : Option Data). IsFirstRow (RowsBreak o) (fault_at Role 0 WrongKind)) e (no_array (view c.in-Some.value.now) c.in-None-as_array.ensures))

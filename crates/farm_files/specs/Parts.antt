@@ -1,0 +1,70 @@
+-- What the parts of the reader tell one another: all of it follows from the definitions of a file's faults.
+use Rattle.std.specs.Prelude.{◌≡◌, ℕ, ◌<◌, true, false, List, [], All, Some}
+use Rattle.scope_sets.specs.Scopes.{IsPrintable}
+use Rattle.role_expand.specs.Roles.{RoleData}
+use Rattle.toml.specs.Data.{Data, Members}
+use Rattle.farm_files.specs.declared.fault.Table.TheVariants.{Role}
+use Rattle.farm_files.specs.declared.fault.Rule.{Rule}
+use Rattle.farm_files.specs.declared.fault.Rule.TheVariants.{UnknownKey, MissingKey, WrongKind, OutOfForm, ParameterCycle}
+use Rattle.farm_files.specs.declared.fault.Fault.{Fault}
+use Rattle.farm_files.specs.declared.fault.RowFault.{RowFault}
+use Rattle.farm_files.specs.declared.fault.RowFault.TheVariants as rows
+use Rattle.farm_files.specs.declared.fault.FileFault.{FileFault}
+use Rattle.farm_files.specs.declared.fault.FileFault.TheVariants as faults
+use Rattle.farm_files.specs.Faults.{rule_number, fault_at}
+use Rattle.farm_files.specs.Values.{has_only, is_text, are_texts, text_or, texts_in}
+use Rattle.farm_files.specs.Rows.{role_keys, HasRoleKeys, HasRoleKinds, role_in, LiesOnCycle}
+
+-- the role that two values say
+abbrev pub role_by : Data → Data → RoleData
+role_by id scopes = record { id = text_or [] (Some id); scopes = texts_in (Some scopes) }
+
+-- two values are those of a role, in printable ASCII
+pub record AreRoleValues (id scopes : Data) : Type 0 where
+  pub id_kind : is_text id ≡ true
+  pub scopes_kind : are_texts scopes ≡ true
+  pub printable : All (All IsPrintable) (texts_in (Some scopes))
+
+abbrev pub RefusesValues : Data → Data → RowFault → Type 0
+RefusesValues id scopes (rows.Breaks WrongKind) = ¬ ((is_text id ≡ true) × (are_texts scopes ≡ true))
+RefusesValues id scopes (rows.Breaks OutOfForm) =
+    (is_text id ≡ true) × (are_texts scopes ≡ true) × (¬ All (All IsPrintable) (texts_in (Some scopes)))
+RefusesValues id scopes (rows.Breaks _) = ⊥
+RefusesValues id scopes rows.NoMemory = Unit {0}
+
+-- the keys of a row say a role, whatever its form
+pub record HasRole (ms : Members) : Type 0 where
+  pub only : has_only role_keys ms ≡ true
+  pub keys : HasRoleKeys ms
+  pub kinds : HasRoleKinds ms
+  pub printable : All (All IsPrintable) (role_in ms).scopes
+
+abbrev pub RefusesKeys : Members → RowFault → Type 0
+RefusesKeys ms (rows.Breaks UnknownKey) = has_only role_keys ms ≡ false
+RefusesKeys ms (rows.Breaks MissingKey) = (has_only role_keys ms ≡ true) × (¬ HasRoleKeys ms)
+RefusesKeys ms (rows.Breaks WrongKind) = (has_only role_keys ms ≡ true) × HasRoleKeys ms × (¬ HasRoleKinds ms)
+RefusesKeys ms (rows.Breaks OutOfForm) =
+    (has_only role_keys ms ≡ true) × HasRoleKeys ms × HasRoleKinds ms × (¬ All (All IsPrintable) (role_in ms).scopes)
+RefusesKeys ms (rows.Breaks _) = ⊥
+RefusesKeys ms rows.NoMemory = Unit {0}
+
+-- the first row of those that break a rule, and its least rule
+pub record IsFirstRow (Breaks : ℕ → Rule → Type 0) (f : Fault) : Type 0 where
+  pub role : f.table ≡ Role
+  pub breaks : Breaks f.row f.rule
+  pub earlier : (row : ℕ) (rule : Rule) → row < f.row → ¬ Breaks row rule
+  pub least : (rule : Rule) → rule_number rule < rule_number f.rule → ¬ Breaks f.row rule
+
+abbrev pub RefusesRows : (ℕ → Rule → Type 0) → FileFault → Type 0
+RefusesRows Breaks (faults.Fault f) = IsFirstRow Breaks f
+RefusesRows Breaks faults.NoMemory = Unit {0}
+
+-- the first role that lies on a cycle
+pub record IsFirstOnCycle (roles : List RoleData) (f : Fault) : Type 0 where
+  pub is : f ≡ fault_at Role f.row ParameterCycle
+  pub lies : LiesOnCycle roles f.row
+  pub earlier : (row : ℕ) → row < f.row → ¬ LiesOnCycle roles row
+
+abbrev pub RefusesCycle : List RoleData → FileFault → Type 0
+RefusesCycle roles (faults.Fault f) = IsFirstOnCycle roles f
+RefusesCycle roles faults.NoMemory = Unit {0}

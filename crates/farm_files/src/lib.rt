@@ -1,0 +1,33 @@
+//! The farm file: what a build farm is configured by, in TOML, read whole or refused by the first rule that it breaks.
+//!
+//! A farm file has an optional table `[farm]` and any number of tables `[[role]]`:
+//!
+//! ```toml
+//! [farm]
+//! host = "localhost"       # 1 to 255 printable ASCII bytes
+//! port = 8080              # 1 to 65535
+//! claim_timeout = 1200     # seconds, 1 to 86400
+//! max_tasks = 1000000      # 1 to 1000000
+//!
+//! [[role]]                 # at most 10,000 of them
+//! id = "anonymous"         # 1 to 4096 printable ASCII bytes
+//! scopes = ["queue:*"]     # each at most 4096 printable ASCII bytes, not ending with `**`
+//! ```
+//!
+//! The values shown of `[farm]` are those of a key that is left out.
+#![tactic(auto)]
+
+mod fault;
+pub mod laws;
+mod reading;
+mod roles;
+mod settings;
+mod values;
+
+pub use fault::{Fault, FileFault, Rule, Table};
+pub use reading::{FarmFile, LONGEST_FILE, read_farm};
+pub use roles::MOST_ROLES;
+pub use settings::{LONGEST_HOST, Settings};
+
+#[cfg(test)]
+mod tests;

@@ -1,0 +1,127 @@
+use super::*;
+use std::alloc::Global;
+use std::test::Fail;
+
+fn first_fault(alloc: Global, text: &str) -> Option<Fault> {
+    match read_farm(alloc, text.as_bytes()) {
+        Err(FileFault::Fault(fault)) => Some(fault),
+        _ => None,
+    }
+}
+
+fn at(table: Table, row: u32, rule: Rule) -> Option<Fault> {
+    Some(Fault { table, row, rule })
+}
+
+#[test]
+fn faults_of_the_file(rt: HostRuntime) -> Result<(), Fail> {
+    let alloc = rt.alloc();
+    assert_eq!(rt;
+        first_fault(alloc, "farm"),
+        at(Table::File, 0, Rule::NotToml)
+    );
+    assert_eq!(rt;
+        first_fault(alloc, "[client]"),
+        at(Table::File, 0, Rule::UnknownKey)
+    );
+    assert_eq!(rt;
+        first_fault(alloc, "x = 1"),
+        at(Table::File, 0, Rule::UnknownKey)
+    );
+    assert_eq!(rt; Rule::NotToml.number(), 1);
+    assert_eq!(rt; Rule::TooLong.number(), 9);
+    Ok(())
+}
+
+#[test]
+fn faults_of_the_farm(rt: HostRuntime) -> Result<(), Fail> {
+    let alloc = rt.alloc();
+    assert_eq!(rt;
+        first_fault(alloc, "farm = { port = 0, x = 1 }"),
+        at(Table::Farm, 0, Rule::UnknownKey)
+    );
+    assert_eq!(rt;
+        first_fault(alloc, "farm = 1"),
+        at(Table::Farm, 0, Rule::WrongKind)
+    );
+    assert_eq!(rt;
+        first_fault(alloc, "farm.port = 0"),
+        at(Table::Farm, 0, Rule::OutOfForm)
+    );
+    assert_eq!(rt;
+        first_fault(alloc, "farm.host = ''"),
+        at(Table::Farm, 0, Rule::OutOfForm)
+    );
+    Ok(())
+}
+
+#[test]
+fn faults_of_roles(rt: HostRuntime) -> Result<(), Fail> {
+    let alloc = rt.alloc();
+    assert_eq!(rt;
+        first_fault(alloc, "[role]"),
+        at(Table::Role, 0, Rule::WrongKind)
+    );
+    assert_eq!(rt;
+        first_fault(alloc, "role = [{ id = 'a' }]"),
+        at(Table::Role, 0, Rule::MissingKey)
+    );
+    assert_eq!(rt;
+        first_fault(alloc, "role = [{ id = 'a', scopes = ['b**'] }]"),
+        at(Table::Role, 0, Rule::OutOfForm)
+    );
+    assert_eq!(rt;
+        first_fault(
+            alloc,
+            "role = [{ id = 'a', scopes = [] }, { id = 'a', scopes = [] }]"
+        ),
+        at(Table::Role, 1, Rule::RepeatedId)
+    );
+    assert_eq!(rt;
+        first_fault(
+            alloc,
+            "role = [{ id = 'b', scopes = [] }, { id = 'a*', scopes = ['assume:aa<..>'] }]"
+        ),
+        at(Table::Role, 1, Rule::ParameterCycle)
+    );
+    Ok(())
+}
+
+#[test]
+fn a_file_too_long(rt: HostRuntime) -> Result<(), Fail> {
+    let alloc = rt.alloc();
+    let spaces = vec![in alloc; b' '; LONGEST_FILE + 1]?;
+    assert_eq!(rt;
+        read_farm(alloc, &spaces).err(),
+        Some(FileFault::Fault(Fault {
+            table: Table::File,
+            row: 0,
+            rule: Rule::TooLong
+        }))
+    );
+    Ok(())
+}
+
+#[test]
+fn an_empty_file(rt: HostRuntime) -> Result<(), Fail> {
+    let farm = read_farm(rt.alloc(), b"").ok().ok_or("an empty file")?;
+    assert_eq!(rt; farm.settings.host.as_str(), "localhost");
+    assert_eq!(rt; farm.settings.port, 8080);
+    assert_eq!(rt; farm.settings.claim_timeout, 1200);
+    assert_eq!(rt; farm.settings.max_tasks, 1_000_000);
+    assert_eq!(rt; farm.roles.len(), 0);
+    Ok(())
+}
+
+#[test]
+fn a_whole_file(rt: HostRuntime) -> Result<(), Fail> {
+    let text =
+        "[farm]\nhost = 'farm.example'\nport = 443\n[[role]]\nid = 'anonymous'\nscopes = ['queue:*', 'queue:*']\n";
+    let farm = read_farm(rt.alloc(), text.as_bytes())
+        .ok()
+        .ok_or("a whole file")?;
+    assert_eq!(rt; farm.settings.host.as_str(), "farm.example");
+    assert_eq!(rt; farm.settings.port, 443);
+    assert_eq!(rt; farm.roles.len(), 1);
+    Ok(())
+}
