@@ -1,0 +1,12 @@
+//! Lists of scopes as text, one scope a line.
+//!
+//! A line ends with a line feed. A last line without one counts where it is not empty. An empty line is the empty scope.
+#![tactic(auto)]
+
+pub mod laws;
+mod lines;
+
+pub use lines::{LineFault, read_scopes, write_scopes};
+
+#[cfg(test)]
+mod tests;
