@@ -1,0 +1,346 @@
+-- Which words are read as a command.
+use Rattle.std.proofs.Common.{◌≡◌, ◌⊎◌, ◌∙◌, Bool, true, false, suc, cond, refl, sym, ap, subst, arith, inl, inr, List, [], ◌∷◌, Option, Some, None, codes, length}
+use Rattle.std.specs.Prelude.{◌==◌, ◌||◌, IsUtf8, drop, encode_utf8}
+use Rattle.std.specs.List.{All}
+use Rattle.std.proofs.lemmas.Bool.{ne_eqb}
+use Rattle.std.proofs.lemmas.Slice.Eq.{bytes_eq-Decides}
+use Rattle.std.specs.Str.{bytes_eq}
+use Rattle.clap.specs.Words.{App, Kinds, Rule, Shape, Text, built, fault_of}
+use Rattle.clap.specs.Faults.{bundle_step_fault, entered_fault, flags_fault, level_fault, long_fault, react_fault, settle_fault, short_fault, turn_fault, use_fault, walk_fault, word_fault}
+use Rattle.clap.specs.Lexer.{name_and_value}
+use Rattle.clap.specs.Kinds.{or_else}
+use Rattle.clap.specs.Simple.{argument_words, built_leaf, filled, help_rule, inherited, names_of}
+use Rattle.clap.specs.Walk.{Held, Names, Walk, idle, is_empty, nothing_held, reacted, settled, walk_from, walked}
+use Rattle.clap.proofs.OnLiterals.{clap_on_literals}
+use Rattle.clap.specs.declared.error.ErrorKind.TheVariants.{UnknownArgument, InvalidSubcommand}
+use Rattle.command_line.proofs.FlagLemmas.{IsFlag, value_cases, word_kind}
+use Rattle.command_line.proofs.LawLemmas.{answer_stops, check_stops, empty_read, expand_stops, fails_below, help_first, no_reading, other_first}
+use Rattle.command_line.specs.Forms.{GivesValue, IsValue, SaysCommand}
+use Rattle.command_line.specs.Words.{IsPlain, farm_app, reading, with_farm}
+use Rattle.command_line.specs.declared.command.Command.{Command}
+use Rattle.command_line.specs.declared.command.Command.TheVariants.{Answer, Expand, Check}
+
+none_some : (command : Command) → None ≡ Some command → ⊥
+none_some command e = cc
+
+-- ---- faults
+
+or_left : (a b : Kinds) → is_empty a ≡ false → is_empty (or_else a b) ≡ false
+or_left [] b e = cc
+or_left (k ∷ ks) b e = e
+
+or_right : (a b : Kinds) → is_empty b ≡ false → is_empty (or_else a b) ≡ false
+or_right [] b e = e
+or_right (k ∷ ks) b e = is_some_kind k ks
+  where
+    is_some_kind : (k : _) (ks : Kinds) → is_empty (k ∷ ks) ≡ false
+    is_some_kind k ks = ne_eqb _ _ (λ same. omega arith)
+
+abbrev help : Rule
+help = filled help_rule
+
+long_flag : (c : List Rule) (b : Bool) (v : Option Text) (h : Held) → is_empty (long_fault c false (cond b (Some help) None) v h) ≡ false
+long_flag c true (Some v) h = refl
+long_flag c true None h = or_right (settle_fault c false h) (use_fault false help [] (settled c h).rows) refl
+long_flag c false v h = refl
+
+short_flag : (c : List Rule) (b : Bool) (rest : Text) (h : Held) (next : Held → Kinds) → is_empty (short_fault c false (cond b (Some help) None) rest h next) ≡ false
+short_flag c true rest h next =
+    or_left (react_fault c false help [] h) (next (reacted c help [] h)) (or_right (settle_fault c false h) (use_fault false help [] (settled c h).rows) refl)
+short_flag c false rest h next = refl
+
+-- ---- a command's own words
+
+abbrev leaf : Text → Shape
+leaf name = built_leaf (inherited farm_app.top (with_farm name).top)
+
+abbrev leaf_faults : Text → List Text → Kinds
+leaf_faults name words = level_fault (leaf name) [] nothing_held words false []
+
+two_values : (name f g : Text) (more : List Text) → IsValue f → IsValue g → leaf_faults name (f ∷ g ∷ more) ≡ UnknownArgument ∷ []
+unfolding clap_on_literals
+two_values name f g more v w =
+    value_cases (λ a. leaf_faults name (a ∷ g ∷ more) ≡ UnknownArgument ∷ [])
+    (value_cases (λ b. leaf_faults name ([] ∷ b ∷ more) ≡ UnknownArgument ∷ []) refl refl (λ y ys e. simp e) g w)
+    (value_cases (λ b. leaf_faults name ((45 ∷ []) ∷ b ∷ more) ≡ UnknownArgument ∷ []) refl refl (λ y ys e. simp e) g w)
+    (λ x xs d. value_cases (λ b. leaf_faults name ((x ∷ xs) ∷ b ∷ more) ≡ UnknownArgument ∷ []) (simp d) (simp d) (λ y ys e. simp (d, e)) g w)
+    f v
+
+value_dashes_word : (name f u : Text) (more : List Text) → IsValue f → leaf_faults name (f ∷ codes "--" ∷ u ∷ more) ≡ UnknownArgument ∷ []
+unfolding clap_on_literals
+value_dashes_word name f u more v =
+    value_cases (λ a. leaf_faults name (a ∷ codes "--" ∷ u ∷ more) ≡ UnknownArgument ∷ []) refl refl (λ x xs d. simp d) f v
+
+dashes_two_words : (name v u : Text) (more : List Text) → leaf_faults name (codes "--" ∷ v ∷ u ∷ more) ≡ UnknownArgument ∷ []
+unfolding clap_on_literals
+dashes_two_words name v u more = refl
+
+no_value : (name : Text) → is_empty (leaf_faults name []) ≡ false
+unfolding clap_on_literals
+no_value name = refl
+
+dashes_no_value : (name : Text) → is_empty (leaf_faults name (codes "--" ∷ [])) ≡ false
+unfolding clap_on_literals
+dashes_no_value name = refl
+
+-- ---- where a word fails, the words fail
+
+level_fails : (s : Shape) (names : Names) (words : List Text) (b : Bool) (below : Kinds) → is_empty (walk_fault s names (walk_from nothing_held) words) ≡ false
+    → is_empty (level_fault s names nothing_held words b below) ≡ false
+level_fails s names words b below fails = or_left (walk_fault s names (walk_from nothing_held) words) _ fails
+
+first_fails : (s : Shape) (names : Names) (w : Walk) (word : Text) (rest : List Text) → w.stopped ≡ None → is_empty (word_fault s names w.is_trailing w.waiting word w.held) ≡ false
+    → is_empty (walk_fault s names w (word ∷ rest)) ≡ false
+unfolding walk_fault
+first_fails s names w word rest goes fails =
+    let turn : is_empty (turn_fault s names w word) ≡ false = simp goes (or_left (word_fault s names w.is_trailing w.waiting word w.held) _ fails) in
+    or_left (turn_fault s names w word) (walk_fault s names (walked s.rules names w word) rest) turn
+
+rest_fails : (s : Shape) (names : Names) (w : Walk) (word : Text) (rest : List Text) → is_empty (walk_fault s names (walked s.rules names w word) rest) ≡ false
+    → is_empty (walk_fault s names w (word ∷ rest)) ≡ false
+unfolding walk_fault
+rest_fails s names w word rest fails = or_right (turn_fault s names w word) (walk_fault s names (walked s.rules names w word) rest) fails
+
+-- ---- flags
+
+abbrev held : Option (Text × List Text) → Held
+held pending = record { rows = []; pending = pending; skip = 0 }
+
+leaf_flag : (name : Text) (pending : Option (Text × List Text)) (w : Text) → IsFlag w → is_empty (word_fault (leaf name) [] false idle w (held pending)) ≡ false
+unfolding clap_on_literals
+leaf_flag name pending w (inl p) =
+    let met = name_and_value (p.0 ∷ p.1) in
+    subst (λ a. is_empty (word_fault (leaf name) [] false idle a (held pending)) ≡ false) (sym p.2)
+    (long_flag (leaf name).rules (bytes_eq (codes "help") met.0 || false) met.1 (held pending))
+leaf_flag name pending w (inr p) =
+    let flags : Text = p.0 ∷ p.1 in
+    let next = flags_fault (leaf name).rules false (length p.1) in
+    let rest : Text = drop (length (encode_utf8 p.2)) flags in
+    subst (λ a. is_empty (word_fault (leaf name) [] false idle a (held pending)) ≡ false) (sym p.3) (simp p.4
+    (subst (λ o. is_empty (bundle_step_fault (leaf name).rules false o flags 0 (held pending) next) ≡ false) (sym p.5)
+    (short_flag (leaf name).rules (104 == p.2 || false) rest (held pending) (next rest 0))))
+
+pub flag_first : (name w : Text) (more : List Text) → IsFlag w → is_empty (leaf_faults name (w ∷ more)) ≡ false
+flag_first name w more flag =
+    level_fails (leaf name) [] (w ∷ more) false [] (first_fails (leaf name) [] (walk_from nothing_held) w more refl (leaf_flag name None w flag))
+
+abbrev after_value : Text → Walk
+after_value f = record { held = held (Some (codes "FARM", f ∷ [])); waiting = idle; position = 2; is_trailing = false; stopped = None }
+
+value_walked : (name f : Text) → IsValue f → walked (leaf name).rules [] (walk_from nothing_held) f ≡ after_value f
+unfolding clap_on_literals
+value_walked name f v = value_cases (λ a. walked (leaf name).rules [] (walk_from nothing_held) a ≡ after_value a) refl refl (λ x xs e. simp e) f v
+
+pub flag_second : (name f w : Text) (more : List Text) → IsValue f → IsFlag w → is_empty (leaf_faults name (f ∷ w ∷ more)) ≡ false
+flag_second name f w more v flag =
+    let fails = first_fails (leaf name) [] (after_value f) w more refl (leaf_flag name (Some (codes "FARM", f ∷ [])) w flag) in
+    level_fails (leaf name) [] (f ∷ w ∷ more) false [] (rest_fails (leaf name) [] (walk_from nothing_held) f (w ∷ more)
+    (subst (λ k. is_empty (walk_fault (leaf name) [] k (w ∷ more)) ≡ false) (sym (value_walked name f v)) fails))
+
+-- ---- the first word
+
+abbrev top : Shape
+top = (built farm_app).top
+
+abbrev top_names : Names
+top_names = names_of (built farm_app)
+
+top_flag : (w : Text) → IsFlag w → is_empty (word_fault top top_names false idle w (held None)) ≡ false
+unfolding clap_on_literals
+top_flag w (inl p) =
+    let met = name_and_value (p.0 ∷ p.1) in
+    subst (λ a. is_empty (word_fault top top_names false idle a (held None)) ≡ false) (sym p.2)
+    (long_flag top.rules (bytes_eq (codes "help") met.0 || false) met.1 (held None))
+top_flag w (inr p) =
+    let flags : Text = p.0 ∷ p.1 in
+    let next = flags_fault top.rules false (length p.1) in
+    let rest : Text = drop (length (encode_utf8 p.2)) flags in
+    subst (λ a. is_empty (word_fault top top_names false idle a (held None)) ≡ false) (sym p.3) (simp p.4
+    (subst (λ o. is_empty (bundle_step_fault top.rules false o flags 0 (held None) next) ≡ false) (sym p.5)
+    (short_flag top.rules (104 == p.2 || false) rest (held None) (next rest 0))))
+
+top_fails : (a : App) (words : List Text) → is_empty (walk_fault (built a).top (names_of (built a)) (walk_from nothing_held) (argument_words a words)) ≡ false
+    → is_empty (fault_of a words) ≡ false
+top_fails a words fails = or_left (walk_fault (built a).top (names_of (built a)) (walk_from nothing_held) (argument_words a words)) _ fails
+
+flag_unread : (w : Text) (rest : List Text) → IsFlag w → reading (w ∷ rest) ≡ None
+flag_unread w rest flag = no_reading (w ∷ rest) (top_fails farm_app (w ∷ rest) (first_fails top top_names (walk_from nothing_held) w rest refl (top_flag w flag)))
+
+dashes_unread : (rest : List Text) → is_empty (fault_of farm_app (codes "--" ∷ rest)) ≡ false
+unfolding clap_on_literals
+dashes_unread [] = refl
+dashes_unread (u ∷ more) = refl
+
+dash_unread : (rest : List Text) → fault_of farm_app ((45 ∷ []) ∷ rest) ≡ UnknownArgument ∷ InvalidSubcommand ∷ []
+unfolding clap_on_literals
+dash_unread rest = refl
+
+-- the first word of words that have a reading is a command's name
+abbrev IsName : Text → Type 0
+IsName w = (bytes_eq (codes "answer") w ≡ true) ⊎ ((bytes_eq (codes "expand") w ≡ true) ⊎ (bytes_eq (codes "check") w ≡ true))
+
+value_named : (w : Text) (rest : List Text) (command : Command) → IsPlain w → reading (w ∷ rest) ≡ Some command → (a e c h : Bool) → bytes_eq (codes "answer") w ≡ a
+    → bytes_eq (codes "expand") w ≡ e → bytes_eq (codes "check") w ≡ c → bytes_eq (codes "help") w ≡ h → IsName w
+value_named w rest command plain read true e c h is_a is_e is_c is_h = inl is_a
+value_named w rest command plain read false true c h is_a is_e is_c is_h = inr (inl is_e)
+value_named w rest command plain read false false true h is_a is_e is_c is_h = inr (inr is_c)
+value_named w rest command plain read false false false true is_a is_e is_c is_h = let none = help_first w rest is_h in absurd (none_some command (sym none ∙ read))
+value_named w rest command plain read false false false false is_a is_e is_c is_h =
+    let none = other_first w rest plain is_a is_e is_c is_h in absurd (none_some command (sym none ∙ read))
+
+first_named : (w : Text) (rest : List Text) (command : Command) → IsUtf8 w → reading (w ∷ rest) ≡ Some command → IsName w
+first_named w rest command utf8 read = elim (word_kind w utf8) [
+  | inl v ↦ elim v [
+    | inl plain ↦ value_named w rest command plain read _ _ _ _ refl refl refl refl
+    | inr dash ↦ let none = no_reading ((45 ∷ []) ∷ rest) (ap is_empty (dash_unread rest)) in
+        absurd (none_some command (sym none ∙ subst (λ a. reading (a ∷ rest) ≡ Some command) dash read))
+  ]
+  | inr other ↦ elim other [
+    | inl dashes ↦ let none = no_reading (codes "--" ∷ rest) (dashes_unread rest) in
+        absurd (none_some command (sym none ∙ subst (λ a. reading (a ∷ rest) ≡ Some command) dashes read))
+    | inr flag ↦ absurd (none_some command (sym (flag_unread w rest flag) ∙ read))
+  ]
+]
+
+-- ---- the words after a name
+
+-- what is known of a command
+record IsReadAs (name : Text) (of : Text → Command) : Type 0 where
+  fails : (rest : List Text) → is_empty (leaf_faults name rest) ≡ false → reading (name ∷ rest) ≡ None
+  alone : (f : Text) → IsValue f → reading (name ∷ f ∷ []) ≡ Some (of f)
+  after : (f : Text) → reading (name ∷ codes "--" ∷ f ∷ []) ≡ Some (of f)
+  before : (f : Text) → IsValue f → reading (name ∷ f ∷ codes "--" ∷ []) ≡ Some (of f)
+  says : (f : Text) (rest : List Text) → GivesValue f rest → SaysCommand (of f) (name ∷ rest)
+
+said : (name : Text) (of : Text → Command) (is : IsReadAs name of) (f : Text) (rest : List Text) (command : Command) → GivesValue f rest → reading (name ∷ rest) ≡ Some (of f)
+    → reading (name ∷ rest) ≡ Some command → SaysCommand command (name ∷ rest)
+said name of is f rest command gives one read =
+    let same : of f ≡ command = cc in
+    subst (λ (k : Command). SaysCommand k (name ∷ rest)) same (is.says f rest gives)
+
+unsaid : (name : Text) (of : Text → Command) (is : IsReadAs name of) (rest : List Text) (command : Command) → is_empty (leaf_faults name rest) ≡ false
+    → reading (name ∷ rest) ≡ Some command → SaysCommand command (name ∷ rest)
+unsaid name of is rest command fails read = absurd (none_some command (sym (is.fails rest fails) ∙ read))
+
+value_said : (name : Text) (of : Text → Command) (is : IsReadAs name of) (f : Text) (rest : List Text) (command : Command) → IsValue f → All IsUtf8 rest
+    → reading (name ∷ f ∷ rest) ≡ Some command → SaysCommand command (name ∷ f ∷ rest)
+value_said name of is f [] command v utf8 read = said name of is f (f ∷ []) command (inl (v, refl)) (is.alone f v) read
+value_said name of is f (w ∷ more) command v utf8 read = elim (word_kind w (utf8 0 [] (omega arith))) [
+  | inl second ↦ unsaid name of is (f ∷ w ∷ more) command (ap is_empty (two_values name f w more v second)) read
+  | inr other ↦ elim other [
+    | inl dashes ↦ value_dashes_said more (subst (λ a. reading (name ∷ f ∷ a ∷ more) ≡ Some command) dashes read) dashes
+    | inr flag ↦ unsaid name of is (f ∷ w ∷ more) command (flag_second name f w more v flag) read
+  ]
+]
+  where
+    value_dashes_said : (more : List Text) → reading (name ∷ f ∷ codes "--" ∷ more) ≡ Some command → w ≡ codes "--" → SaysCommand command (name ∷ f ∷ w ∷ more)
+    value_dashes_said [] read dashes = subst (λ a. SaysCommand command (name ∷ f ∷ a ∷ [])) (sym dashes)
+        (said name of is f (f ∷ codes "--" ∷ []) command (inr (inr (v, refl))) (is.before f v) read)
+    value_dashes_said (u ∷ more) read dashes = absurd (none_some command (sym (is.fails (f ∷ codes "--" ∷ u ∷ more) (ap is_empty (value_dashes_word name f u more v))) ∙ read))
+
+dashes_said : (name : Text) (of : Text → Command) (is : IsReadAs name of) (rest : List Text) (command : Command)
+    → reading (name ∷ codes "--" ∷ rest) ≡ Some command → SaysCommand command (name ∷ codes "--" ∷ rest)
+dashes_said name of is [] command read = unsaid name of is (codes "--" ∷ []) command (dashes_no_value name) read
+dashes_said name of is (f ∷ []) command read = said name of is f (codes "--" ∷ f ∷ []) command (inr (inl refl)) (is.after f) read
+dashes_said name of is (v ∷ u ∷ more) command read = unsaid name of is (codes "--" ∷ v ∷ u ∷ more) command (ap is_empty (dashes_two_words name v u more)) read
+
+rest_said : (name : Text) (of : Text → Command) (is : IsReadAs name of) (rest : List Text) (command : Command) → All IsUtf8 rest
+    → reading (name ∷ rest) ≡ Some command → SaysCommand command (name ∷ rest)
+rest_said name of is [] command utf8 read = unsaid name of is [] command (no_value name) read
+rest_said name of is (w ∷ more) command utf8 read = elim (word_kind w (utf8 0 [] (omega arith))) [
+  | inl v ↦ value_said name of is w more command v (λ k d below. utf8 (suc k) d (omega arith)) read
+  | inr other ↦ elim other [
+    | inl dashes ↦ subst (λ a. SaysCommand command (name ∷ a ∷ more)) (sym dashes)
+        (dashes_said name of is more command (subst (λ a. reading (name ∷ a ∷ more) ≡ Some command) dashes read))
+    | inr flag ↦ unsaid name of is (w ∷ more) command (flag_first name w more flag) read
+  ]
+]
+
+answer_after : (f : Text) → reading (codes "answer" ∷ codes "--" ∷ f ∷ []) ≡ Some (Answer f)
+unfolding clap_on_literals
+answer_after f = refl
+
+answer_alone : (f : Text) → IsValue f → reading (codes "answer" ∷ f ∷ []) ≡ Some (Answer f)
+unfolding clap_on_literals
+answer_alone f v = value_cases (λ a. reading (codes "answer" ∷ a ∷ []) ≡ Some (Answer a)) refl refl (λ x xs e. simp e) f v
+
+answer_before : (f : Text) → IsValue f → reading (codes "answer" ∷ f ∷ codes "--" ∷ []) ≡ Some (Answer f)
+unfolding clap_on_literals
+answer_before f v = value_cases (λ a. reading (codes "answer" ∷ a ∷ codes "--" ∷ []) ≡ Some (Answer a)) refl refl (λ x xs e. simp e) f v
+
+answer_fails : (rest : List Text) → is_empty (leaf_faults (codes "answer") rest) ≡ false → reading (codes "answer" ∷ rest) ≡ None
+unfolding clap_on_literals
+answer_fails rest fails =
+    no_reading (codes "answer" ∷ rest) (fails_below farm_app (codes "answer" ∷ rest) (ap is_empty (ap (entered_fault (built farm_app)) (answer_stops rest)) ∙ fails))
+
+answer_is : IsReadAs (codes "answer") (λ f. Answer f)
+answer_is = record { fails = answer_fails; alone = answer_alone; after = answer_after; before = answer_before; says = λ f rest gives. (refl, gives) }
+
+expand_after : (f : Text) → reading (codes "expand" ∷ codes "--" ∷ f ∷ []) ≡ Some (Expand f)
+unfolding clap_on_literals
+expand_after f = refl
+
+expand_alone : (f : Text) → IsValue f → reading (codes "expand" ∷ f ∷ []) ≡ Some (Expand f)
+unfolding clap_on_literals
+expand_alone f v = value_cases (λ a. reading (codes "expand" ∷ a ∷ []) ≡ Some (Expand a)) refl refl (λ x xs e. simp e) f v
+
+expand_before : (f : Text) → IsValue f → reading (codes "expand" ∷ f ∷ codes "--" ∷ []) ≡ Some (Expand f)
+unfolding clap_on_literals
+expand_before f v = value_cases (λ a. reading (codes "expand" ∷ a ∷ codes "--" ∷ []) ≡ Some (Expand a)) refl refl (λ x xs e. simp e) f v
+
+expand_fails : (rest : List Text) → is_empty (leaf_faults (codes "expand") rest) ≡ false → reading (codes "expand" ∷ rest) ≡ None
+unfolding clap_on_literals
+expand_fails rest fails =
+    no_reading (codes "expand" ∷ rest) (fails_below farm_app (codes "expand" ∷ rest) (ap is_empty (ap (entered_fault (built farm_app)) (expand_stops rest)) ∙ fails))
+
+expand_is : IsReadAs (codes "expand") (λ f. Expand f)
+expand_is = record { fails = expand_fails; alone = expand_alone; after = expand_after; before = expand_before; says = λ f rest gives. (refl, gives) }
+
+check_after : (f : Text) → reading (codes "check" ∷ codes "--" ∷ f ∷ []) ≡ Some (Check f)
+unfolding clap_on_literals
+check_after f = refl
+
+check_alone : (f : Text) → IsValue f → reading (codes "check" ∷ f ∷ []) ≡ Some (Check f)
+unfolding clap_on_literals
+check_alone f v = value_cases (λ a. reading (codes "check" ∷ a ∷ []) ≡ Some (Check a)) refl refl (λ x xs e. simp e) f v
+
+check_before : (f : Text) → IsValue f → reading (codes "check" ∷ f ∷ codes "--" ∷ []) ≡ Some (Check f)
+unfolding clap_on_literals
+check_before f v = value_cases (λ a. reading (codes "check" ∷ a ∷ codes "--" ∷ []) ≡ Some (Check a)) refl refl (λ x xs e. simp e) f v
+
+check_fails : (rest : List Text) → is_empty (leaf_faults (codes "check") rest) ≡ false → reading (codes "check" ∷ rest) ≡ None
+unfolding clap_on_literals
+check_fails rest fails =
+    no_reading (codes "check" ∷ rest) (fails_below farm_app (codes "check" ∷ rest) (ap is_empty (ap (entered_fault (built farm_app)) (check_stops rest)) ∙ fails))
+
+check_is : IsReadAs (codes "check") (λ f. Check f)
+check_is = record { fails = check_fails; alone = check_alone; after = check_after; before = check_before; says = λ f rest gives. (refl, gives) }
+
+-- ---- both ways
+
+pub reading_says : (words : List Text) (command : Command) → All IsUtf8 words → reading words ≡ Some command → SaysCommand command words
+reading_says [] command utf8 read = absurd (none_some command (sym empty_read ∙ read))
+reading_says (w ∷ rest) command utf8 read = elim (first_named w rest command (utf8 0 [] (omega arith)) read) [
+  | inl a ↦ named (codes "answer") a (rest_said (codes "answer") (λ f. Answer f) answer_is rest command others)
+  | inr other ↦ elim other [
+    | inl e ↦ named (codes "expand") e (rest_said (codes "expand") (λ f. Expand f) expand_is rest command others)
+    | inr c ↦ named (codes "check") c (rest_said (codes "check") (λ f. Check f) check_is rest command others)
+  ]
+]
+  where
+    others : All IsUtf8 rest
+    others = λ k d below. utf8 (suc k) d (omega arith)
+
+    named : (name : Text) → bytes_eq name w ≡ true → (reading (name ∷ rest) ≡ Some command → SaysCommand command (name ∷ rest)) → SaysCommand command (w ∷ rest)
+    named name same go = subst (λ (v : Text). (reading (v ∷ rest) ≡ Some command → SaysCommand command (v ∷ rest))) ((bytes_eq-Decides name w).0 same) go read
+
+given_read : (name : Text) (of : Text → Command) (is : IsReadAs name of) (f : Text) (rest : List Text) → GivesValue f rest → reading (name ∷ rest) ≡ Some (of f)
+given_read name of is f rest (inl p) = subst (λ words. reading (name ∷ words) ≡ Some (of f)) (sym p.1) (is.alone f p.0)
+given_read name of is f rest (inr (inl e)) = subst (λ words. reading (name ∷ words) ≡ Some (of f)) (sym e) (is.after f)
+given_read name of is f rest (inr (inr p)) = subst (λ words. reading (name ∷ words) ≡ Some (of f)) (sym p.1) (is.before f p.0)
+
+pub said_read : (words : List Text) (command : Command) → SaysCommand command words → reading words ≡ Some command
+said_read [] command says = absurd says
+said_read (w ∷ rest) (Answer f) says = subst (λ a. reading (a ∷ rest) ≡ Some (Answer f)) (sym says.0) (given_read (codes "answer") (λ f. Answer f) answer_is f rest says.1)
+said_read (w ∷ rest) (Expand f) says = subst (λ a. reading (a ∷ rest) ≡ Some (Expand f)) (sym says.0) (given_read (codes "expand") (λ f. Expand f) expand_is f rest says.1)
+said_read (w ∷ rest) (Check f) says = subst (λ a. reading (a ∷ rest) ≡ Some (Check f)) (sym says.0) (given_read (codes "check") (λ f. Check f) check_is f rest says.1)

@@ -1,0 +1,5 @@
+mod FlagLemmas
+mod FormLemmas
+mod LawLemmas
+mod MatchLemmas
+mod ReadingLemmas

@@ -1,0 +1,4 @@
+pub mod Forms
+pub mod Parts
+pub mod Refusal
+pub mod Words

@@ -1,0 +1,13 @@
+//! The words of the farm program's command line: what they ask for.
+#![tactic(auto)]
+
+mod command;
+mod laws;
+mod program;
+mod reading;
+#[cfg(test)]
+mod tests;
+
+pub use command::Command;
+pub use laws::{plain_words_are_read, words_that_say_a_command_are_read};
+pub use reading::{WordsFault, read_words};
