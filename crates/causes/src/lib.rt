@@ -1,7 +1,7 @@
 //! What the outside may do wrong, and how a contract says that it did.
 #![tactic(auto)]
 
-ghost use Rattle.std.specs.Prelude.{◌≡◌, ℕ, ◌≤◌};
+ghost use Rattle.std.specs.Prelude.{◌≡◌, ℕ, ◌+◌, ◌-◌, ◌^◌, ◌≤◌, min};
 
 use std::marker::Model;
 
@@ -35,8 +35,9 @@ impl FaultCount {
         FaultCount { count: 0 }
     }
 
-    /// Counts one fault more.
+    /// Counts one fault more, up to the last value.
     pub fn raise(&mut self)
+        ensures value { self.new ≡ min (self.old + 1) (2 ^ 64 - 1) }
         ensures later { self.old ≤ self.new }
         ensures rose { Rose self.old self.new }
     {

@@ -1,24 +1,32 @@
 -- What a run does where no count of faults rose.
-use Rattle.std.proofs.Common.{◌≡◌, ◌≢◌, ℕ, ◌⊎◌, List, [], ◌++◌, true, Option, Some, refl, sym, ◌∙◌, ap, subst, inl, inr, append-nil}
+use Rattle.std.proofs.Common.{◌≡◌, ◌≢◌, ℕ, ◌⊎◌, List, [], ◌++◌, true, Option, Some, None, refl, sym, ◌∙◌, ap, subst, inl, inr, append-nil}
 use Rattle.std.specs.Prelude.{IfSome}
 use Rattle.std.specs.Io.KnownBytes.{Appends}
 use Rattle.causes.specs.Causes.{Rose}
+use Rattle.command_line.specs.declared.command.Command.{Command}
+use Rattle.command_line.specs.declared.command.Command.TheVariants.{Answer, Expand, Check}
 use Rattle.http_wire.specs.declared.message.Message.{Message}
 use Rattle.http_wire.specs.declared.message.Wire.{Wire as Reason}
 use Rattle.http_wire.specs.declared.message.Wire.TheVariants as wire
 use Rattle.http_wire.specs.Stream.{Ending, stopped, closed, full, Messages}
 use Rattle.http_wire.proofs.StreamLaws.{messages_unique}
+use Rattle.farm_machine.specs.declared.config.Config.{Config}
 use Rattle.farm_server.specs.ReplyText.{wire_text}
 use Rattle.farm_server.specs.Served.{Outside, messages_of, reply_texts, is_refused, EndsAs, Writes, IsCaused}
 use Rattle.farm_server.specs.declared.served.Served.{Served}
 use Rattle.farm_server.specs.declared.served.Served.TheVariants as served
 use Rattle.farm_server.specs.declared.served.TheConstants.{REQUESTS}
-use Rattle.farm_cli.specs.declared.lending.Lending.TheVariants.{Ready}
+use Rattle.farm_cli.specs.declared.lending.Lending.TheVariants.{Ready, Back}
 use Rattle.farm_cli.specs.declared.status.Status.{Status}
-use Rattle.farm_cli.specs.declared.status.Status.TheVariants.{Done, FarmFile, NoMemory, Wire}
-use Rattle.farm_cli.specs.Complete.{stop_status, status_for, own_text, HasFile, NoFileFault, NoConsoleFault, AnswersAll, Completes, RefusesFile, MissesFile}
-use Rattle.farm_cli.specs.House.{holds, back, WasOpened, Lendings}
-use Rattle.farm_cli.specs.Run.{Views, outside_of, status_of, Conversed, RanOver, WasRefused, Ran}
+use Rattle.farm_cli.specs.declared.status.Status.TheVariants.{Done, Usage, FarmFile, Input, Opening, Read, Write, NoMemory, Wire}
+use Rattle.farm_cli.specs.Checking.{Checks, check_text}
+use Rattle.farm_cli.specs.Complete.{stop_status, status_for, own_text, HasFile, NoFileFault, NoConsoleFault, AnswersAll, WritesAll, Finishes, Completes, RefusesFile, MissesFile, TellsUsage}
+use Rattle.farm_cli.specs.Expanding.{IsExpansion, IsBadInput, Expands}
+use Rattle.farm_cli.specs.FarmFile.{SetsUp, HasFault, FileRefused}
+use Rattle.farm_cli.specs.House.{Held, holds, refuses, back, Lendings}
+use Rattle.farm_cli.specs.Run.{Obeyed, RanOverFile, RanOver, RanCommand, Ran}
+use Rattle.farm_cli.specs.Serving.{status_of, Conversed}
+use Rattle.farm_cli.specs.Views.{Views, outside_of, talk_of}
 
 -- a reason for which the wire itself replies
 refused_status : (reason : Reason) → is_refused reason ≡ true → stop_status reason ≡ Wire
@@ -79,16 +87,17 @@ finished bytes asked messages ending text before after served.EndedInside list l
     inr (finished_by bytes asked messages (stopped wire.EndedInside) ending before.written after.written text Wire list list' refl refl writes)
 finished bytes asked messages ending text before after (served.WireFault reason) list list' writes cause reads_well writes_well =
     inr (finished_by_refusal bytes asked messages reason ending before.written after.written text list list' writes.0 writes.1)
-finished bytes asked messages ending text before after served.ReadFault list list' writes cause reads_well writes_well = absurd (reads_well cause)
-finished bytes asked messages ending text before after served.WriteFault list list' writes cause reads_well writes_well = absurd (writes_well cause)
+finished bytes asked messages ending text before after served.ReadFault list list' writes cause reads_well writes_well = absurd (reads_well cause.0)
+finished bytes asked messages ending text before after served.WriteFault list list' writes cause reads_well writes_well = absurd (writes_well cause.0)
 finished bytes asked messages ending text before after served.NoMemory list list' writes cause reads_well writes_well = inl refl
 
--- the console was served over a known input, and no count of its faults rose
-answers_all : {F C N T I : Type 0} (views : Views F C N T I) (old new : Lendings F C N T I) (status : Status) (console : C) (bytes : List ℕ) (messages : List Message) (ending : Ending)
-    → Conversed views old new status
+-- ---- a command over a console that is there, and does not fail
+
+answers_all : {F C N T I : Type 0} (views : Views F C N T I) (old new : Lendings F C N T I) (config : Config) (status : Status) (console : C) (bytes : List ℕ) (messages : List Message) (ending : Ending)
+    → Conversed views old new config status
     → old.console ≡ Ready console → views.console_left console ≡ Some bytes → Messages REQUESTS bytes messages ending → NoConsoleFault views new console
-    → (status ≡ NoMemory) ⊎ AnswersAll views new console messages ending status
-answers_all {C} views old new status console bytes messages ending ran ready known list well =
+    → (status ≡ NoMemory) ⊎ AnswersAll views new console config messages ending status
+answers_all {C} views old new config status console bytes messages ending ran ready known list well =
     let given = rw ready at ran.console.could in
     let came_back = rw ready at ran.console.returned in
     let taken = rw (given, known) at ran.spoke.taken in
@@ -108,56 +117,186 @@ answers_all {C} views old new status console bytes messages ending ran ready kno
       })
     ]
 
--- the file that was opened is the one that the house has
-opened_is : {F C N T I : Type 0} (old new : Lendings F C N T I) (words : Option (List ℕ)) (file opened file' : F) (has : HasFile old words (holds file)) → WasOpened old.file new.file has.name opened file' → opened ≡ file
-opened_is old new words file opened file' has was = rw (has.files, has.there) at was.could
+-- an input that is known was expanded, or refused
+expands_all : {F C N T I : Type 0} (views : Views F C N T I) (new : Lendings F C N T I) (config : Config) (status : Status) (console console' : C) (input : List ℕ)
+    → status ≢ NoMemory → new.console ≡ Back console' → views.console_left console ≡ Some input
+    → ¬ (Rose (views.console_read_faults console) (views.console_read_faults console')) → ¬ (Rose (views.console_write_faults console) (views.console_write_faults console'))
+    → Expands config.roles (talk_of views console) (talk_of views console') status
+    → ((text : List ℕ) × IsExpansion config.roles input text × WritesAll views new console text status) ⊎ (IsBadInput config.roles input × (status ≡ Input))
+expands_all views new config Done console console' input some came_back known reads_well writes_well did =
+    inl (did.0, rw known at did.1, record { done = refl; console' = console'; came_back = came_back; written = did.4.0 })
+expands_all views new config Usage console console' input some came_back known reads_well writes_well did = absurd did.4
+expands_all views new config FarmFile console console' input some came_back known reads_well writes_well did = absurd did.4
+expands_all views new config Input console console' input some came_back known reads_well writes_well did = inr (rw known at did.0, refl)
+expands_all views new config Opening console console' input some came_back known reads_well writes_well did = absurd did.4
+expands_all views new config Read console console' input some came_back known reads_well writes_well did = absurd (reads_well did.0)
+expands_all views new config Write console console' input some came_back known reads_well writes_well did = absurd (writes_well did.4.1)
+expands_all views new config NoMemory console console' input some came_back known reads_well writes_well did = absurd (some refl)
+expands_all views new config Wire console console' input some came_back known reads_well writes_well did = absurd did.4
 
--- and it came back
-closed_is : {F C N T I : Type 0} (old new : Lendings F C N T I) (words : Option (List ℕ)) (file opened file' : F) (has : HasFile old words (holds file)) → WasOpened old.file new.file has.name opened file' → new.file ≡ back file'
-closed_is old new words file opened file' has was = rw has.files at was.returned
+-- the counts were written
+checks_all : {F C N T I : Type 0} (views : Views F C N T I) (new : Lendings F C N T I) (config : Config) (status : Status) (console console' : C)
+    → status ≢ NoMemory → new.console ≡ Back console' → ¬ (Rose (views.console_write_faults console) (views.console_write_faults console'))
+    → Checks config (talk_of views console) (talk_of views console') status → WritesAll views new console (check_text config) status
+checks_all views new config Done console console' some came_back writes_well did = record { done = refl; console' = console'; came_back = came_back; written = did.1.0 }
+checks_all views new config Usage console console' some came_back writes_well did = absurd did.1
+checks_all views new config FarmFile console console' some came_back writes_well did = absurd did.1
+checks_all views new config Input console console' some came_back writes_well did = absurd did.1
+checks_all views new config Opening console console' some came_back writes_well did = absurd did.1
+checks_all views new config Read console console' some came_back writes_well did = absurd did.1
+checks_all views new config Write console console' some came_back writes_well did = absurd (writes_well did.1.1)
+checks_all views new config NoMemory console console' some came_back writes_well did = absurd (some refl)
+checks_all views new config Wire console console' some came_back writes_well did = absurd did.1
 
--- the run by the name of the file
-named : {F C N T I : Type 0} (views : Views F C N T I) (old new : Lendings F C N T I) (before now : ℕ) (words : Option (List ℕ)) (name : List ℕ) (status : Status)
-    → words ≡ Some name → Ran views old new before now words status → WasRefused old new before now name status ⊎ RanOver views old new name status
-named views old new before now words name status is ran = subst (λ w. Ran views old new before now w status) is ran
+finishes : {F C N T I : Type 0} (views : Views F C N T I) (old new : Lendings F C N T I) (config : Config) (command : Command) (status : Status) (console : C)
+    → status ≢ NoMemory → Obeyed views old new config command status → old.console ≡ Ready console → NoConsoleFault views new console
+    → Finishes views new console config command status
+finishes views old new config (Answer farm) status console some ran ready well = λ bytes messages ending known list.
+    elim (answers_all views old new config status console bytes messages ending ran ready known list well) [
+      | inl none ↦ absurd (some none)
+      | inr all ↦ all
+    ]
+finishes {C} views old new config (Expand farm) status console some ran ready well = λ input known.
+    let given = rw ready at ran.console.could in
+    let came_back = rw ready at ran.console.returned in
+    expands_all views new config status console ran.back input some came_back known (well.reads ran.back came_back) (well.writes ran.back came_back)
+    (subst (λ (x : C). Expands config.roles (talk_of views x) (talk_of views ran.back) status) given ran.did)
+finishes {C} views old new config (Check farm) status console some ran ready well =
+    let given = rw ready at ran.console.could in
+    let came_back = rw ready at ran.console.returned in
+    checks_all views new config status console ran.back some came_back (well.writes ran.back came_back)
+    (subst (λ (x : C). Checks config (talk_of views x) (talk_of views ran.back) status) given ran.did)
 
--- where the file was opened, and its reads did not fail
-over_file : {F C N T I : Type 0} (views : Views F C N T I) (old new : Lendings F C N T I) (before now : ℕ) (words : Option (List ℕ)) (file : F) (status : Status) (has : HasFile old words (holds file))
-    → NoFileFault views new before now file → Ran views old new before now words status
-    → (IfSome (views.file_left file) (λ bytes. bytes ≡ []) × Conversed views old new status) ⊎ ((status ≡ FarmFile) × IfSome (views.file_left file) (λ bytes. bytes ≢ []))
-over_file {F} views old new before now words file status has well ran =
-    elim (named views old new before now words has.name status has.named ran) [
-      | inl refused ↦ absurd (well.openings refused.rose)
-      | inr over ↦ (
-          let is = opened_is old new words file over.opened over.closed has over.file in
-          let came_back = closed_is old new words file over.opened over.closed has over.file in
-          elim over.ran [
-            | inl served ↦ inl (subst (λ (x : F). IfSome (views.file_left x) (λ bytes. bytes ≡ [])) is served.0, served.1)
-            | inr (inl byte) ↦ inr (byte.0, subst (λ (x : F). IfSome (views.file_left x) (λ bytes. bytes ≢ [])) is byte.1)
-            | inr (inr failed) ↦ absurd (well.reads over.closed came_back (subst (λ (x : F). Rose (views.file_faults x) (views.file_faults over.closed)) is failed.1))
-          ])
+-- ---- a farm file that is there
+
+is_memory : (status : Status) → (status ≡ NoMemory) ⊎ (status ≢ NoMemory)
+is_memory Done = inr (λ e. cc)
+is_memory Usage = inr (λ e. cc)
+is_memory FarmFile = inr (λ e. cc)
+is_memory Input = inr (λ e. cc)
+is_memory Opening = inr (λ e. cc)
+is_memory Read = inr (λ e. cc)
+is_memory Write = inr (λ e. cc)
+is_memory NoMemory = inl refl
+is_memory Wire = inr (λ e. cc)
+
+same_command : (reading : Option Command) (a b : Command) → reading ≡ Some a → reading ≡ Some b → a ≡ b
+same_command reading a b first second = cc
+
+no_command : (reading : Option Command) (a : Command) → reading ≡ Some a → reading ≡ None → ⊥
+no_command reading a first second = let e : Some a ≡ None = sym first ∙ second in cc
+
+-- words that have a reading are refused for want of memory alone
+words_taken : (said : Option Command) (command : Command) (status : Status) → said ≡ Some command
+    → (status ≡ NoMemory) ⊎ ((status ≡ Usage) × (said ≡ None)) → status ≡ NoMemory
+words_taken said command status asked (inl none) = none
+words_taken said command status asked (inr usage) = absurd (no_command said command asked usage.1)
+
+-- a command was run over the file that the house has
+record Opened {F C N T I : Type 0} (views : Views F C N T I) (old new : Lendings F C N T I) (command : Command) (file : F) (status : Status) : Type 0 where
+  closed : F
+  came_back : new.file ≡ back closed
+  ran : RanOverFile views old new command file closed status
+
+opened_over : {F C N T I : Type 0} (views : Views F C N T I) (old new : Lendings F C N T I) (before now : ℕ) (said : Option Command) (command : Command) (file : F) (status : Status)
+    → HasFile old said command (holds file) → RanOver views old new before now command status → Opened views old new command file status
+opened_over {F} views old new before now said command file status has over =
+    let is = rw (has.files, has.there) at over.file.could in
+    record {
+      closed = over.closed;
+      came_back = rw has.files at over.file.returned;
+      ran = subst (λ (x : F). RanOverFile views old new command x over.closed status) is over.ran;
+    }
+
+-- the run of the command that the words ask for
+run_of : {F C N T I : Type 0} (views : Views F C N T I) (old new : Lendings F C N T I) (before now : ℕ) (said : Option Command) (command : Command) (held : Held F) (status : Status)
+    → HasFile old said command held → Ran views old new before now said status → (status ≡ NoMemory) ⊎ RanCommand views old new before now command status
+run_of views old new before now said command held status has (inl refused) = inl (words_taken said command status has.asked refused.why)
+run_of views old new before now said command held status has (inr ran) =
+    let same : ran.0 ≡ command = same_command said ran.0 command ran.1 has.asked in
+    inr (subst (λ c. RanCommand views old new before now c status) same ran.2)
+
+over_file : {F C N T I : Type 0} (views : Views F C N T I) (old new : Lendings F C N T I) (before now : ℕ) (said : Option Command) (command : Command) (file : F) (status : Status)
+    → HasFile old said command (holds file) → ¬ (Rose before now) → Ran views old new before now said status
+    → (status ≡ NoMemory) ⊎ Opened views old new command file status
+over_file views old new before now said command file status has well ran =
+    elim (run_of views old new before now said command (holds file) status has ran) [
+      | inl none ↦ inl none
+      | inr (inl refused) ↦ absurd (well refused.rose)
+      | inr (inr over) ↦ inr (opened_over views old new before now said command file status has over)
     ]
 
-pub Completes-from_run : {F C N T I : Type 0} (views : Views F C N T I) (old new : Lendings F C N T I) (before now : ℕ) (words : Option (List ℕ)) (status : Status)
-    → Ran views old new before now words status → Completes views old new before now words status
-Completes-from_run views old new before now words status ran = λ file console bytes messages ending has empty ready known list well console_well.
-    elim (over_file views old new before now words file status has well ran) [
-      | inl served ↦ answers_all views old new status console bytes messages ending served.1 ready known list console_well
-      | inr byte ↦ absurd ((rw empty at byte.1) refl)
+-- a file that is refused, of which no read failed, breaks a rule, or memory ran out
+refused_by : (left : Option (List ℕ)) (before now : ℕ) (status : Status) → FileRefused left before now status → ¬ (Rose before now)
+    → (status ≡ NoMemory) ⊎ (IfSome left HasFault × (status ≡ FarmFile))
+refused_by left before now FarmFile why well = inr (why.0, refl)
+refused_by left before now Read why well = absurd (well why)
+refused_by left before now NoMemory why well = inl refl
+refused_by left before now Done why well = absurd why
+refused_by left before now Usage why well = absurd why
+refused_by left before now Input why well = absurd why
+refused_by left before now Opening why well = absurd why
+refused_by left before now Write why well = absurd why
+refused_by left before now Wire why well = absurd why
+
+completes_over : {F C N T I : Type 0} (views : Views F C N T I) (old new : Lendings F C N T I) (before now : ℕ) (command : Command) (file : F) (bytes : List ℕ) (console : C) (status : Status)
+    → Opened views old new command file status → views.file_left file ≡ Some bytes → ¬ HasFault bytes → NoFileFault views new before now file
+    → old.console ≡ Ready console → NoConsoleFault views new console
+    → (status ≡ NoMemory) ⊎ ((config : Config) × SetsUp bytes config × Finishes views new console config command status)
+completes_over views old new before now command file bytes console status opened left sound well ready console_well =
+    elim opened.ran [
+      | inl ran ↦ elim (is_memory status) [
+        | inl none ↦ inl none
+        | inr some ↦ inr (ran.0, rw left at ran.1, finishes views old new ran.0 command status console some ran.3 ready console_well)
+      ]
+      | inr refused ↦ elim (refused_by (views.file_left file) (views.file_faults file) (views.file_faults opened.closed) status refused.0 (well.reads opened.closed opened.came_back)) [
+        | inl none ↦ inl none
+        | inr fault ↦ absurd (sound (rw left at fault.0))
+      ]
     ]
 
-pub RefusesFile-from_run : {F C N T I : Type 0} (views : Views F C N T I) (old new : Lendings F C N T I) (before now : ℕ) (words : Option (List ℕ)) (status : Status)
-    → Ran views old new before now words status → RefusesFile views old new before now words status
-RefusesFile-from_run views old new before now words status ran = λ file bytes has left some well.
-    elim (over_file views old new before now words file status has well ran) [
-      | inl served ↦ absurd (some (rw left at served.0))
-      | inr byte ↦ byte.0
+refuses_over : {F C N T I : Type 0} (views : Views F C N T I) (old new : Lendings F C N T I) (before now : ℕ) (command : Command) (file : F) (bytes : List ℕ) (status : Status)
+    → Opened views old new command file status → views.file_left file ≡ Some bytes → HasFault bytes → NoFileFault views new before now file
+    → (status ≡ NoMemory) ⊎ (status ≡ FarmFile)
+refuses_over views old new before now command file bytes status opened left fault well =
+    elim opened.ran [
+      | inl ran ↦ absurd ((rw left at ran.1).sound fault.0 fault.1)
+      | inr refused ↦ elim (refused_by (views.file_left file) (views.file_faults file) (views.file_faults opened.closed) status refused.0 (well.reads opened.closed opened.came_back)) [
+        | inl none ↦ inl none
+        | inr told ↦ inr told.1
+      ]
     ]
 
-pub MissesFile-from_run : {F C N T I : Type 0} (views : Views F C N T I) (old new : Lendings F C N T I) (before now : ℕ) (words : Option (List ℕ)) (status : Status)
-    → Ran views old new before now words status → MissesFile old words status
-MissesFile-from_run views old new before now words status ran = λ has.
-    elim (named views old new before now words has.name status has.named ran) [
-      | inl refused ↦ refused.status_is
-      | inr over ↦ absurd (rw (has.files, has.there) at over.file.could)
+pub Completes-from_run : {F C N T I : Type 0} (views : Views F C N T I) (old new : Lendings F C N T I) (before now : ℕ) (said : Option Command) (status : Status)
+    → Ran views old new before now said status → Completes views old new before now said status
+Completes-from_run views old new before now said status ran = λ command file bytes console has left sound well ready console_well.
+    elim (over_file views old new before now said command file status has well.openings ran) [
+      | inl none ↦ inl none
+      | inr opened ↦ completes_over views old new before now command file bytes console status opened left sound well ready console_well
     ]
+
+pub RefusesFile-from_run : {F C N T I : Type 0} (views : Views F C N T I) (old new : Lendings F C N T I) (before now : ℕ) (said : Option Command) (status : Status)
+    → Ran views old new before now said status → RefusesFile views old new before now said status
+RefusesFile-from_run views old new before now said status ran = λ command file bytes has left fault well.
+    elim (over_file views old new before now said command file status has well.openings ran) [
+      | inl none ↦ inl none
+      | inr opened ↦ refuses_over views old new before now command file bytes status opened left fault well
+    ]
+
+pub MissesFile-from_run : {F C N T I : Type 0} (views : Views F C N T I) (old new : Lendings F C N T I) (before now : ℕ) (said : Option Command) (status : Status)
+    → Ran views old new before now said status → MissesFile old said status
+MissesFile-from_run views old new before now said status ran = λ command has.
+    elim (run_of views old new before now said command refuses status has ran) [
+      | inl none ↦ inl none
+      | inr (inl refused) ↦ inr refused.status_is
+      | inr (inr over) ↦ absurd (rw (has.files, has.there) at over.file.could)
+    ]
+
+-- words without a reading
+pub TellsUsage-from_run : {F C N T I : Type 0} (views : Views F C N T I) (old new : Lendings F C N T I) (before now : ℕ) (said : Option Command) (status : Status)
+    → Ran views old new before now said status → TellsUsage said status
+TellsUsage-from_run views old new before now said status (inl refused) = λ unread. elim refused.why [
+  | inl none ↦ inl none
+  | inr usage ↦ inr usage.0
+]
+TellsUsage-from_run views old new before now said status (inr ran) = λ unread. absurd (no_command said ran.0 ran.1 unread)

@@ -1,12 +1,18 @@
 -- All that a run asked for is home again.
-use Rattle.std.proofs.Common.{◌≡◌, ℕ, List, Option, Some, None, refl, sym, ◌∙◌, inl, inr}
+use Rattle.std.proofs.Common.{◌≡◌, ℕ, List, Option, refl, sym, ◌∙◌, inl, inr}
+use Rattle.command_line.specs.declared.command.Command.{Command}
+use Rattle.command_line.specs.declared.command.Command.TheVariants.{Answer, Expand, Check}
+use Rattle.command_line.specs.Words.{farm_of}
+use Rattle.farm_machine.specs.declared.config.Config.{Config}
 use Rattle.farm_cli.specs.declared.lending.Lending.{Lending}
 use Rattle.farm_cli.specs.declared.lending.Lending.TheVariants.{Ready, Out, Back, Untold}
 use Rattle.farm_cli.specs.declared.status.Status.{Status}
-use Rattle.farm_cli.specs.declared.status.Status.TheVariants.{Done, Usage, FarmFile, Opening, Read, Write, NoMemory, Wire}
+use Rattle.farm_cli.specs.declared.status.Status.TheVariants.{Done, Usage, FarmFile, Input, Opening, Read, Write, NoMemory, Wire}
 use Rattle.farm_cli.specs.Home.{IsHome, AreHome, AllHome}
 use Rattle.farm_cli.specs.House.{after_giving, after_return, WasLent, Files, unopened, out, back, untold, after_opened, after_closing, WasOpened, Lendings}
-use Rattle.farm_cli.specs.Run.{Views, LeavesConsole, RanOverFile, Ran, TellsLine, TellsStatus}
+use Rattle.farm_cli.specs.Notes.{TellsLine, TellsStatus}
+use Rattle.farm_cli.specs.Run.{LeavesConsole, UsedConsole, Obeyed, RanOverFile, RanCommand, Ran}
+use Rattle.farm_cli.specs.Views.{Views, Talk}
 
 IsHome-same : {T : Type 0} (old new : Lending T) → new ≡ old → IsHome old new
 IsHome-same old new same = record { kept = λ x e. inl (same ∙ e); not_out = λ e. sym same ∙ e }
@@ -51,45 +57,63 @@ ConsoleHome-left old new left = record {
   draws = IsHome-same old.draws new.draws left.draws;
 }
 
-ConsoleHome-over : {F C N T I : Type 0} (views : Views F C N T I) (old new : Lendings F C N T I) (opened closed : F) (status : Status) → RanOverFile views old new opened closed status → ConsoleHome old new
-ConsoleHome-over views old new opened closed status (inl ran) = record {
-  console = IsHome-lent old.console new.console ran.1.console_given ran.1.console_back ran.1.console;
-  clock = IsHome-lent old.clock new.clock ran.1.clock_given ran.1.clock_back ran.1.clock;
-  draws = IsHome-lent old.draws new.draws ran.1.draws_given ran.1.draws_back ran.1.draws;
+ConsoleHome-used : {F C N T I : Type 0} (views : Views F C N T I) (old new : Lendings F C N T I) (Did : Talk → Talk → Type 0) → UsedConsole views old new Did → ConsoleHome old new
+ConsoleHome-used views old new Did used = record {
+  console = IsHome-lent old.console new.console used.given used.back used.console;
+  clock = IsHome-same old.clock new.clock used.clock;
+  draws = IsHome-same old.draws new.draws used.draws;
 }
-ConsoleHome-over views old new opened closed status (inr (inl ran)) = ConsoleHome-left old new ran.2
-ConsoleHome-over views old new opened closed status (inr (inr ran)) = ConsoleHome-left old new ran.2
 
-ConsoleHome-ran : {F C N T I : Type 0} (views : Views F C N T I) (old new : Lendings F C N T I) (before now : ℕ) (words : Option (List ℕ)) (status : Status) → Ran views old new before now words status → ConsoleHome old new
-ConsoleHome-ran views old new before now None status ran = ConsoleHome-left old new ran.2
-ConsoleHome-ran views old new before now (Some name) status (inl ran) = ConsoleHome-left old new ran.others
-ConsoleHome-ran views old new before now (Some name) status (inr ran) = ConsoleHome-over views old new ran.opened ran.closed status ran.ran
+ConsoleHome-obeyed : {F C N T I : Type 0} (views : Views F C N T I) (old new : Lendings F C N T I) (config : Config) (command : Command) (status : Status) → Obeyed views old new config command status → ConsoleHome old new
+ConsoleHome-obeyed views old new config (Answer farm) status ran = record {
+  console = IsHome-lent old.console new.console ran.console_given ran.console_back ran.console;
+  clock = IsHome-lent old.clock new.clock ran.clock_given ran.clock_back ran.clock;
+  draws = IsHome-lent old.draws new.draws ran.draws_given ran.draws_back ran.draws;
+}
+ConsoleHome-obeyed views old new config (Expand farm) status used = ConsoleHome-used views old new _ used
+ConsoleHome-obeyed views old new config (Check farm) status used = ConsoleHome-used views old new _ used
 
-AreHome-ran : {F C N T I : Type 0} (views : Views F C N T I) (old new : Lendings F C N T I) (before now : ℕ) (words : Option (List ℕ)) (status : Status) → Ran views old new before now words status → AreHome old.file new.file
-AreHome-ran views old new before now None status ran = AreHome-same old.file new.file ran.1
-AreHome-ran views old new before now (Some name) status (inl ran) = AreHome-same old.file new.file ran.file
-AreHome-ran views old new before now (Some name) status (inr ran) = AreHome-opened old.file new.file name ran.opened ran.closed ran.file
+ConsoleHome-over : {F C N T I : Type 0} (views : Views F C N T I) (old new : Lendings F C N T I) (command : Command) (opened closed : F) (status : Status) → RanOverFile views old new command opened closed status → ConsoleHome old new
+ConsoleHome-over views old new command opened closed status (inl ran) = ConsoleHome-obeyed views old new ran.0 command status ran.3
+ConsoleHome-over views old new command opened closed status (inr ran) = ConsoleHome-left old new ran.1
+
+ConsoleHome-command : {F C N T I : Type 0} (views : Views F C N T I) (old new : Lendings F C N T I) (before now : ℕ) (command : Command) (status : Status) → RanCommand views old new before now command status → ConsoleHome old new
+ConsoleHome-command views old new before now command status (inl ran) = ConsoleHome-left old new ran.others
+ConsoleHome-command views old new before now command status (inr ran) = ConsoleHome-over views old new command ran.opened ran.closed status ran.ran
+
+ConsoleHome-ran : {F C N T I : Type 0} (views : Views F C N T I) (old new : Lendings F C N T I) (before now : ℕ) (said : Option Command) (status : Status) → Ran views old new before now said status → ConsoleHome old new
+ConsoleHome-ran views old new before now said status (inl ran) = ConsoleHome-left old new ran.others
+ConsoleHome-ran views old new before now said status (inr ran) = ConsoleHome-command views old new before now ran.0 status ran.2
+
+AreHome-command : {F C N T I : Type 0} (views : Views F C N T I) (old new : Lendings F C N T I) (before now : ℕ) (command : Command) (status : Status) → RanCommand views old new before now command status → AreHome old.file new.file
+AreHome-command views old new before now command status (inl ran) = AreHome-same old.file new.file ran.file
+AreHome-command views old new before now command status (inr ran) = AreHome-opened old.file new.file (farm_of command) ran.opened ran.closed ran.file
+
+AreHome-ran : {F C N T I : Type 0} (views : Views F C N T I) (old new : Lendings F C N T I) (before now : ℕ) (said : Option Command) (status : Status) → Ran views old new before now said status → AreHome old.file new.file
+AreHome-ran views old new before now said status (inl ran) = AreHome-same old.file new.file ran.file
+AreHome-ran views old new before now said status (inr ran) = AreHome-command views old new before now ran.0 status ran.2
 
 IsHome-told : {N : Type 0} (written : N → Option (List ℕ)) (faults : N → ℕ) (old new : Lending N) (line : List ℕ) → TellsLine written faults old new line → IsHome old new
 IsHome-told written faults old new line told = IsHome-lent old new told.given told.back told.lent
 
 IsHome-status : {N : Type 0} (written : N → Option (List ℕ)) (faults : N → ℕ) (old new : Lending N) (status : Status) → TellsStatus written faults old new status → IsHome old new
 IsHome-status written faults old new Done told = IsHome-same old new told
-IsHome-status written faults old new Usage told = IsHome-told written faults old new _ told
-IsHome-status written faults old new FarmFile told = IsHome-told written faults old new _ told
-IsHome-status written faults old new Opening told = IsHome-told written faults old new _ told
-IsHome-status written faults old new Read told = IsHome-told written faults old new _ told
-IsHome-status written faults old new Write told = IsHome-told written faults old new _ told
-IsHome-status written faults old new NoMemory told = IsHome-told written faults old new _ told
-IsHome-status written faults old new Wire told = IsHome-told written faults old new _ told
+IsHome-status written faults old new Usage told = IsHome-told written faults old new told.0 told.2
+IsHome-status written faults old new FarmFile told = IsHome-told written faults old new told.0 told.2
+IsHome-status written faults old new Input told = IsHome-told written faults old new told.0 told.2
+IsHome-status written faults old new Opening told = IsHome-told written faults old new told.0 told.2
+IsHome-status written faults old new Read told = IsHome-told written faults old new told.0 told.2
+IsHome-status written faults old new Write told = IsHome-told written faults old new told.0 told.2
+IsHome-status written faults old new NoMemory told = IsHome-told written faults old new told.0 told.2
+IsHome-status written faults old new Wire told = IsHome-told written faults old new told.0 told.2
 
-pub AllHome-from_run : {F C N T I : Type 0} (views : Views F C N T I) (old new : Lendings F C N T I) (before now : ℕ) (words : Option (List ℕ)) (status : Status)
-    → Ran views old new before now words status → TellsStatus views.notes_written views.notes_faults old.notes new.notes status
+pub AllHome-from_run : {F C N T I : Type 0} (views : Views F C N T I) (old new : Lendings F C N T I) (before now : ℕ) (said : Option Command) (status : Status)
+    → Ran views old new before now said status → TellsStatus views.notes_written views.notes_faults old.notes new.notes status
     → AllHome old new
-AllHome-from_run views old new before now words status ran told =
-    let home = ConsoleHome-ran views old new before now words status ran in
+AllHome-from_run views old new before now said status ran told =
+    let home = ConsoleHome-ran views old new before now said status ran in
     record {
-      file = AreHome-ran views old new before now words status ran;
+      file = AreHome-ran views old new before now said status ran;
       console = home.console;
       notes = IsHome-status views.notes_written views.notes_faults old.notes new.notes status told;
       clock = home.clock;

@@ -1,5 +1,8 @@
 pub mod CompleteLemmas
-pub mod HomeLemmas
+pub mod FarmFileLemmas
+pub mod ExpansionLemmas
+mod HomeLemmas
+mod NoteLemmas
 pub mod ReasonLemmas
 pub mod RunLemmas
 pub mod RunsLemmas

@@ -1,65 +1,167 @@
 -- A run has the reason of its status.
-use Rattle.std.proofs.Common.{subst, ◌↔◌, ◌≡◌, ℕ, List, [], Option, Some, None, refl, inl, inr}
+use Rattle.std.proofs.Common.{◌≡◌, ℕ, ◌⊎◌, List, Option, Some, None, refl, inl, inr}
 use Rattle.std.specs.Prelude.{IfSome}
-use Rattle.farm_server.specs.Served.{Ask, messages_of, EndsAs, IsCaused}
+use Rattle.command_line.specs.Words.{farm_of}
+use Rattle.command_line.specs.declared.command.Command.{Command}
+use Rattle.command_line.specs.declared.command.Command.TheVariants.{Answer, Expand, Check}
+use Rattle.farm_machine.specs.declared.config.Config.{Config}
+use Rattle.role_expand.specs.Roles.{RoleData}
+use Rattle.http_wire.specs.declared.message.Message.{Message}
+use Rattle.farm_server.specs.Served.{messages_of, EndsAs, IsCaused}
 use Rattle.farm_server.specs.declared.served.TheConstants.{REQUESTS}
 use Rattle.farm_server.specs.declared.served.Served.{Served}
 use Rattle.farm_server.specs.declared.served.Served.TheVariants as served
 use Rattle.farm_cli.specs.declared.status.Status.{Status}
-use Rattle.farm_cli.specs.declared.status.Status.TheVariants.{Usage}
+use Rattle.farm_cli.specs.declared.status.Status.TheVariants.{Done, Usage, FarmFile, Input, Opening, Read, Write, NoMemory, Wire}
+use Rattle.farm_cli.specs.Checking.{Checks}
+use Rattle.farm_cli.specs.Expanding.{IsExpansion, Expands}
+use Rattle.farm_cli.specs.FarmFile.{SetsUp, FileRefused}
 use Rattle.farm_cli.specs.House.{WasLent, WasOpened, Lendings}
-use Rattle.farm_cli.specs.Reasons.{FileHeld, HasReason}
-use Rattle.farm_cli.specs.Run.{Views, outside_of, status_of, RanOverFile, Ran}
+use Rattle.farm_cli.specs.Reasons.{FileLent, FileTaken, EndsWith, IsDone, IsRefused, IsCut, HasReason}
+use Rattle.farm_cli.specs.Run.{Obeyed, RanOverFile, RanCommand, Ran}
+use Rattle.farm_cli.specs.Serving.{status_of, Conversed}
+use Rattle.farm_cli.specs.Views.{Views, outside_of, talk_of}
+
+-- a farm file was taken, and this command was obeyed over it
+record Taken {F C N T I : Type 0} (views : Views F C N T I) (old new : Lendings F C N T I) (before now : ℕ) (said : Option Command) (config : Config) (command : Command) : Type 0 where
+  openings : now ≡ before
+  asked : said ≡ Some command
+  opened : F
+  closed : F
+  file : WasOpened old.file new.file (farm_of command) opened closed
+  sets_up : IfSome (views.file_left opened) (λ bytes. SetsUp bytes config)
+  reads_kept : views.file_faults closed ≡ views.file_faults opened
+
+FileTaken-from : {F C N T I : Type 0} (views : Views F C N T I) (old new : Lendings F C N T I) (before now : ℕ) (said : Option Command) (config : Config) (command : Command) (IsSo : Config → Command → Type 0)
+    → Taken views old new before now said config command → IsSo config command → (now ≡ before) × FileTaken views old new said IsSo
+FileTaken-from views old new before now said config command IsSo taken so = (
+  taken.openings,
+  record {
+    lent = record { command = command; asked = taken.asked; opened = taken.opened; closed = taken.closed; file = taken.file };
+    config = config;
+    sets_up = taken.sets_up;
+    reads_kept = taken.reads_kept;
+    is_so = so;
+  },
+)
+
+-- the list of the messages ends so, where the bytes are known
+ends_with : (left : Option (List ℕ)) (messages : List Message) (served : Served) → IfSome left (λ bytes. EndsAs REQUESTS bytes messages served)
+    → IfSome left (λ bytes. EndsWith bytes (status_of served))
+ends_with None messages served ends = tt
+ends_with (Some bytes) messages served ends = record { messages = messages; served = served; calls_for = refl; ends = ends }
 
 -- a connection that ended so has the reason of its status
-HasReason-served : {F C N T I : Type 0} (views : Views F C N T I) (old new : Lendings F C N T I) (before now : ℕ) (words : Option (List ℕ)) (given back : C) (clock clock' : T) (draws draws' : I) (asks : List Ask) (served : Served)
-    → FileHeld views old new words (λ bytes. bytes ≡ []) → WasLent old.console new.console given back
-    → IfSome (views.console_left given) (λ bytes. EndsAs REQUESTS bytes (messages_of asks) served)
+HasReason-served : {F C N T I : Type 0} (views : Views F C N T I) (old new : Lendings F C N T I) (before now : ℕ) (said : Option Command) (config : Config) (farm : List ℕ) (given back : C) (clock clock' : T) (draws draws' : I) (messages : List Message) (served : Served)
+    → Taken views old new before now said config (Answer farm) → WasLent old.console new.console given back
+    → IfSome (views.console_left given) (λ bytes. EndsAs REQUESTS bytes messages served)
     → IsCaused (outside_of views given clock draws) (outside_of views back clock' draws') served
-    → HasReason views old new before now words (status_of served)
-HasReason-served views old new before now words given back clock clock' draws draws' asks served.Closed held lent taken cause =
-    (held, record { given = given; back = back; lent = lent; asks = asks; served = served.Closed; calls_for = refl; taken = taken })
-HasReason-served views old new before now words given back clock clock' draws draws' asks served.Full held lent taken cause =
-    (held, record { given = given; back = back; lent = lent; asks = asks; served = served.Full; calls_for = refl; taken = taken })
-HasReason-served views old new before now words given back clock clock' draws draws' asks served.EndedInside held lent taken cause =
-    record { given = given; back = back; lent = lent; asks = asks; served = served.EndedInside; calls_for = refl; taken = taken }
-HasReason-served views old new before now words given back clock clock' draws draws' asks (served.WireFault reason) held lent taken cause =
-    record { given = given; back = back; lent = lent; asks = asks; served = served.WireFault reason; calls_for = refl; taken = taken }
-HasReason-served views old new before now words given back clock clock' draws draws' asks served.ReadFault held lent taken cause =
-    inr (record { given = given; back = back; lent = lent; rose = cause })
-HasReason-served views old new before now words given back clock clock' draws draws' asks served.WriteFault held lent taken cause =
-    record { given = given; back = back; lent = lent; rose = cause }
-HasReason-served views old new before now words given back clock clock' draws draws' asks served.NoMemory held lent taken cause = tt
+    → HasReason views old new before now said (status_of served)
+HasReason-served views old new before now said config farm given back clock clock' draws draws' messages served.Closed taken lent ends cause =
+    FileTaken-from views old new before now said config (Answer farm) (IsDone views old new) taken (record { given = given; back = back; lent = lent; reads_kept = cause.0; writes_kept = cause.1; held = ends_with (views.console_left given) messages served.Closed ends })
+HasReason-served views old new before now said config farm given back clock clock' draws draws' messages served.Full taken lent ends cause =
+    FileTaken-from views old new before now said config (Answer farm) (IsDone views old new) taken (record { given = given; back = back; lent = lent; reads_kept = cause.0; writes_kept = cause.1; held = ends_with (views.console_left given) messages served.Full ends })
+HasReason-served views old new before now said config farm given back clock clock' draws draws' messages served.EndedInside taken lent ends cause =
+    FileTaken-from views old new before now said config (Answer farm) (IsCut views old new) taken (record { given = given; back = back; lent = lent; reads_kept = cause.0; writes_kept = cause.1; held = ends_with (views.console_left given) messages served.EndedInside ends })
+HasReason-served views old new before now said config farm given back clock clock' draws draws' messages (served.WireFault reason) taken lent ends cause =
+    FileTaken-from views old new before now said config (Answer farm) (IsCut views old new) taken (record { given = given; back = back; lent = lent; reads_kept = cause.0; writes_kept = cause.1; held = ends_with (views.console_left given) messages (served.WireFault reason) ends })
+HasReason-served views old new before now said config farm given back clock clock' draws draws' messages served.ReadFault taken lent ends cause =
+    let failed = FileTaken-from views old new before now said config (Answer farm) _ taken (record { given = given; back = back; lent = lent; rose = cause.0; kept = cause.1 }) in (failed.0, inr failed.1)
+HasReason-served views old new before now said config farm given back clock clock' draws draws' messages served.WriteFault taken lent ends cause =
+    FileTaken-from views old new before now said config (Answer farm) _ taken (record { given = given; back = back; lent = lent; rose = cause.0; kept = cause.1 })
+HasReason-served views old new before now said config farm given back clock clock' draws draws' messages served.NoMemory taken lent ends cause = tt
 
--- a run over a file has the reason of its status
-HasReason-over : {F C N T I : Type 0} (views : Views F C N T I) (old new : Lendings F C N T I) (before now : ℕ) (name : List ℕ) (opened closed : F) (status : Status)
-    → WasOpened old.file new.file name opened closed → RanOverFile views old new opened closed status
-    → HasReason views old new before now (Some name) status
-HasReason-over views old new before now name opened closed status file (inl ran) =
-    rw ran.1.status_is (HasReason-served views old new before now (Some name) ran.1.console_given ran.1.console_back ran.1.clock_given ran.1.clock_back ran.1.draws_given ran.1.draws_back ran.1.asks ran.1.served (record { name = name; named = refl; opened = opened; closed = closed; file = file; held = ran.0 }) ran.1.console ran.1.spoke.taken ran.1.spoke.cause)
-HasReason-over views old new before now name opened closed status file (inr (inl ran)) =
-    rw ran.0 (record { name = name; named = refl; opened = opened; closed = closed; file = file; held = ran.1 })
-HasReason-over views old new before now name opened closed status file (inr (inr ran)) =
-    rw ran.0 (inl (record { name = name; named = refl; opened = opened; closed = closed; file = file; rose = ran.1 }))
+HasReason-conversed : {F C N T I : Type 0} (views : Views F C N T I) (old new : Lendings F C N T I) (before now : ℕ) (said : Option Command) (config : Config) (farm : List ℕ) (status : Status)
+    → Taken views old new before now said config (Answer farm) → Conversed views old new config status → HasReason views old new before now said status
+HasReason-conversed views old new before now said config farm status taken ran =
+    rw ran.status_is (HasReason-served views old new before now said config farm ran.console_given ran.console_back ran.clock_given ran.clock_back ran.draws_given ran.draws_back (messages_of ran.asks) ran.served taken ran.console ran.spoke.taken ran.spoke.cause)
 
-pub HasReason-from_run : {F C N T I : Type 0} (views : Views F C N T I) (old new : Lendings F C N T I) (before now : ℕ) (words : Option (List ℕ)) (status : Status)
-    → Ran views old new before now words status → HasReason views old new before now words status
-HasReason-from_run views old new before now None status ran = rw ran.0 refl
-HasReason-from_run views old new before now (Some name) status (inl ran) = rw ran.status_is ran.rose
-HasReason-from_run views old new before now (Some name) status (inr ran) =
-    HasReason-over views old new before now name ran.opened ran.closed status ran.file ran.ran
+-- an input that has this expansion has one
+has_expansion : (left : Option (List ℕ)) (roles : List RoleData) (text : List ℕ) → IfSome left (λ input. IsExpansion roles input text)
+    → IfSome left (λ input. (t : List ℕ) × IsExpansion roles input t)
+has_expansion None roles text h = tt
+has_expansion (Some input) roles text h = (text, h)
 
--- the reason of Usage is that words have no reading
-usage_reason : {F C N T I : Type 0} (views : Views F C N T I) (old new : Lendings F C N T I) (before now : ℕ) (words : Option (List ℕ)) (status : Status)
-    → HasReason views old new before now words status → status ≡ Usage → words ≡ None
-usage_reason views old new before now words status reason is = subst (λ s. HasReason views old new before now words s) is reason
+-- an expansion that ended so has the reason of its status
+HasReason-expanded : {F C N T I : Type 0} (views : Views F C N T I) (old new : Lendings F C N T I) (before now : ℕ) (said : Option Command) (config : Config) (farm : List ℕ) (given back : C) (status : Status)
+    → Taken views old new before now said config (Expand farm) → WasLent old.console new.console given back
+    → Expands config.roles (talk_of views given) (talk_of views back) status → HasReason views old new before now said status
+HasReason-expanded views old new before now said config farm given back Done taken lent did =
+    FileTaken-from views old new before now said config (Expand farm) (IsDone views old new) taken (record { given = given; back = back; lent = lent; reads_kept = did.3; writes_kept = did.4.1; held = has_expansion (views.console_left given) config.roles did.0 did.1 })
+HasReason-expanded views old new before now said config farm given back Usage taken lent did = absurd did.4
+HasReason-expanded views old new before now said config farm given back FarmFile taken lent did = absurd did.4
+HasReason-expanded views old new before now said config farm given back Opening taken lent did = absurd did.4
+HasReason-expanded views old new before now said config farm given back Wire taken lent did = absurd did.4
+HasReason-expanded views old new before now said config farm given back Input taken lent did =
+    FileTaken-from views old new before now said config (Expand farm) (IsRefused views old new) taken (record { given = given; back = back; lent = lent; reads_kept = did.1; writes_kept = did.2.faults; held = did.0 })
+HasReason-expanded views old new before now said config farm given back Read taken lent did =
+    let failed = FileTaken-from views old new before now said config (Expand farm) _ taken (record { given = given; back = back; lent = lent; rose = did.0; kept = did.1.faults }) in (failed.0, inr failed.1)
+HasReason-expanded views old new before now said config farm given back Write taken lent did =
+    FileTaken-from views old new before now said config (Expand farm) _ taken (record { given = given; back = back; lent = lent; rose = did.4.1; kept = did.3 })
+HasReason-expanded views old new before now said config farm given back NoMemory taken lent did = tt
 
-usage_none : {F C N T I : Type 0} (views : Views F C N T I) (old new : Lendings F C N T I) (before now : ℕ) (words : Option (List ℕ)) (status : Status)
-    → Ran views old new before now words status → words ≡ None → status ≡ Usage
-usage_none views old new before now words status ran is =
-    let none = subst (λ w. Ran views old new before now w status) is ran in none.0
+-- whatever was there to read
+anything : (left : Option (List ℕ)) → IfSome left (λ bytes. Unit {0})
+anything None = tt
+anything (Some bytes) = tt
 
-pub usage_from_run : {F C N T I : Type 0} (views : Views F C N T I) (old new : Lendings F C N T I) (before now : ℕ) (words : Option (List ℕ)) (status : Status)
-    → Ran views old new before now words status → (status ≡ Usage) ↔ (words ≡ None)
-usage_from_run views old new before now words status ran =
-    (usage_reason views old new before now words status (HasReason-from_run views old new before now words status ran), usage_none views old new before now words status ran)
+-- a count that ended so has the reason of its status
+HasReason-checked : {F C N T I : Type 0} (views : Views F C N T I) (old new : Lendings F C N T I) (before now : ℕ) (said : Option Command) (config : Config) (farm : List ℕ) (given back : C) (status : Status)
+    → Taken views old new before now said config (Check farm) → WasLent old.console new.console given back
+    → Checks config (talk_of views given) (talk_of views back) status → HasReason views old new before now said status
+HasReason-checked views old new before now said config farm given back Done taken lent did =
+    FileTaken-from views old new before now said config (Check farm) (IsDone views old new) taken (record { given = given; back = back; lent = lent; reads_kept = did.0.faults; writes_kept = did.1.1; held = anything (views.console_left given) })
+HasReason-checked views old new before now said config farm given back Usage taken lent did = absurd did.1
+HasReason-checked views old new before now said config farm given back FarmFile taken lent did = absurd did.1
+HasReason-checked views old new before now said config farm given back Input taken lent did = absurd did.1
+HasReason-checked views old new before now said config farm given back Opening taken lent did = absurd did.1
+HasReason-checked views old new before now said config farm given back Read taken lent did = absurd did.1
+HasReason-checked views old new before now said config farm given back Wire taken lent did = absurd did.1
+HasReason-checked views old new before now said config farm given back Write taken lent did =
+    FileTaken-from views old new before now said config (Check farm) _ taken (record { given = given; back = back; lent = lent; rose = did.1.1; kept = did.0.faults })
+HasReason-checked views old new before now said config farm given back NoMemory taken lent did = tt
+
+HasReason-obeyed : {F C N T I : Type 0} (views : Views F C N T I) (old new : Lendings F C N T I) (before now : ℕ) (said : Option Command) (config : Config) (command : Command) (status : Status)
+    → Taken views old new before now said config command → Obeyed views old new config command status → HasReason views old new before now said status
+HasReason-obeyed views old new before now said config (Answer farm) status taken ran = HasReason-conversed views old new before now said config farm status taken ran
+HasReason-obeyed views old new before now said config (Expand farm) status taken ran =
+    HasReason-expanded views old new before now said config farm ran.given ran.back status taken ran.console ran.did
+HasReason-obeyed views old new before now said config (Check farm) status taken ran =
+    HasReason-checked views old new before now said config farm ran.given ran.back status taken ran.console ran.did
+
+-- a farm file that was not taken
+HasReason-refused : {F C N T I : Type 0} (views : Views F C N T I) (old new : Lendings F C N T I) (before now : ℕ) (said : Option Command) (lent : FileLent old new said) (status : Status)
+    → now ≡ before → FileRefused (views.file_left lent.opened) (views.file_faults lent.opened) (views.file_faults lent.closed) status → HasReason views old new before now said status
+HasReason-refused views old new before now said lent Done openings why = absurd why
+HasReason-refused views old new before now said lent Usage openings why = absurd why
+HasReason-refused views old new before now said lent Input openings why = absurd why
+HasReason-refused views old new before now said lent Opening openings why = absurd why
+HasReason-refused views old new before now said lent Write openings why = absurd why
+HasReason-refused views old new before now said lent Wire openings why = absurd why
+HasReason-refused views old new before now said lent FarmFile openings why = (openings, record { lent = lent; fault = why.0; reads_kept = why.1 })
+HasReason-refused views old new before now said lent Read openings why = (openings, inl (record { lent = lent; rose = why }))
+HasReason-refused views old new before now said lent NoMemory openings why = tt
+
+HasReason-over : {F C N T I : Type 0} (views : Views F C N T I) (old new : Lendings F C N T I) (before now : ℕ) (said : Option Command) (command : Command) (opened closed : F) (status : Status)
+    → now ≡ before → said ≡ Some command → WasOpened old.file new.file (farm_of command) opened closed → RanOverFile views old new command opened closed status
+    → HasReason views old new before now said status
+HasReason-over views old new before now said command opened closed status openings asked file (inl ran) =
+    HasReason-obeyed views old new before now said ran.0 command status (record { openings = openings; asked = asked; opened = opened; closed = closed; file = file; sets_up = ran.1; reads_kept = ran.2 }) ran.3
+HasReason-over views old new before now said command opened closed status openings asked file (inr ran) =
+    HasReason-refused views old new before now said (record { command = command; asked = asked; opened = opened; closed = closed; file = file }) status openings ran.0
+
+HasReason-command : {F C N T I : Type 0} (views : Views F C N T I) (old new : Lendings F C N T I) (before now : ℕ) (said : Option Command) (command : Command) (status : Status)
+    → said ≡ Some command → RanCommand views old new before now command status → HasReason views old new before now said status
+HasReason-command views old new before now said command status asked (inl ran) = rw ran.status_is ran.rose
+HasReason-command views old new before now said command status asked (inr ran) =
+    HasReason-over views old new before now said command ran.opened ran.closed status ran.openings asked ran.file ran.ran
+
+HasReason-words : {F C N T I : Type 0} (views : Views F C N T I) (old new : Lendings F C N T I) (before now : ℕ) (said : Option Command) (status : Status)
+    → (status ≡ NoMemory) ⊎ ((status ≡ Usage) × (said ≡ None)) → HasReason views old new before now said status
+HasReason-words views old new before now said status (inl none) = rw none tt
+HasReason-words views old new before now said status (inr usage) = rw usage.0 usage.1
+
+pub HasReason-from_run : {F C N T I : Type 0} (views : Views F C N T I) (old new : Lendings F C N T I) (before now : ℕ) (said : Option Command) (status : Status)
+    → Ran views old new before now said status → HasReason views old new before now said status
+HasReason-from_run views old new before now said status (inl refused) = HasReason-words views old new before now said status refused.why
+HasReason-from_run views old new before now said status (inr ran) = HasReason-command views old new before now said ran.0 status ran.1 ran.2

@@ -1,28 +1,23 @@
 -- What the calls of a run leave together.
-use Rattle.std.proofs.Common.{◌≡◌, ℕ, ◌+◌, ◌-◌, ◌≤◌, List, [], ◌++◌, length, length-take, length-drop, take, drop, Option, Some, None, refl, sym, ◌∙◌, inl, inr, arith}
-use Rattle.std.proofs.lemmas.List.{take-append-drop, take_all}
-use Rattle.std.proofs.Math.Seq.{take-append-add}
-use Rattle.std.specs.Io.KnownBytes.{Appends, Keeps}
-use Rattle.std.proofs.KnownBytes.{Appends-trans, Appends-kept}
-use Rattle.causes.specs.Causes.{Rose}
-use Rattle.causes.proofs.CausesLemmas.{Rose-earlier}
+use Rattle.std.proofs.Common.{◌≡◌, ℕ, List, [], Option, refl, sym, ◌∙◌, inl, inr}
 use Rattle.history.specs.Histories.{LeadsAlone}
 use Rattle.history.specs.Asks.{AsksInTurn}
+use Rattle.command_line.specs.Words.{farm_of}
+use Rattle.command_line.specs.declared.command.Command.{Command}
+use Rattle.command_line.specs.declared.command.Command.TheVariants.{Answer, Expand, Check}
+use Rattle.farm_machine.specs.declared.config.Config.{Config}
 use Rattle.farm_machine.specs.Entry.{Entry}
 use Rattle.farm_machine.specs.Law.{Opening, opened}
 use Rattle.farm_machine.specs.State.{State}
 use Rattle.farm_machine.specs.Step.{farm_rules}
 use Rattle.farm_machine.specs.declared.reply.Reply.{Reply}
 use Rattle.farm_server.specs.Served.{Ask, questions_of}
-use Rattle.farm_cli.specs.House.{CanGive, after_giving, after_return, WasLent, Lendings}
-use Rattle.farm_cli.specs.Run.{Views, IsHistoryOf, Conversed, LeavesConsole, RanOverFile, Ran, WritesFront}
+use Rattle.farm_cli.specs.House.{CanGive, after_giving, after_return, WasLent, after_opened, after_closing, CanOpenAmong, Lendings}
+use Rattle.farm_cli.specs.Run.{LeavesConsole, UsedConsole, Obeyed, RanOverFile, RanCommand, Ran}
+use Rattle.farm_cli.specs.Serving.{IsHistoryOf, Conversed}
+use Rattle.farm_cli.specs.Views.{Views, Talk}
 use Rattle.farm_cli.specs.declared.status.Status.{Status}
-
--- the first bytes of a text were written, and the count of faults has not fallen
-pub record HasWritten (written_before written_now : Option (List ℕ)) (faults_before faults_now at : ℕ) (text : List ℕ) : Type 0 where
-  pub within : at ≤ length text
-  pub appends : Appends written_before written_now (take at text)
-  pub later : faults_before ≤ faults_now
+use Rattle.std.specs.Prelude.{Ok}
 
 -- three objects were lent, and came back
 pub record WereLent {F C N T I : Type 0} (old new : Lendings F C N T I) (console console' : C) (clock clock' : T) (draws draws' : I) : Type 0 where
@@ -57,14 +52,16 @@ IsHistoryOf-from_turns start state old new asks replies fresh turns alone =
     record {
       history = gains.since;
       legal = leads.legal;
+      made = leads.made;
       asked = rw (← leads.all) gains.asked;
       replied = rw (← leads.all) gains.replied;
     }
 
--- what was said over the console is said of any lendings that tell the same of it
-pub Conversed-same : {F C N T I : Type 0} (views : Views F C N T I) (old old' new new' : Lendings F C N T I) (status : Status)
-    → LeavesConsole old old' → LeavesConsole new new' → Conversed views old new status → Conversed views old' new' status
-Conversed-same views old old' new new' status before after h = record {
+-- ---- what was done with the console is said of any lendings that tell the same of it
+
+Conversed-same : {F C N T I : Type 0} (views : Views F C N T I) (old old' new new' : Lendings F C N T I) (config : Config) (status : Status)
+    → LeavesConsole old old' → LeavesConsole new new' → Conversed views old new config status → Conversed views old' new' config status
+Conversed-same views old old' new new' config status before after h = record {
   console_given = h.console_given;
   console_back = h.console_back;
   console = rw (before.console, after.console) h.console;
@@ -82,72 +79,77 @@ Conversed-same views old old' new new' status before after h = record {
   status_is = h.status_is;
 }
 
-LeavesConsole-same : {F C N T I : Type 0} (old new new' : Lendings F C N T I) → LeavesConsole new new' → LeavesConsole old new → LeavesConsole old new'
-LeavesConsole-same old new new' after h = record {
-  console = after.console ∙ h.console;
-  clock = after.clock ∙ h.clock;
-  draws = after.draws ∙ h.draws;
+UsedConsole-same : {F C N T I : Type 0} (views : Views F C N T I) (old old' new new' : Lendings F C N T I) (Did : Talk → Talk → Type 0)
+    → LeavesConsole old old' → LeavesConsole new new' → UsedConsole views old new Did → UsedConsole views old' new' Did
+UsedConsole-same views old old' new new' Did before after h = record {
+  given = h.given;
+  back = h.back;
+  console = rw (before.console, after.console) h.console;
+  clock = after.clock ∙ (h.clock ∙ sym before.clock);
+  draws = after.draws ∙ (h.draws ∙ sym before.draws);
+  did = h.did;
 }
 
-RanOverFile-same : {F C N T I : Type 0} (views : Views F C N T I) (old new new' : Lendings F C N T I) (opened closed : F) (status : Status)
-    → LeavesConsole new new' → RanOverFile views old new opened closed status → RanOverFile views old new' opened closed status
-RanOverFile-same views old new new' opened closed status after (inl h) =
-    inl (h.0, Conversed-same views old old new new' status (record { console = refl; clock = refl; draws = refl }) after h.1)
-RanOverFile-same views old new new' opened closed status after (inr (inl h)) = inr (inl (h.0, h.1, LeavesConsole-same old new new' after h.2))
-RanOverFile-same views old new new' opened closed status after (inr (inr h)) = inr (inr (h.0, h.1, LeavesConsole-same old new new' after h.2))
+pub Obeyed-same : {F C N T I : Type 0} (views : Views F C N T I) (old old' new new' : Lendings F C N T I) (config : Config) (command : Command) (status : Status)
+    → LeavesConsole old old' → LeavesConsole new new' → Obeyed views old new config command status → Obeyed views old' new' config command status
+Obeyed-same views old old' new new' config (Answer farm) status before after h = Conversed-same views old old' new new' config status before after h
+Obeyed-same views old old' new new' config (Expand farm) status before after h = UsedConsole-same views old old' new new' _ before after h
+Obeyed-same views old old' new new' config (Check farm) status before after h = UsedConsole-same views old old' new new' _ before after h
 
--- a run is the same run where later only what is said of notes changes
-pub Ran-notes : {F C N T I : Type 0} (views : Views F C N T I) (old new new' : Lendings F C N T I) (before now : ℕ) (name : Option (List ℕ)) (status : Status)
-    → new'.file ≡ new.file → LeavesConsole new new' → Ran views old new before now name status → Ran views old new' before now name status
-Ran-notes views old new new' before now None status file after h = (h.0, file ∙ h.1, LeavesConsole-same old new new' after h.2)
-Ran-notes views old new new' before now (Some name) status file after (inl h) = inl (record {
+LeavesConsole-same : {F C N T I : Type 0} (old old' new new' : Lendings F C N T I) → LeavesConsole old old' → LeavesConsole new new' → LeavesConsole old new → LeavesConsole old' new'
+LeavesConsole-same old old' new new' before after h = record {
+  console = after.console ∙ (h.console ∙ sym before.console);
+  clock = after.clock ∙ (h.clock ∙ sym before.clock);
+  draws = after.draws ∙ (h.draws ∙ sym before.draws);
+}
+
+LeavesConsole-none : {F C N T I : Type 0} (old : Lendings F C N T I) → LeavesConsole old old
+LeavesConsole-none old = record { console = refl; clock = refl; draws = refl }
+
+RanOverFile-same : {F C N T I : Type 0} (views : Views F C N T I) (old old' new new' : Lendings F C N T I) (command : Command) (opened closed : F) (status : Status)
+    → LeavesConsole old old' → LeavesConsole new new' → RanOverFile views old new command opened closed status → RanOverFile views old' new' command opened closed status
+RanOverFile-same views old old' new new' command opened closed status before after (inl h) =
+    inl (h.0, h.1, h.2, Obeyed-same views old old' new new' h.0 command status before after h.3)
+RanOverFile-same views old old' new new' command opened closed status before after (inr h) = inr (h.0, LeavesConsole-same old old' new new' before after h.1)
+
+-- a file was opened, and a command was run over it
+pub RanCommand-opened : {F C N T I : Type 0} (views : Views F C N T I) (old between new : Lendings F C N T I) (before now : ℕ) (command : Command) (file closed : F) (status : Status)
+    → now ≡ before → CanOpenAmong old.file (farm_of command) (Ok file) → between ≡ record old { file = after_opened old.file }
+    → new.file ≡ after_closing between.file closed → RanOverFile views between new command file closed status
+    → RanCommand views old new before now command status
+RanCommand-opened views old between new before now command file closed status openings could opens closes ran = inr (record {
+  openings = openings;
+  opened = file;
+  closed = closed;
+  file = record { could = could; returned = rw opens at closes };
+  ran = RanOverFile-same views between old new new command file closed status (record { console = rw opens refl; clock = rw opens refl; draws = rw opens refl }) (LeavesConsole-none new) ran;
+})
+
+-- ---- a run is the same run where later only what is said of notes changes
+
+RanCommand-notes : {F C N T I : Type 0} (views : Views F C N T I) (old new new' : Lendings F C N T I) (before now : ℕ) (command : Command) (status : Status)
+    → new'.file ≡ new.file → LeavesConsole new new' → RanCommand views old new before now command status → RanCommand views old new' before now command status
+RanCommand-notes views old new new' before now command status file after (inl h) = inl (record {
   status_is = h.status_is;
   rose = h.rose;
   could = h.could;
   file = file ∙ h.file;
-  others = LeavesConsole-same old new new' after h.others;
+  others = LeavesConsole-same old old new new' (LeavesConsole-none old) after h.others;
 })
-Ran-notes views old new new' before now (Some name) status file after (inr h) = inr (record {
+RanCommand-notes views old new new' before now command status file after (inr h) = inr (record {
+  openings = h.openings;
   opened = h.opened;
   closed = h.closed;
   file = record { could = h.file.could; returned = file ∙ h.file.returned };
-  ran = RanOverFile-same views old new new' h.opened h.closed status after h.ran;
+  ran = RanOverFile-same views old old new new' command h.opened h.closed status (LeavesConsole-none old) after h.ran;
 })
 
--- ---- a text that is written bit by bit
-
-take-add : (i n : ℕ) (text : List ℕ) → i ≤ length text → take (i + n) text ≡ take i text ++ take n (drop i text)
-take-add i n text within =
-    let whole = take-append-drop i text in
-    let long : length (take i text) ≡ i = simp length-take (omega arith) in
-    let seam = take-append-add (take i text) (drop i text) n in
-    rw (long, whole) at seam
-
--- some bytes more of what is left were written
-pub HasWritten-more : (written_before written_now written_next : Option (List ℕ)) (faults_before faults_now faults_next at n : ℕ) (text : List ℕ)
-    → HasWritten written_before written_now faults_before faults_now at text → n ≤ length (take (length text - at) (drop at text))
-    → Appends written_now written_next (take n (take (length text - at) (drop at text))) → faults_now ≤ faults_next
-    → HasWritten written_before written_next faults_before faults_next (at + n) text
-HasWritten-more wb wn wx fb fn fx at n text h bound appends later =
-    let len : length (drop at text) ≡ length text - at = length-drop at text in
-    let all : take (length text - at) (drop at text) ≡ drop at text = take_all (length text - at) (drop at text) (omega arith) in
-    let bound' = rw all at bound in
-    let appends' = rw all at appends in
-    let within = h.within in
-    let before = h.later in
-    record {
-      within = omega arith;
-      appends = rw (take-add at n text within) (Appends-trans wb wn wx (take at text) (take n (drop at text)) h.appends appends');
-      later = omega arith;
-    }
-
--- a write failed
-pub WritesFront-failed : (written_before written_now written_after : Option (List ℕ)) (faults_before faults_now faults_after at : ℕ) (text : List ℕ)
-    → HasWritten written_before written_now faults_before faults_now at text → Keeps written_now written_after → Rose faults_now faults_after
-    → WritesFront written_before written_after faults_before faults_after text
-WritesFront-failed wb wn wa fb fn fa at text h keeps rose = record {
-  front = take at text;
-  is_front = (drop at text, sym (take-append-drop at text));
-  appends = Appends-kept wb wn wa (take at text) h.appends keeps;
-  whole = inr (Rose-earlier fb fn fa h.later rose);
-}
+pub Ran-notes : {F C N T I : Type 0} (views : Views F C N T I) (old new new' : Lendings F C N T I) (before now : ℕ) (said : Option Command) (status : Status)
+    → new'.file ≡ new.file → LeavesConsole new new' → Ran views old new before now said status → Ran views old new' before now said status
+Ran-notes views old new new' before now said status file after (inl h) = inl (record {
+  why = h.why;
+  openings = h.openings;
+  file = file ∙ h.file;
+  others = LeavesConsole-same old old new new' (LeavesConsole-none old) after h.others;
+})
+Ran-notes views old new new' before now said status file after (inr h) = inr (h.0, h.1, RanCommand-notes views old new new' before now h.0 status file after h.2)

@@ -1,18 +1,21 @@
 -- All that is said of a run follows from what it did.
-use Rattle.std.proofs.Common.{ℕ, List, Option}
+use Rattle.std.proofs.Common.{ℕ, Option}
+use Rattle.command_line.specs.declared.command.Command.{Command}
 use Rattle.farm_cli.specs.declared.status.Status.{Status}
 use Rattle.farm_cli.specs.House.{Lendings}
-use Rattle.farm_cli.specs.Run.{Views, Ran}
+use Rattle.farm_cli.specs.Run.{Ran}
 use Rattle.farm_cli.specs.Runs.{Runs}
-use Rattle.farm_cli.proofs.CompleteLemmas.{Completes-from_run, RefusesFile-from_run, MissesFile-from_run}
+use Rattle.farm_cli.specs.Views.{Views}
+use Rattle.farm_cli.proofs.CompleteLemmas.{Completes-from_run, RefusesFile-from_run, MissesFile-from_run, TellsUsage-from_run}
 use Rattle.farm_cli.proofs.ReasonLemmas.{HasReason-from_run}
 
-pub Runs-from_run : {F C N T I : Type 0} (views : Views F C N T I) (old new : Lendings F C N T I) (before now : ℕ) (words : Option (List ℕ)) (status : Status)
-    → Ran views old new before now words status → Runs views old new before now words status
-Runs-from_run views old new before now words status ran = record {
+pub Runs-from_run : {F C N T I : Type 0} (views : Views F C N T I) (old new : Lendings F C N T I) (before now : ℕ) (said : Option Command) (status : Status)
+    → Ran views old new before now said status → Runs views old new before now said status
+Runs-from_run views old new before now said status ran = record {
   ran = ran;
-  reason = HasReason-from_run views old new before now words status ran;
-  missing = MissesFile-from_run views old new before now words status ran;
-  refused = RefusesFile-from_run views old new before now words status ran;
-  complete = Completes-from_run views old new before now words status ran;
+  reason = HasReason-from_run views old new before now said status ran;
+  usage = TellsUsage-from_run views old new before now said status ran;
+  missing = MissesFile-from_run views old new before now said status ran;
+  refused = RefusesFile-from_run views old new before now said status ran;
+  complete = Completes-from_run views old new before now said status ran;
 }

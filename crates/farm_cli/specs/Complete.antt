@@ -1,20 +1,29 @@
 -- What a run has to do where no count of faults rose.
-use Rattle.std.specs.Prelude.{◌≡◌, ◌≢◌, ℕ, ◌⊎◌, List, [], ◌++◌, Option, Some}
+use Rattle.std.specs.Prelude.{◌≡◌, ℕ, ◌⊎◌, List, [], ◌++◌, Option, Some, None}
 use Rattle.std.specs.Io.KnownBytes.{Appends}
 use Rattle.causes.specs.Causes.{Rose}
+use Rattle.command_line.specs.Words.{farm_of}
+use Rattle.command_line.specs.declared.command.Command.{Command}
+use Rattle.command_line.specs.declared.command.Command.TheVariants.{Answer, Expand, Check}
 use Rattle.http_wire.specs.declared.message.Message.{Message}
 use Rattle.http_wire.specs.declared.message.Wire.{Wire as Reason}
 use Rattle.http_wire.specs.declared.message.Wire.TheVariants as wire
 use Rattle.http_wire.specs.Stream.{Ending, stopped, closed, full, Messages}
+use Rattle.farm_machine.specs.declared.config.Config.{Config}
 use Rattle.farm_machine.specs.declared.reply.Reply.{Reply}
+use Rattle.farm_machine.specs.State.{empty_state}
 use Rattle.farm_server.specs.ReplyText.{wire_text}
 use Rattle.farm_server.specs.Served.{Ask, messages_of, reply_texts}
 use Rattle.farm_server.specs.declared.served.TheConstants.{REQUESTS}
 use Rattle.farm_cli.specs.declared.lending.Lending.TheVariants.{Ready, Back}
 use Rattle.farm_cli.specs.declared.status.Status.{Status}
-use Rattle.farm_cli.specs.declared.status.Status.TheVariants.{Done, FarmFile, Opening, NoMemory, Wire}
+use Rattle.farm_cli.specs.declared.status.Status.TheVariants.{Done, Usage, FarmFile, Input, Opening, NoMemory, Wire}
+use Rattle.farm_cli.specs.Checking.{check_text}
+use Rattle.farm_cli.specs.Expanding.{IsExpansion, IsBadInput}
+use Rattle.farm_cli.specs.FarmFile.{SetsUp, HasFault}
 use Rattle.farm_cli.specs.House.{Held, holds, refuses, unopened, back, Lendings}
-use Rattle.farm_cli.specs.Run.{Views, empty_farm, IsHistoryOf}
+use Rattle.farm_cli.specs.Serving.{IsHistoryOf}
+use Rattle.farm_cli.specs.Views.{Views}
 
 -- the status that a reason to stop calls for: an input that ends where a message would begin is read to its end
 abbrev pub stop_status : Reason → Status
@@ -33,13 +42,12 @@ own_text (stopped reason) = wire_text reason
 own_text closed = []
 own_text full = []
 
--- the house has this of the farm file that the words name, which was not opened yet
-pub record HasFile {F C N T I : Type 0} (old : Lendings F C N T I) (words : Option (List ℕ)) (held : Held F) : Type 0 where
-  pub name : List ℕ
-  pub named : words ≡ Some name
+-- the words ask for this command, and the house has this of its farm file, which was not opened yet
+pub record HasFile {F C N T I : Type 0} (old : Lendings F C N T I) (said : Option Command) (command : Command) (held : Held F) : Type 0 where
+  pub asked : said ≡ Some command
   pub at : List ℕ → Held F
   pub files : old.file ≡ unopened at
-  pub there : at name ≡ held
+  pub there : at (farm_of command) ≡ held
 
 -- the count of refused openings did not rise, nor that of the farm file's reads
 pub record NoFileFault {F C N T I : Type 0} (views : Views F C N T I) (new : Lendings F C N T I) (before now : ℕ) (file : F) : Type 0 where
@@ -52,33 +60,54 @@ pub record NoConsoleFault {F C N T I : Type 0} (views : Views F C N T I) (new : 
   pub writes : (console' : C) → new.console ≡ Back console' → ¬ (Rose (views.console_write_faults console) (views.console_write_faults console'))
 
 -- Each message of the list was answered, in one history of the farm, and then the wire replied where it refuses what came.
-pub record AnswersAll {F C N T I : Type 0} (views : Views F C N T I) (new : Lendings F C N T I) (console : C) (messages : List Message) (ending : Ending) (status : Status) : Type 0 where
+pub record AnswersAll {F C N T I : Type 0} (views : Views F C N T I) (new : Lendings F C N T I) (console : C) (config : Config) (messages : List Message) (ending : Ending) (status : Status) : Type 0 where
   pub status_is : status ≡ status_for ending
   pub console' : C
   pub came_back : new.console ≡ Back console'
   pub asks : List Ask
   pub replies : List Reply
   pub all : messages_of asks ≡ messages
-  pub history : IsHistoryOf empty_farm asks replies
+  pub history : IsHistoryOf (empty_state config) asks replies
   pub written : Appends (views.console_written console) (views.console_written console') (reply_texts REQUESTS asks replies ++ own_text ending)
 
--- Over an empty farm file and an input that is known, a run answers all of it, or memory runs out.
-abbrev pub Completes : {F C N T I : Type 0} → Views F C N T I → Lendings F C N T I → Lendings F C N T I → ℕ → ℕ → Option (List ℕ) → Status → Type 0
-Completes {F} {C} views old new before now words status =
-    (file : F) (console : C) (bytes : List ℕ) (messages : List Message) (ending : Ending)
-    → HasFile old words (holds file) → views.file_left file ≡ Some []
-    → old.console ≡ Ready console → views.console_left console ≡ Some bytes → Messages REQUESTS bytes messages ending
-    → NoFileFault views new before now file → NoConsoleFault views new console
-    → (status ≡ NoMemory) ⊎ AnswersAll views new console messages ending status
+-- the console came back, this text was written there, and the run is done
+pub record WritesAll {F C N T I : Type 0} (views : Views F C N T I) (new : Lendings F C N T I) (console : C) (text : List ℕ) (status : Status) : Type 0 where
+  pub done : status ≡ Done
+  pub console' : C
+  pub came_back : new.console ≡ Back console'
+  pub written : Appends (views.console_written console) (views.console_written console') text
 
--- a farm file that has a byte is refused
-abbrev pub RefusesFile : {F C N T I : Type 0} → Views F C N T I → Lendings F C N T I → Lendings F C N T I → ℕ → ℕ → Option (List ℕ) → Status → Type 0
-RefusesFile {F} views old new before now words status =
-    (file : F) (bytes : List ℕ)
-    → HasFile old words (holds file) → views.file_left file ≡ Some bytes → bytes ≢ []
-    → NoFileFault views new before now file
-    → status ≡ FarmFile
+-- What a command has to do over a farm that is set up so, where the console is known and does not fail: `answer` answers each message, `expand`
+-- writes the expansion of its input or refuses it, `check` writes its line.
+abbrev pub Finishes : {F C N T I : Type 0} → Views F C N T I → Lendings F C N T I → C → Config → Command → Status → Type 0
+Finishes views new console config (Answer farm) status =
+    (bytes : List ℕ) (messages : List Message) (ending : Ending)
+    → views.console_left console ≡ Some bytes → Messages REQUESTS bytes messages ending → AnswersAll views new console config messages ending status
+Finishes views new console config (Expand farm) status =
+    (input : List ℕ) → views.console_left console ≡ Some input
+    → ((text : List ℕ) × IsExpansion config.roles input text × WritesAll views new console text status)
+    ⊎ (IsBadInput config.roles input × (status ≡ Input))
+Finishes views new console config (Check farm) status = WritesAll views new console (check_text config) status
+
+-- Over a farm file that breaks no rule and a console that does not fail, a run finishes its command, or memory runs out.
+abbrev pub Completes : {F C N T I : Type 0} → Views F C N T I → Lendings F C N T I → Lendings F C N T I → ℕ → ℕ → Option Command → Status → Type 0
+Completes {F} {C} views old new before now said status =
+    (command : Command) (file : F) (bytes : List ℕ) (console : C)
+    → HasFile old said command (holds file) → views.file_left file ≡ Some bytes → ¬ HasFault bytes → NoFileFault views new before now file
+    → old.console ≡ Ready console → NoConsoleFault views new console
+    → (status ≡ NoMemory) ⊎ ((config : Config) × SetsUp bytes config × Finishes views new console config command status)
+
+-- a farm file that breaks a rule is refused
+abbrev pub RefusesFile : {F C N T I : Type 0} → Views F C N T I → Lendings F C N T I → Lendings F C N T I → ℕ → ℕ → Option Command → Status → Type 0
+RefusesFile {F} views old new before now said status =
+    (command : Command) (file : F) (bytes : List ℕ)
+    → HasFile old said command (holds file) → views.file_left file ≡ Some bytes → HasFault bytes → NoFileFault views new before now file
+    → (status ≡ NoMemory) ⊎ (status ≡ FarmFile)
 
 -- a farm file that is not there cannot be opened
-abbrev pub MissesFile : {F C N T I : Type 0} → Lendings F C N T I → Option (List ℕ) → Status → Type 0
-MissesFile old words status = HasFile old words refuses → status ≡ Opening
+abbrev pub MissesFile : {F C N T I : Type 0} → Lendings F C N T I → Option Command → Status → Type 0
+MissesFile old said status = (command : Command) → HasFile old said command refuses → (status ≡ NoMemory) ⊎ (status ≡ Opening)
+
+-- words without a reading are told so
+abbrev pub TellsUsage : Option Command → Status → Type 0
+TellsUsage said status = said ≡ None → (status ≡ NoMemory) ⊎ (status ≡ Usage)

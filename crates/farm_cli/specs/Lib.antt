@@ -1,9 +1,15 @@
+pub mod Checking
 pub mod Complete
+pub mod Expanding
+pub mod FarmFile
 pub mod Home
 pub mod House
 pub mod MemoryHouse
+pub mod Notes
 pub mod Reasons
 pub mod Run
 pub mod Runs
+pub mod Serving
 pub mod Status
-pub mod Words
+pub mod Views
+pub mod Writing

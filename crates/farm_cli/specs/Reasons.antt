@@ -1,56 +1,102 @@
 -- Why a run ended with its status.
-use Rattle.std.specs.Prelude.{◌≡◌, ◌≢◌, ℕ, ◌⊎◌, List, [], Option, Some, None, IfSome}
+use Rattle.std.specs.Prelude.{◌≡◌, ℕ, ◌⊎◌, List, Option, Some, None, IfSome}
 use Rattle.causes.specs.Causes.{Rose}
-use Rattle.farm_server.specs.Served.{Ask, messages_of, EndsAs}
+use Rattle.command_line.specs.Words.{farm_of}
+use Rattle.command_line.specs.declared.command.Command.{Command}
+use Rattle.command_line.specs.declared.command.Command.TheVariants.{Answer, Expand, Check}
+use Rattle.farm_machine.specs.declared.config.Config.{Config}
+use Rattle.http_wire.specs.declared.message.Message.{Message}
+use Rattle.farm_server.specs.Served.{EndsAs}
 use Rattle.farm_server.specs.declared.served.TheConstants.{REQUESTS}
 use Rattle.farm_server.specs.declared.served.Served.{Served}
 use Rattle.farm_cli.specs.declared.status.Status.{Status}
-use Rattle.farm_cli.specs.declared.status.Status.TheVariants.{Done, Usage, FarmFile, Opening, Read, Write, NoMemory, Wire}
+use Rattle.farm_cli.specs.declared.status.Status.TheVariants.{Done, Usage, FarmFile, Input, Opening, Read, Write, NoMemory, Wire}
+use Rattle.farm_cli.specs.Expanding.{IsExpansion, IsBadInput}
+use Rattle.farm_cli.specs.FarmFile.{SetsUp, HasFault}
 use Rattle.farm_cli.specs.House.{WasLent, WasOpened, Lendings}
-use Rattle.farm_cli.specs.Run.{Views, status_of}
+use Rattle.farm_cli.specs.Serving.{status_of}
+use Rattle.farm_cli.specs.Views.{Views}
 
--- the farm file that the words name was opened and came back, and this is so of what it held
-pub record FileHeld {F C N T I : Type 0} (views : Views F C N T I) (old new : Lendings F C N T I) (words : Option (List ℕ)) (IsSo : List ℕ → Type 0) : Type 0 where
-  pub name : List ℕ
-  pub named : words ≡ Some name
+-- the farm file that the words name was opened and came back
+pub record FileLent {F C N T I : Type 0} (old new : Lendings F C N T I) (said : Option Command) : Type 0 where
+  pub command : Command
+  pub asked : said ≡ Some command
   pub opened : F
   pub closed : F
-  pub file : WasOpened old.file new.file name opened closed
-  pub held : IfSome (views.file_left opened) IsSo
+  pub file : WasOpened old.file new.file (farm_of command) opened closed
 
--- the farm file that the words name was opened and came back, and its count of faults rose
-pub record FileFailed {F C N T I : Type 0} (views : Views F C N T I) (old new : Lendings F C N T I) (words : Option (List ℕ)) : Type 0 where
-  pub name : List ℕ
-  pub named : words ≡ Some name
-  pub opened : F
-  pub closed : F
-  pub file : WasOpened old.file new.file name opened closed
-  pub rose : Rose (views.file_faults opened) (views.file_faults closed)
+-- the farm file breaks a rule, and no read of it failed
+pub record FileHasFault {F C N T I : Type 0} (views : Views F C N T I) (old new : Lendings F C N T I) (said : Option Command) : Type 0 where
+  pub lent : FileLent old new said
+  pub fault : IfSome (views.file_left lent.opened) HasFault
+  pub reads_kept : views.file_faults lent.closed ≡ views.file_faults lent.opened
 
--- the console was lent and came back, and this count of its faults rose
-pub record ConsoleFailed {F C N T I : Type 0} (faults : C → ℕ) (old new : Lendings F C N T I) : Type 0 where
+-- the farm file's count of faults rose
+pub record FileFailed {F C N T I : Type 0} (views : Views F C N T I) (old new : Lendings F C N T I) (said : Option Command) : Type 0 where
+  pub lent : FileLent old new said
+  pub rose : Rose (views.file_faults lent.opened) (views.file_faults lent.closed)
+
+-- the farm file sets a farm up, no read of it failed, and this is so of that farm and of the command
+pub record FileTaken {F C N T I : Type 0} (views : Views F C N T I) (old new : Lendings F C N T I) (said : Option Command) (IsSo : Config → Command → Type 0) : Type 0 where
+  pub lent : FileLent old new said
+  pub config : Config
+  pub sets_up : IfSome (views.file_left lent.opened) (λ bytes. SetsUp bytes config)
+  pub reads_kept : views.file_faults lent.closed ≡ views.file_faults lent.opened
+  pub is_so : IsSo config lent.command
+
+-- the console was lent and came back, this count of its faults rose, and the other is as it was
+pub record ConsoleFailed {F C N T I : Type 0} (faults others : C → ℕ) (old new : Lendings F C N T I) : Type 0 where
   pub given : C
   pub back : C
   pub lent : WasLent old.console new.console given back
   pub rose : Rose (faults given) (faults back)
+  pub kept : others back ≡ others given
 
--- the console was lent and came back, and the list of its messages ended in a way that calls for this status
-pub record ConsoleEnded {F C N T I : Type 0} (views : Views F C N T I) (old new : Lendings F C N T I) (status : Status) : Type 0 where
+-- the console was lent and came back, no call to it failed, and this is so of what it held
+pub record ConsoleHeld {F C N T I : Type 0} (views : Views F C N T I) (old new : Lendings F C N T I) (IsSo : List ℕ → Type 0) : Type 0 where
   pub given : C
   pub back : C
   pub lent : WasLent old.console new.console given back
-  pub asks : List Ask
+  pub reads_kept : views.console_read_faults back ≡ views.console_read_faults given
+  pub writes_kept : views.console_write_faults back ≡ views.console_write_faults given
+  pub held : IfSome (views.console_left given) IsSo
+
+-- the list of the messages of these bytes ends in a way that calls for this status
+pub record EndsWith (bytes : List ℕ) (status : Status) : Type 0 where
+  pub messages : List Message
   pub served : Served
   pub calls_for : status_of served ≡ status
-  pub taken : IfSome (views.console_left given) (λ bytes. EndsAs REQUESTS bytes (messages_of asks) served)
+  pub ends : EndsAs REQUESTS bytes messages served
 
--- Each status comes only where this is so. Want of memory alone is free.
-abbrev pub HasReason : {F C N T I : Type 0} → Views F C N T I → Lendings F C N T I → Lendings F C N T I → ℕ → ℕ → Option (List ℕ) → Status → Type 0
-HasReason views old new before now words Done = FileHeld views old new words (λ bytes. bytes ≡ []) × ConsoleEnded views old new Done
-HasReason views old new before now words Usage = words ≡ None
-HasReason views old new before now words FarmFile = FileHeld views old new words (λ bytes. bytes ≢ [])
-HasReason views old new before now words Opening = Rose before now
-HasReason views old new before now words Read = FileFailed views old new words ⊎ ConsoleFailed views.console_read_faults old new
-HasReason views old new before now words Write = ConsoleFailed views.console_write_faults old new
-HasReason views old new before now words NoMemory = Unit {0}
-HasReason views old new before now words Wire = ConsoleEnded views old new Wire
+-- a command is done: the messages of `answer` end well, the input of `expand` has an expansion
+abbrev pub IsDone : {F C N T I : Type 0} → Views F C N T I → Lendings F C N T I → Lendings F C N T I → Config → Command → Type 0
+IsDone views old new config (Answer farm) = ConsoleHeld views old new (λ bytes. EndsWith bytes Done)
+IsDone views old new config (Expand farm) = ConsoleHeld views old new (λ input. (text : List ℕ) × IsExpansion config.roles input text)
+IsDone views old new config (Check farm) = ConsoleHeld views old new (λ bytes. Unit {0})
+
+-- an input was refused: that of `expand`
+abbrev pub IsRefused : {F C N T I : Type 0} → Views F C N T I → Lendings F C N T I → Lendings F C N T I → Config → Command → Type 0
+IsRefused views old new config (Answer farm) = ⊥
+IsRefused views old new config (Expand farm) = ConsoleHeld views old new (IsBadInput config.roles)
+IsRefused views old new config (Check farm) = ⊥
+
+-- a connection ended inside a message or by what is no request: that of `answer`
+abbrev pub IsCut : {F C N T I : Type 0} → Views F C N T I → Lendings F C N T I → Lendings F C N T I → Config → Command → Type 0
+IsCut views old new config (Answer farm) = ConsoleHeld views old new (λ bytes. EndsWith bytes Wire)
+IsCut views old new config (Expand farm) = ⊥
+IsCut views old new config (Check farm) = ⊥
+
+-- Each status comes only where this is so, and of several causes the one with the least number stands. Want of memory alone is free.
+abbrev pub HasReason : {F C N T I : Type 0} → Views F C N T I → Lendings F C N T I → Lendings F C N T I → ℕ → ℕ → Option Command → Status → Type 0
+HasReason views old new before now said Done = (now ≡ before) × FileTaken views old new said (IsDone views old new)
+HasReason views old new before now said Usage = said ≡ None
+HasReason views old new before now said FarmFile = (now ≡ before) × FileHasFault views old new said
+HasReason views old new before now said Input = (now ≡ before) × FileTaken views old new said (IsRefused views old new)
+HasReason views old new before now said Opening = Rose before now
+HasReason views old new before now said Read =
+    (now ≡ before) × (FileFailed views old new said
+    ⊎ FileTaken views old new said (λ config command. ConsoleFailed views.console_read_faults views.console_write_faults old new))
+HasReason views old new before now said Write =
+    (now ≡ before) × FileTaken views old new said (λ config command. ConsoleFailed views.console_write_faults views.console_read_faults old new)
+HasReason views old new before now said NoMemory = Unit {0}
+HasReason views old new before now said Wire = (now ≡ before) × FileTaken views old new said (IsCut views old new)

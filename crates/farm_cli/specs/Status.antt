@@ -1,24 +1,26 @@
 -- The numbers of the statuses.
 use Rattle.std.specs.Prelude.{ℕ, List, [], codes}
 use Rattle.farm_cli.specs.declared.status.Status.{Status}
-use Rattle.farm_cli.specs.declared.status.Status.TheVariants.{Done, Usage, FarmFile, Opening, Read, Write, NoMemory, Wire}
+use Rattle.farm_cli.specs.declared.status.Status.TheVariants.{Done, Usage, FarmFile, Input, Opening, Read, Write, NoMemory, Wire}
 
 -- the status by which a process ends
 abbrev pub code_of : Status → ℕ
 code_of Done = 0
 code_of Usage = 2
 code_of FarmFile = 3
+code_of Input = 3
 code_of Opening = 4
 code_of Read = 5
 code_of Write = 6
 code_of NoMemory = 7
 code_of Wire = 8
 
--- the line that notes are told
+-- the line that notes are told where there is no more to say
 abbrev pub line_of : Status → List ℕ
 line_of Done = []
-line_of Usage = codes "usage: farm_cli answer FARM\n"
-line_of FarmFile = codes "the farm file is refused: it has to be empty\n"
+line_of Usage = codes "the words ask for nothing that this program does\n"
+line_of FarmFile = codes "the farm file is refused\n"
+line_of Input = codes "the input is refused: it is too long, or its scopes give too many\n"
 line_of Opening = codes "the farm file cannot be opened\n"
 line_of Read = codes "a read failed\n"
 line_of Write = codes "a write failed\n"

@@ -1,5 +1,6 @@
 //! The house of the system: its files, its standard streams, its clock and its random numbers.
 ghost use Rattle.std.specs.Prelude.{◌≡◌, IfOk};
+ghost use Rattle.causes.specs.Causes.{HasCause};
 ghost use Rattle.farm_cli.specs.House.{untold};
 ghost use Rattle.farm_cli.specs.declared.lending.Lending.TheVariants.{Untold};
 
@@ -20,11 +21,15 @@ pub struct HostHouse {
 }
 
 impl HostHouse {
-    /// The house of this runtime. It seeds its random numbers, which fails where the runtime gives none.
-    pub fn new(rt: HostRuntime) -> Result<HostHouse, Failed>
-        ensures { IfOk result (λ house. ⟦<HostHouse as House>⟧.refusals house ≡ 0) }
+    /// The house of this runtime. It seeds its random numbers: a runtime that gives none is counted among the refused seeds.
+    pub fn new(rt: HostRuntime, refused_seeds: &mut FaultCount) -> Result<HostHouse, Failed>
+        ensures opened { IfOk result (λ house. ⟦<HostHouse as House>⟧.refusals house ≡ 0) }
+        ensures cause { HasCause refused_seeds.old refused_seeds.new result }
     {
-        let draws = HostDraws::new(&rt)?;
+        let draws = match HostDraws::new(&rt, refused_seeds) {
+            Ok(draws) => draws,
+            Err(Failed) => return Err(Failed),
+        };
         Ok(HostHouse {
             rt,
             draws,
@@ -97,7 +102,7 @@ mod tests {
 
     #[test]
     fn the_system_lends_files_and_draws(rt: HostRuntime) -> Result<(), Fail> {
-        let mut house = HostHouse::new(rt)?;
+        let mut house = HostHouse::new(rt, &mut FaultCount::new())?;
         assert!(rt; house.farm_file("no/such/farm.toml").is_err());
         let mut file = house.farm_file("/dev/null")?;
         assert_eq!(rt; file.read(&mut [0u8; 1])?, 0);

@@ -1,17 +1,23 @@
 //! The farm as a program: what its words ask for is run over what the system lends.
 #![tactic(auto)]
 
+mod checking;
+mod commands;
+mod ended;
+mod expanding;
+mod farm_file;
 mod host_house;
 mod house;
+mod laws;
 mod lending;
 mod memory_house;
 mod run;
 mod status;
 #[cfg(test)]
 mod tests;
-mod words;
+mod writing;
 
-use causes::Failed;
+use causes::{Failed, FaultCount};
 use host_house::HostHouse;
 use status::Status;
 use std::process::ExitCode;
@@ -30,19 +36,19 @@ fn main(rt: HostRuntime) -> ExitCode {
 
 /// The words of the command line, without the program's name, and the house of the system.
 fn begin(rt: HostRuntime) -> Result<(Vec<String>, HostHouse), Status> {
-    let words = match command_line(&rt) {
+    let words = match words_given(&rt) {
         Ok(words) => words,
         Err(error) if error.kind() == io::ErrorKind::OutOfMemory => return Err(Status::NoMemory),
         Err(_) => return Err(Status::Usage),
     };
-    match HostHouse::new(rt) {
+    match HostHouse::new(rt, &mut FaultCount::new()) {
         Ok(house) => Ok((words, house)),
         Err(Failed) => Err(Status::Read),
     }
 }
 
 /// The words of the command line, without the program's name. One that is not UTF-8 is an error.
-fn command_line(rt: &HostRuntime) -> io::Result<Vec<String>> {
+fn words_given(rt: &HostRuntime) -> io::Result<Vec<String>> {
     let words = env::args(rt)?.skip(1).collect(rt.alloc())?;
     Ok(words)
 }

@@ -7,8 +7,10 @@ pub enum Status {
     Done,
     /// The words have no reading.
     Usage,
-    /// The farm file is refused.
+    /// The farm file is refused by a rule.
     FarmFile,
+    /// The input is refused by a rule.
+    Input,
     /// An opening was refused.
     Opening,
     /// A read failed.
@@ -31,7 +33,7 @@ impl Status {
         match self {
             Status::Done => 0,
             Status::Usage => 2,
-            Status::FarmFile => 3,
+            Status::FarmFile | Status::Input => 3,
             Status::Opening => 4,
             Status::Read => 5,
             Status::Write => 6,
@@ -40,14 +42,15 @@ impl Status {
         }
     }
 
-    /// The line that notes are told; of a run that is done there is none.
+    /// The line that notes are told where there is no more to say; of a run that is done there is none.
     pub fn line(self) -> &'static str
         ensures { result.now ≡ line_of self }
     {
         match self {
             Status::Done => "",
-            Status::Usage => "usage: farm_cli answer FARM\n",
-            Status::FarmFile => "the farm file is refused: it has to be empty\n",
+            Status::Usage => "the words ask for nothing that this program does\n",
+            Status::FarmFile => "the farm file is refused\n",
+            Status::Input => "the input is refused: it is too long, or its scopes give too many\n",
             Status::Opening => "the farm file cannot be opened\n",
             Status::Read => "a read failed\n",
             Status::Write => "a write failed\n",

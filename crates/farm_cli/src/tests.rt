@@ -56,7 +56,7 @@ fn house_of(alloc: Global, case: &Case) -> Result<MemoryHouse, AllocError> {
         ),
         sink: MemorySink::new(alloc, 1024, case.failing_writes.to_vec(alloc)?)?,
     };
-    let notes = MemorySink::new(alloc, 100, Vec::new(alloc))?;
+    let notes = MemorySink::new(alloc, 1024, Vec::new(alloc))?;
     let clock = ListClock::new(Vec::new(alloc));
     let draws = ListDraws::new(Vec::new(alloc));
     let farm_name = String::from_str(alloc, "farm.toml")?;
@@ -118,15 +118,79 @@ fn input_that_is_no_request_ends_with_8(rt: HostRuntime) -> Result<(), Fail> {
     Ok(())
 }
 
+/// A farm file with this one role.
+const ONE_ROLE: &[u8] = b"[[role]]\nid = 'p:*'\nscopes = ['x:<..>:y']\n";
+
+/// A farm file whose roles are `a`, `ab` and `a*`.
+const THREE_ROLES: &[u8] =
+    b"role = [{ id = 'a', scopes = ['one'] }, { id = 'ab', scopes = ['two'] }, { id = 'a*', scopes = ['three:<..>'] }]\n";
+
+/// A farm file whose one role lies on a cycle of parameters.
+const CYCLE: &[u8] = b"role = [{ id = 'a*', scopes = ['assume:aa<..>'] }]\n";
+
+#[test]
+fn scopes_are_expanded(rt: HostRuntime) -> Result<(), Fail> {
+    let rows: [(&[u8], &[u8], &[u8]); 6] = [
+        (b"", b"b\na\nb\n", b"a\nb\n"),
+        (b"", b"", b""),
+        (THREE_ROLES, b"assume:a*", b"assume:a*\none\nthree:*\ntwo\n"),
+        (ONE_ROLE, b"assume:p:q*\n", b"assume:p:q*\nx:q*\n"),
+        (ONE_ROLE, b"assume:p:q\n", b"assume:p:q\nx:q:y\n"),
+        (ONE_ROLE, b"*\n", b"*\nx:*\n"),
+    ];
+    for (farm, input, output) in rows {
+        let case = Case {
+            words: &["expand", "farm.toml"],
+            farm,
+            ..Case::over(input)
+        };
+        let done = outcome_of(rt.alloc(), &case)?;
+        assert_eq!(rt; done.status.code(), 0);
+        assert_eq!(rt; done.output.as_slice(), output);
+    }
+    Ok(())
+}
+
+#[test]
+fn roles_are_counted(rt: HostRuntime) -> Result<(), Fail> {
+    let case = Case {
+        words: &["check", "farm.toml"],
+        farm: THREE_ROLES,
+        ..Case::over(b"")
+    };
+    let done = outcome_of(rt.alloc(), &case)?;
+    assert_eq!(rt; done.status.code(), 0);
+    let output: &[u8] = b"ok roles=3 clients=0 hooks=0\n";
+    assert_eq!(rt; done.output.as_slice(), output);
+    Ok(())
+}
+
+#[test]
+fn untaken_words(rt: HostRuntime) -> Result<(), Fail> {
+    let rows: [&[&str]; 4] = [&[], &["answer"], &["answer", "a", "b"], &["--help"]];
+    for words in rows {
+        let case = Case {
+            words,
+            ..Case::over(PING)
+        };
+        let refused = outcome_of(rt.alloc(), &case)?;
+        assert_eq!(rt; refused.status.code(), 2);
+        assert_eq!(rt; refused.output.len(), 0);
+        assert!(rt; refused.notes.len() > 0);
+    }
+    Ok(())
+}
+
 #[test]
 fn what_fails_ends_with_its_status(rt: HostRuntime) -> Result<(), Fail> {
-    let usage = Case {
-        words: &["answer"],
+    let refused = Case {
+        words: &["check", "farm.toml"],
+        farm: CYCLE,
         ..Case::over(PING)
     };
-    let refused = Case {
-        farm: b"a",
-        ..Case::over(PING)
+    let no_scope = Case {
+        words: &["expand", "farm.toml"],
+        ..Case::over(b"a\r\n")
     };
     let missing = Case {
         words: &["answer", "other.toml"],
@@ -137,21 +201,35 @@ fn what_fails_ends_with_its_status(rt: HostRuntime) -> Result<(), Fail> {
         ..Case::over(PING)
     };
     let unread = Case {
+        words: &["expand", "farm.toml"],
         failing_reads: &[0],
-        ..Case::over(PING)
+        ..Case::over(b"a\n")
     };
     let unwritten = Case {
+        words: &["check", "farm.toml"],
         failing_writes: &[0],
         ..Case::over(PING)
     };
-    let cases = [usage, refused, missing, unread_farm, unread, unwritten];
+    let unanswered = Case {
+        failing_writes: &[0],
+        ..Case::over(PING)
+    };
+    let cases = [
+        refused,
+        no_scope,
+        missing,
+        unread_farm,
+        unread,
+        unwritten,
+        unanswered,
+    ];
     let mut codes = Vec::new(rt.alloc());
     for case in &cases {
         let outcome = outcome_of(rt.alloc(), case)?;
         assert_eq!(rt; outcome.output.len(), 0);
         codes.push(outcome.status.code())?;
     }
-    let expected: &[u8] = &[2, 3, 4, 5, 5, 6];
+    let expected: &[u8] = &[3, 3, 4, 5, 5, 6, 6];
     assert_eq!(rt; codes.as_slice(), expected);
     Ok(())
 }

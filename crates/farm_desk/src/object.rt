@@ -1,7 +1,7 @@
 //! What can be asked by one caller at a time.
 ghost use Rattle.std.specs.Prelude.{List, ◌++◌};
-ghost use Rattle.history.specs.Histories.{Leads};
-ghost use Rattle.history.specs.Asks.{IsAsk, entries};
+ghost use Rattle.history.specs.Histories.{entries, Leads};
+ghost use Rattle.history.specs.Asks.{IsAsk};
 
 use history::Machine;
 

@@ -20,8 +20,8 @@ use Rattle.farm_files.specs.Files.{table_names, FarmBreaks, farm_in, TablesBreak
 use Rattle.farm_files.specs.Parts.{IsFirstRow, IsFirstOnCycle, RefusesRows, RefusesCycle}
 use Rattle.farm_files.specs.declared.fault.FileFault.{FileFault}
 use Rattle.farm_files.specs.declared.fault.FileFault.TheVariants as faults
-use Rattle.farm_files.specs.declared.reading.FarmFile.{FarmFile}
-use Rattle.farm_files.specs.Farms.{FarmData, farm_data, farm_of, SaysTables, Says, Refuses, RefusesTables}
+use Rattle.farm_machine.specs.declared.config.Config.{Config}
+use Rattle.farm_files.specs.Farms.{farm_of, SaysTables, Says, Refuses, RefusesTables}
 
 role_turn : (r : Rule) → 4 ≤ turn Role r
 role_turn NotToml = omega arith
@@ -323,9 +323,9 @@ pub refuses_cycle : (top : Members) → has_only table_names top ≡ true → ((
 refuses_cycle top only farm rows roles same (faults.Fault f) h = first_cycle top only farm rows roles f same h
 refuses_cycle top only farm rows roles same faults.NoMemory h = tt
 
-pub says_farm : (longest : ℕ) (bytes : List ℕ) (top : Members) → length bytes ≤ longest → IsToml bytes top → (r : Result FarmFile FileFault)
-    → MatchResult r (λ farm. SaysTables top (farm_data farm)) (RefusesTables top) → MatchResult r (λ farm. Says longest bytes (farm_data farm)) (Refuses longest bytes)
-says_farm longest bytes top le toml (Ok farm) h = record { sound = sound_of_tables longest bytes top le toml h.sound; top = top; toml = toml; said = h.said }
+pub says_farm : (longest : ℕ) (bytes : List ℕ) (top : Members) → length bytes ≤ longest → IsToml bytes top → (r : Result Config FileFault)
+    → MatchResult r (SaysTables top) (RefusesTables top) → MatchResult r (Says longest bytes) (Refuses longest bytes)
+says_farm longest bytes top le toml (Ok config) h = record { sound = sound_of_tables longest bytes top le toml h.sound; top = top; toml = toml; said = h.said }
 says_farm longest bytes top le toml (Err (faults.Fault f)) h = first_of_tables longest bytes top f le toml h
 says_farm longest bytes top le toml (Err faults.NoMemory) h = tt
 
@@ -396,5 +396,5 @@ neither f g a b =
 pub first_one : (P : Fault → Type 0) (f g : Fault) → IsFirst P f → IsFirst P g → f ≡ g
 first_one P f g p q = neither f g (λ before. q.first f before p.breaks) (λ before. p.first g before q.breaks)
 
-pub says_one : (longest : ℕ) (bytes : List ℕ) (a b : FarmData) → Says longest bytes a → Says longest bytes b → a ≡ b
+pub says_one : (longest : ℕ) (bytes : List ℕ) (a b : Config) → Says longest bytes a → Says longest bytes b → a ≡ b
 says_one longest bytes a b p q = p.said ∙ ap farm_of (toml_one bytes p.top q.top p.toml q.toml) ∙ sym q.said

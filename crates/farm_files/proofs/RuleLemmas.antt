@@ -8,9 +8,10 @@ use Rattle.farm_files.specs.declared.fault.Rule.{Rule}
 use Rattle.farm_files.specs.declared.fault.Rule.TheVariants.{NotToml, UnknownKey, MissingKey, WrongKind, OutOfForm, RepeatedId, ParameterCycle, TooLong}
 use Rattle.farm_files.specs.declared.fault.RowFault.{RowFault}
 use Rattle.farm_files.specs.declared.fault.RowFault.TheVariants as rows
+use Rattle.farm_files.specs.declared.settings.Settings.{Settings}
 use Rattle.farm_files.specs.Faults.{rule_number, IsLeastRule, RefusesRow}
 use Rattle.farm_files.specs.Values.{has_only}
-use Rattle.farm_files.specs.Files.{SettingsData, farm_keys, FarmBreaks, HasFarmKinds, HasFarmForms}
+use Rattle.farm_files.specs.Files.{farm_keys, FarmBreaks, HasFarmKinds, HasFarmForms}
 use Rattle.farm_files.specs.Rows.{role_keys, HasRoleKeys, HasRoleKinds, HasRowForm, role_in, RowBreaks}
 use Rattle.farm_files.specs.Parts.{HasRole, RefusesKeys}
 
@@ -62,10 +63,10 @@ table_is (datetime t) ms e = absurd cc
 table_is (array ds) ms e = absurd cc
 table_is (table ns) ms e = cc
 
-abbrev pub made : List ℕ → ℕ → ℕ → ℕ → SettingsData
+abbrev pub made : List ℕ → ℕ → ℕ → ℕ → Settings
 made h p c m = record { host = h; port = p; claim_timeout = c; max_tasks = m }
 
-pub settings_are : (h : List ℕ) (p c m : ℕ) (s : SettingsData) → h ≡ s.host → p ≡ s.port → c ≡ s.claim_timeout → m ≡ s.max_tasks → made h p c m ≡ s
+pub settings_are : (h : List ℕ) (p c m : ℕ) (s : Settings) → h ≡ s.host → p ≡ s.port → c ≡ s.claim_timeout → m ≡ s.max_tasks → made h p c m ≡ s
 settings_are h p c m s a b d e = rw (a, b, d, e) refl
 
 -- ---- `[farm]`

@@ -1,44 +1,43 @@
 -- What a farm file says as a whole, or the one fault that is told of it (this project's own format, in TOML 1.1).
 use Rattle.std.specs.Prelude.{◌≡◌, ℕ, List, codes}
-use Rattle.role_expand.specs.Roles.{RoleData}
+use Rattle.farm_machine.specs.declared.config.Config.{Config}
 use Rattle.toml.specs.Data.{Members, get_member}
 use Rattle.farm_files.specs.declared.fault.Fault.{Fault}
 use Rattle.farm_files.specs.declared.fault.FileFault.{FileFault}
 use Rattle.farm_files.specs.declared.fault.FileFault.TheVariants as faults
-use Rattle.farm_files.specs.declared.reading.FarmFile.{FarmFile}
 use Rattle.farm_files.specs.Faults.{IsFirst}
+use Rattle.farm_files.specs.Values.{natural}
 use Rattle.farm_files.specs.Rows.{roles_in}
-use Rattle.farm_files.specs.Files.{SettingsData, settings_data, settings_of, members_in, farm_in, TablesBreak, IsToml, Breaks}
+use Rattle.farm_files.specs.Files.{host_in, port_in, claim_timeout_in, max_tasks_in, members_in, farm_in, TablesBreak, IsToml, Breaks}
 
--- all that a farm file says
-pub record FarmData : Type 0 where
-  pub settings : SettingsData
-  pub roles : List RoleData
-
-abbrev pub farm_data : FarmFile → FarmData
-farm_data farm = record { settings = settings_data farm.settings; roles = farm.roles }
-
--- what the tables say
-abbrev pub farm_of : Members → FarmData
-farm_of top = record { settings = settings_of (members_in (farm_in top)); roles = roles_in (get_member (codes "role") top) }
+-- the configuration that the tables say
+abbrev pub farm_of : Members → Config
+farm_of top = record {
+  host = host_in (members_in (farm_in top));
+  port = natural (port_in (members_in (farm_in top)));
+  claim_timeout = natural (claim_timeout_in (members_in (farm_in top)));
+  max_tasks = natural (max_tasks_in (members_in (farm_in top)));
+  roles = roles_in (get_member (codes "role") top);
+}
 
 -- the tables break no rule, and say this
-pub record SaysTables (top : Members) (farm : FarmData) : Type 0 where
+pub record SaysTables (top : Members) (config : Config) : Type 0 where
   pub sound : (f : Fault) → ¬ TablesBreak top f.table f.row f.rule
-  pub said : farm ≡ farm_of top
+  pub said : config ≡ farm_of top
 
 -- the file breaks no rule, and says this
-pub record Says (longest : ℕ) (bytes : List ℕ) (farm : FarmData) : Type 0 where
+pub record Says (longest : ℕ) (bytes : List ℕ) (config : Config) : Type 0 where
   pub sound : (f : Fault) → ¬ Breaks longest bytes f
   pub top : Members
   pub toml : IsToml bytes top
-  pub said : farm ≡ farm_of top
+  pub said : config ≡ farm_of top
 
 -- what a refusal tells: the first fault of the file
 abbrev pub Refuses : ℕ → List ℕ → FileFault → Type 0
 Refuses longest bytes (faults.Fault f) = IsFirst (Breaks longest bytes) f
 Refuses longest bytes faults.NoMemory = Unit {0}
 
+-- the same of the tables of a file that is TOML
 abbrev pub RefusesTables : Members → FileFault → Type 0
 RefusesTables top (faults.Fault f) = IsFirst (λ g. TablesBreak top g.table g.row g.rule) f
 RefusesTables top faults.NoMemory = Unit {0}

@@ -19,6 +19,7 @@ rule_number RepeatedId = 6
 rule_number ParameterCycle = 7
 rule_number TooLong = 9
 
+-- a rule that is broken at a place
 abbrev pub fault_at : Table → ℕ → Rule → Fault
 fault_at table row rule = record { table = table; row = row; rule = rule }
 

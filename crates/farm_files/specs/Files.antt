@@ -1,5 +1,5 @@
 -- What a farm file says, and which of its rules it breaks (this project's own format, in TOML 1.1).
-use Rattle.std.specs.Prelude.{◌≡◌, ℕ, pos, ◌<◌, ◌≤◌, ◌⊎◌, true, false, List, [], ◌∷◌, length, Some, All, IsUtf8, codes, string_bytes, unwrap_or}
+use Rattle.std.specs.Prelude.{◌≡◌, ℕ, ℤ, pos, ◌<◌, ◌≤◌, ◌⊎◌, true, false, List, [], ◌∷◌, length, Some, All, IsUtf8, codes, unwrap_or}
 use Rattle.scope_sets.specs.Scopes.{IsPrintable}
 use Rattle.toml.specs.Data.{Data, table, Members, no_members, get_member}
 use Rattle.toml.specs.Parse.{parse_document}
@@ -8,35 +8,32 @@ use Rattle.farm_files.specs.declared.fault.Table.TheVariants.{File, Farm, Role}
 use Rattle.farm_files.specs.declared.fault.Rule.{Rule}
 use Rattle.farm_files.specs.declared.fault.Rule.TheVariants.{NotToml, UnknownKey, WrongKind, OutOfForm, TooLong}
 use Rattle.farm_files.specs.declared.fault.Fault.{Fault}
-use Rattle.farm_files.specs.declared.settings.Settings.{Settings}
-use Rattle.farm_files.specs.Values.{has_only, is_text, is_whole, passes, text_or, whole_or, IsUpTo, natural}
+use Rattle.farm_files.specs.Values.{has_only, is_text, is_whole, passes, text_or, whole_or, IsUpTo}
 use Rattle.farm_files.specs.Rows.{RoleBreaks}
-
--- what `[farm]` sets
-pub record SettingsData : Type 0 where
-  pub host : List ℕ
-  pub port : ℕ
-  pub claim_timeout : ℕ
-  pub max_tasks : ℕ
-
-abbrev pub settings_data : Settings → SettingsData
-settings_data s = record { host = string_bytes s.host; port = s.port; claim_timeout = s.claim_timeout; max_tasks = s.max_tasks }
 
 -- the known tables, and the keys of `[farm]`
 abbrev pub table_names : List (List ℕ)
 table_names = codes "farm" ∷ codes "role" ∷ []
 
+-- the keys of `[farm]`
 abbrev pub farm_keys : List (List ℕ)
 farm_keys = codes "host" ∷ codes "port" ∷ codes "claim_timeout" ∷ codes "max_tasks" ∷ []
 
--- the value at each key of `[farm]`, and its default
-abbrev pub settings_of : Members → SettingsData
-settings_of ms = record {
-  host = text_or (codes "localhost") (get_member (codes "host") ms);
-  port = natural (whole_or (pos 8080) (get_member (codes "port") ms));
-  claim_timeout = natural (whole_or (pos 1200) (get_member (codes "claim_timeout") ms));
-  max_tasks = natural (whole_or (pos 1000000) (get_member (codes "max_tasks") ms));
-}
+-- the value at each key of `[farm]`, or its default
+abbrev pub host_in : Members → List ℕ
+host_in ms = text_or (codes "localhost") (get_member (codes "host") ms)
+
+-- the port, or 8080
+abbrev pub port_in : Members → ℤ
+port_in ms = whole_or (pos 8080) (get_member (codes "port") ms)
+
+-- how many seconds a claim lasts, or 1200
+abbrev pub claim_timeout_in : Members → ℤ
+claim_timeout_in ms = whole_or (pos 1200) (get_member (codes "claim_timeout") ms)
+
+-- how many tasks the farm takes, or 1000000
+abbrev pub max_tasks_in : Members → ℤ
+max_tasks_in ms = whole_or (pos 1000000) (get_member (codes "max_tasks") ms)
 
 -- each value of `[farm]` is of its kind
 pub record HasFarmKinds (ms : Members) : Type 0 where
@@ -53,10 +50,10 @@ pub record HasHostForm (longest : ℕ) (host : List ℕ) : Type 0 where
 
 -- each value of `[farm]` is of its form and in its range
 pub record HasFarmForms (ms : Members) : Type 0 where
-  pub host : HasHostForm 255 (text_or (codes "localhost") (get_member (codes "host") ms))
-  pub port : IsUpTo 65535 (whole_or (pos 8080) (get_member (codes "port") ms))
-  pub claim_timeout : IsUpTo 86400 (whole_or (pos 1200) (get_member (codes "claim_timeout") ms))
-  pub max_tasks : IsUpTo 1000000 (whole_or (pos 1000000) (get_member (codes "max_tasks") ms))
+  pub host : HasHostForm 255 (host_in ms)
+  pub port : IsUpTo 65535 (port_in ms)
+  pub claim_timeout : IsUpTo 86400 (claim_timeout_in ms)
+  pub max_tasks : IsUpTo 1000000 (max_tasks_in ms)
 
 -- the rules that `[farm]` breaks
 abbrev pub FarmBreaks : Data → Rule → Type 0

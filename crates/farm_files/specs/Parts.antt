@@ -11,9 +11,16 @@ use Rattle.farm_files.specs.declared.fault.RowFault.{RowFault}
 use Rattle.farm_files.specs.declared.fault.RowFault.TheVariants as rows
 use Rattle.farm_files.specs.declared.fault.FileFault.{FileFault}
 use Rattle.farm_files.specs.declared.fault.FileFault.TheVariants as faults
+use Rattle.farm_files.specs.declared.settings.Settings.{Settings}
 use Rattle.farm_files.specs.Faults.{rule_number, fault_at}
-use Rattle.farm_files.specs.Values.{has_only, is_text, are_texts, text_or, texts_in}
+use Rattle.farm_files.specs.Values.{has_only, is_text, are_texts, text_or, texts_in, natural}
+use Rattle.farm_files.specs.Files.{host_in, port_in, claim_timeout_in, max_tasks_in}
 use Rattle.farm_files.specs.Rows.{role_keys, HasRoleKeys, HasRoleKinds, role_in, LiesOnCycle}
+
+-- what the keys of `[farm]` set
+abbrev pub settings_of : Members → Settings
+settings_of ms =
+    record { host = host_in ms; port = natural (port_in ms); claim_timeout = natural (claim_timeout_in ms); max_tasks = natural (max_tasks_in ms) }
 
 -- the role that two values say
 abbrev pub role_by : Data → Data → RoleData
@@ -25,6 +32,7 @@ pub record AreRoleValues (id scopes : Data) : Type 0 where
   pub scopes_kind : are_texts scopes ≡ true
   pub printable : All (All IsPrintable) (texts_in (Some scopes))
 
+-- what a row is refused for by the values of its two keys
 abbrev pub RefusesValues : Data → Data → RowFault → Type 0
 RefusesValues id scopes (rows.Breaks WrongKind) = ¬ ((is_text id ≡ true) × (are_texts scopes ≡ true))
 RefusesValues id scopes (rows.Breaks OutOfForm) =
@@ -39,6 +47,7 @@ pub record HasRole (ms : Members) : Type 0 where
   pub kinds : HasRoleKinds ms
   pub printable : All (All IsPrintable) (role_in ms).scopes
 
+-- what a row is refused for by its keys and their values
 abbrev pub RefusesKeys : Members → RowFault → Type 0
 RefusesKeys ms (rows.Breaks UnknownKey) = has_only role_keys ms ≡ false
 RefusesKeys ms (rows.Breaks MissingKey) = (has_only role_keys ms ≡ true) × (¬ HasRoleKeys ms)
@@ -55,6 +64,7 @@ pub record IsFirstRow (Breaks : ℕ → Rule → Type 0) (f : Fault) : Type 0 wh
   pub earlier : (row : ℕ) (rule : Rule) → row < f.row → ¬ Breaks row rule
   pub least : (rule : Rule) → rule_number rule < rule_number f.rule → ¬ Breaks f.row rule
 
+-- what rows are refused for: the first that breaks a rule
 abbrev pub RefusesRows : (ℕ → Rule → Type 0) → FileFault → Type 0
 RefusesRows Breaks (faults.Fault f) = IsFirstRow Breaks f
 RefusesRows Breaks faults.NoMemory = Unit {0}
@@ -65,6 +75,7 @@ pub record IsFirstOnCycle (roles : List RoleData) (f : Fault) : Type 0 where
   pub lies : LiesOnCycle roles f.row
   pub earlier : (row : ℕ) → row < f.row → ¬ LiesOnCycle roles row
 
+-- what roles are refused for together: the first that lies on a cycle
 abbrev pub RefusesCycle : List RoleData → FileFault → Type 0
 RefusesCycle roles (faults.Fault f) = IsFirstOnCycle roles f
 RefusesCycle roles faults.NoMemory = Unit {0}

@@ -57,6 +57,7 @@ abbrev pub rows_in : Option Data → List Data
 rows_in (Some (array ds)) = list_of ds
 rows_in _ = []
 
+-- the roles of all rows, in their order
 abbrev pub roles_in : Option Data → List RoleData
 roles_in value = map role_of (rows_in value)
 

@@ -22,9 +22,11 @@ has_only known ms = list_all (λ key. list_any (λ name. bytes_eq name key) know
 abbrev pub is_text : Data → Bool
 is_text d = is_some (as_str d)
 
+-- the value is a whole number
 abbrev pub is_whole : Data → Bool
 is_whole d = is_some (as_integer d)
 
+-- the value is a list of texts
 abbrev pub are_texts : Data → Bool
 are_texts (array ds) = list_all is_text (list_of ds)
 are_texts _ = false

@@ -1,13 +1,25 @@
-//! What follows from the definitions. The function does nothing: its contract is a law.
+//! What follows from the definitions. The functions do nothing: each contract is a law.
 ghost use Rattle.std.specs.Prelude.{◌≡◌, ℕ, List};
+ghost use Rattle.farm_machine.specs.declared.config.Config.{Config as AnyConfig};
 ghost use Rattle.farm_files.specs.Faults.{IsFirst};
 ghost use Rattle.farm_files.specs.Files.{Breaks};
-ghost use Rattle.farm_files.specs.Farms.{FarmData, Says};
+ghost use Rattle.farm_files.specs.Farms.{Says};
+ghost use Rattle.farm_files.specs.declared.reading.TheConstants.{LONGEST_FILE};
+ghost use Rattle.farm_files.specs.declared.roles.TheConstants.{MOST_ROLES};
+ghost use Rattle.farm_files.specs.declared.settings.TheConstants.{LONGEST_HOST};
 ghost use Rattle.farm_files.specs.declared.fault.Fault.{Fault as AnyFault};
 
-/// A file says one thing: a farm, or one first fault, and never both.
+/// A file says one thing: a configuration, or one first fault, and never both.
 pub fn a_file_says_one_thing()
-    ensures farm { (longest : ℕ) (bytes : List ℕ) (a b : FarmData) → Says longest bytes a → Says longest bytes b → a ≡ b }
+    ensures farm { (longest : ℕ) (bytes : List ℕ) (a b : AnyConfig) → Says longest bytes a → Says longest bytes b → a ≡ b }
     ensures fault { (longest : ℕ) (bytes : List ℕ) (f g : AnyFault) → IsFirst (Breaks longest bytes) f → IsFirst (Breaks longest bytes) g → f ≡ g }
-    ensures either { (longest : ℕ) (bytes : List ℕ) (a : FarmData) (f : AnyFault) → Says longest bytes a → ¬ IsFirst (Breaks longest bytes) f }
+    ensures either { (longest : ℕ) (bytes : List ℕ) (a : AnyConfig) (f : AnyFault) → Says longest bytes a → ¬ IsFirst (Breaks longest bytes) f }
+{}
+
+/// The limits of a farm file: its greatest number of bytes, of rows of `[[role]]`, and of bytes of a host. What the contracts say of
+/// the constants, they say of these numbers.
+pub fn the_limits()
+    ensures file { LONGEST_FILE ≡ 4194304 }
+    ensures roles { MOST_ROLES ≡ 10000 }
+    ensures host { LONGEST_HOST ≡ 255 }
 {}

@@ -1,4 +1,4 @@
-//! The farm file: what a build farm is configured by, in TOML, read whole or refused by the first rule that it breaks.
+//! The farm file: what a build farm is configured by, in TOML, read whole as a `Config` or refused by the first rule that it breaks.
 //!
 //! A farm file has an optional table `[farm]` and any number of tables `[[role]]`:
 //!
@@ -25,9 +25,9 @@ mod settings;
 mod values;
 
 pub use fault::{Fault, FileFault, Rule, Table};
-pub use reading::{FarmFile, LONGEST_FILE, read_farm};
+pub use reading::{LONGEST_FILE, read_farm};
 pub use roles::MOST_ROLES;
-pub use settings::{LONGEST_HOST, Settings};
+pub use settings::LONGEST_HOST;
 
 #[cfg(test)]
 mod tests;

@@ -1,34 +1,27 @@
 //! The farm file as a whole.
 ghost use Rattle.std.specs.Prelude.{◌≡◌, MatchResult};
 ghost use Rattle.toml.specs.View.{table_view};
-ghost use Rattle.farm_files.specs.Farms.{farm_data, Says, Refuses, SaysTables, RefusesTables};
+ghost use Rattle.farm_files.specs.Farms.{Says, Refuses, SaysTables, RefusesTables};
 
 use crate::fault::{FileFault, RowFault, Rule, Table};
 use crate::roles::{read_roles, role_set};
 use crate::settings::{Settings, read_settings};
 use crate::values::has_only;
-use role_expand::RoleSet;
+use farm_machine::config::Config;
 use std::alloc::Global;
 
 /// The greatest number of bytes of a farm file.
 pub const LONGEST_FILE: usize = 4_194_304;
 
-/// All that a farm file says.
-#[derive(Debug, Drop)]
-pub struct FarmFile {
-    pub settings: Settings,
-    pub roles: RoleSet,
-}
-
-/// Reads a farm file: TOML in UTF-8.
+/// Reads a farm file, TOML in UTF-8, as the configuration that it says.
 ///
 /// # Errors
 ///
 /// The first rule that the file breaks, in this order: that it is too long, that it is not TOML, a table that is not known, then what
 /// is wrong with `[farm]`, then the rows of `[[role]]` from row 0, and last a cycle of roles' parameters, at the first role that lies
 /// on one. Of the rules that one row breaks the least is told. Or want of memory.
-pub fn read_farm(alloc: Global, bytes: &[u8]) -> Result<FarmFile, FileFault>
-    ensures { MatchResult result (λ farm. Says LONGEST_FILE bytes.now (farm_data farm)) (Refuses LONGEST_FILE bytes.now) }
+pub fn read_farm(alloc: Global, bytes: &[u8]) -> Result<Config, FileFault>
+    ensures { MatchResult result (Says LONGEST_FILE bytes.now) (Refuses LONGEST_FILE bytes.now) }
 {
     if bytes.len() > LONGEST_FILE {
         return Err(FileFault::at(Table::File, 0, Rule::TooLong));
@@ -44,8 +37,8 @@ pub fn read_farm(alloc: Global, bytes: &[u8]) -> Result<FarmFile, FileFault>
     }
 }
 
-fn read_tables(alloc: Global, top: &toml::Table) -> Result<FarmFile, FileFault>
-    ensures { MatchResult result (λ farm. SaysTables (table_view top.now) (farm_data farm)) (RefusesTables (table_view top.now)) }
+fn read_tables(alloc: Global, top: &toml::Table) -> Result<Config, FileFault>
+    ensures { MatchResult result (SaysTables (table_view top.now)) (RefusesTables (table_view top.now)) }
 {
     if !has_only(top, ["farm", "role"].as_slice()) {
         return Err(FileFault::at(Table::File, 0, Rule::UnknownKey));
@@ -57,5 +50,17 @@ fn read_tables(alloc: Global, top: &toml::Table) -> Result<FarmFile, FileFault>
     };
     let roles = read_roles(alloc, top)?;
     let roles = role_set(alloc, roles)?;
-    Ok(FarmFile { settings, roles })
+    let Settings {
+        host,
+        port,
+        claim_timeout,
+        max_tasks,
+    } = settings;
+    Ok(Config {
+        host,
+        port,
+        claim_timeout,
+        max_tasks,
+        roles,
+    })
 }

@@ -3,11 +3,13 @@ ghost use Rattle.std.specs.Prelude.{◌≡◌, ◌↔◌, IsTrue, MatchResult};
 ghost use Rattle.toml.specs.Data.{table};
 ghost use Rattle.toml.specs.View.{table_view};
 ghost use Rattle.farm_files.specs.Faults.{RefusesRow};
-ghost use Rattle.farm_files.specs.Files.{settings_data, settings_of, HasHostForm, FarmBreaks, farm_in, members_in};
+ghost use Rattle.farm_files.specs.Files.{HasHostForm, FarmBreaks, farm_in, members_in};
+ghost use Rattle.farm_files.specs.Parts.{settings_of};
 ghost use Rattle.farm_files.specs.declared.fault.Rule.{Rule as AnyRule};
 
 use crate::fault::{RowFault, Rule};
 use crate::values::{has_only, text_or, up_to, whole_or};
+use farm_text::Text;
 use scope_sets::scopes::is_printable;
 use std::alloc::Global;
 use toml::Table;
@@ -16,23 +18,19 @@ use toml::Table;
 pub const LONGEST_HOST: usize = 255;
 
 /// What `[farm]` sets.
-#[derive(Debug, Drop)]
-pub struct Settings {
-    /// The host that callers sign their calls for: 1 to `LONGEST_HOST` bytes of printable ASCII.
-    pub host: String,
-    /// The port that callers sign their calls for, from 1.
-    pub port: u16,
-    /// How many seconds a claim of a task lasts: 1 to 86400.
-    pub claim_timeout: u32,
-    /// How many tasks the farm takes: 1 to 1000000.
-    pub max_tasks: u32,
+#[derive(Drop)]
+pub(crate) struct Settings {
+    pub(crate) host: Text,
+    pub(crate) port: u16,
+    pub(crate) claim_timeout: u32,
+    pub(crate) max_tasks: u32,
 }
 
 /// Reads `[farm]`, which may be left out.
 pub(crate) fn read_settings(alloc: Global, top: &Table) -> Result<Settings, RowFault>
     ensures { MatchResult result
         (λ s. ((rule : AnyRule) → ¬ FarmBreaks (farm_in (table_view top.now)) rule)
-        × (settings_data s ≡ settings_of (members_in (farm_in (table_view top.now)))))
+        × (s ≡ settings_of (members_in (farm_in (table_view top.now)))))
         (RefusesRow (FarmBreaks (farm_in (table_view top.now)))) }
 {
     match top.get("farm") {
@@ -46,7 +44,7 @@ pub(crate) fn read_settings(alloc: Global, top: &Table) -> Result<Settings, RowF
 
 fn read_table(alloc: Global, farm: &Table) -> Result<Settings, RowFault>
     ensures { MatchResult result
-        (λ s. ((rule : AnyRule) → ¬ FarmBreaks (table (table_view farm.now)) rule) × (settings_data s ≡ settings_of (table_view farm.now)))
+        (λ s. ((rule : AnyRule) → ¬ FarmBreaks (table (table_view farm.now)) rule) × (s ≡ settings_of (table_view farm.now)))
         (RefusesRow (FarmBreaks (table (table_view farm.now)))) }
 {
     if !has_only(
@@ -67,7 +65,7 @@ fn read_table(alloc: Global, farm: &Table) -> Result<Settings, RowFault>
         port: up_to(65_535, port)? as u16,
         claim_timeout: up_to(86_400, claim_timeout)?,
         max_tasks: up_to(1_000_000, max_tasks)?,
-        host: String::from_str(alloc, host)?,
+        host: Text::from_str(alloc, host)?,
     })
 }
 

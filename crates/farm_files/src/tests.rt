@@ -103,12 +103,37 @@ fn a_file_too_long(rt: HostRuntime) -> Result<(), Fail> {
 }
 
 #[test]
+fn faults_are_told_in_a_line(rt: HostRuntime) -> Result<(), Fail> {
+    let alloc = rt.alloc();
+    for (table, row, rule, line) in [
+        (Table::File, 0, Rule::NotToml, "the file: not TOML (rule 1)"),
+        (
+            Table::Farm,
+            0,
+            Rule::UnknownKey,
+            "farm: a key is not known (rule 2)",
+        ),
+        (
+            Table::Role,
+            3,
+            Rule::RepeatedId,
+            "role 3: the id stands in an earlier row (rule 6)",
+        ),
+        (Table::File, 0, Rule::TooLong, "the file: too long (rule 9)"),
+    ] {
+        let fault = Fault { table, row, rule };
+        assert_eq!(rt; format!(in alloc; "{fault}")?.as_str(), line);
+    }
+    Ok(())
+}
+
+#[test]
 fn an_empty_file(rt: HostRuntime) -> Result<(), Fail> {
     let farm = read_farm(rt.alloc(), b"").ok().ok_or("an empty file")?;
-    assert_eq!(rt; farm.settings.host.as_str(), "localhost");
-    assert_eq!(rt; farm.settings.port, 8080);
-    assert_eq!(rt; farm.settings.claim_timeout, 1200);
-    assert_eq!(rt; farm.settings.max_tasks, 1_000_000);
+    assert_eq!(rt; farm.host.as_str(), "localhost");
+    assert_eq!(rt; farm.port, 8080);
+    assert_eq!(rt; farm.claim_timeout, 1200);
+    assert_eq!(rt; farm.max_tasks, 1_000_000);
     assert_eq!(rt; farm.roles.len(), 0);
     Ok(())
 }
@@ -120,8 +145,8 @@ fn a_whole_file(rt: HostRuntime) -> Result<(), Fail> {
     let farm = read_farm(rt.alloc(), text.as_bytes())
         .ok()
         .ok_or("a whole file")?;
-    assert_eq!(rt; farm.settings.host.as_str(), "farm.example");
-    assert_eq!(rt; farm.settings.port, 443);
+    assert_eq!(rt; farm.host.as_str(), "farm.example");
+    assert_eq!(rt; farm.port, 443);
     assert_eq!(rt; farm.roles.len(), 1);
     Ok(())
 }

@@ -15,6 +15,7 @@ pub data Outcome : Type 0 where
   finished : Outcome
   out_of_memory : Outcome
 
+-- an entry of a history: a tick at a moment, or a call
 pub data Entry : Type 0 where
   tick : (moment : ℕ) → Entry
   call : (asking : Asking) → (outcome : Outcome) → Entry

@@ -1,3 +1,4 @@
+pub mod Config
 pub mod Due
 pub mod Entry
 pub mod Law

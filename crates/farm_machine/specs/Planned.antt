@@ -6,6 +6,7 @@ use Rattle.farm_machine.specs.State.{Contents, working}
 use Rattle.farm_machine.specs.Step.{moment_of}
 use Rattle.farm_machine.specs.Verdict.{Judgement, verdict}
 
+-- the moment of a planned call, and its judgement
 pub record Planned : Type 0 where
   pub moment : ℕ
   pub judgement : Judgement

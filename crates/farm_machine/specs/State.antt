@@ -15,6 +15,7 @@ pub record Contents : Type 0 where
   pub last : ℕ
   pub next : ℕ
 
+-- the state of a farm: how it is set up, what its tables keep, and whether its disk failed
 pub record State : Type 0 where
   pub config : Config
   pub contents : Contents
@@ -35,3 +36,7 @@ empty_state config = working config no_contents
 -- the task with this id
 abbrev pub row_with : List ℕ → List Row → Option Row
 row_with id rows = find (λ row. bytes_eq (row_id row) id) rows
+
+-- A configuration that stands only where a type wants a value. No farm has it.
+abbrev pub no_config : Config
+no_config = record { host = []; port = 0; claim_timeout = 0; max_tasks = 0; roles = [] }

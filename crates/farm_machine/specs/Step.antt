@@ -36,6 +36,7 @@ pub record MayCall (state : State) (asking : Asking) : Type 0 where
   pub told : asking.moment ≤ LAST_TOLD_MOMENT
   pub nothing_due : is_due state.contents (moment_of state.contents asking) ≡ false
 
+-- the entry may come in this state
 abbrev pub lawful : State → Entry → Type 0
 lawful state (tick moment) = MayTick state moment
 lawful state (call asking outcome) = MayCall state asking
@@ -47,6 +48,7 @@ after_call state asking finished =
 after_call state asking out_of_memory =
     record state { contents = reached state.contents (moment_of state.contents asking) }
 
+-- the state after an entry
 abbrev pub after : State → Entry → State
 after state (tick moment) = record state { contents = advance state.contents moment }
 after state (call asking outcome) = after_call state asking outcome
@@ -56,6 +58,7 @@ abbrev pub reply_to : State → Asking → Outcome → Reply
 reply_to state asking finished = Answered (verdict state asking).answer
 reply_to state asking out_of_memory = OutOfMemory
 
+-- the reply to an entry, where it is a call
 abbrev pub reply : State → Entry → Option Reply
 reply state (tick moment) = None
 reply state (call asking outcome) = Some (reply_to state asking outcome)

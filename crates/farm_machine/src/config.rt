@@ -1,3 +1,44 @@
-/// How a farm is set up. There is nothing to set until farm files are read.
+//! How a farm is set up.
+ghost use Rattle.std.specs.Prelude.{◌≡◌};
+ghost use Rattle.farm_machine.specs.Config.{counts_of};
+
+use farm_text::Text;
+use role_expand::RoleSet;
+
+/// How a farm is set up.
+#[derive(Debug, Drop)]
+pub struct Config {
+    /// The host that callers sign their calls for: 1 to 255 bytes of printable ASCII.
+    pub host: Text,
+    /// The port that callers sign their calls for, from 1.
+    pub port: u16,
+    /// How many seconds a claim of a task lasts: 1 to 86400.
+    pub claim_timeout: u32,
+    /// How many tasks the farm takes: 1 to 1000000.
+    pub max_tasks: u32,
+    /// The roles.
+    pub roles: RoleSet,
+}
+
+/// How many rows of each kind a configuration has.
 #[derive(Clone, Copy, Debug, PartialEq, Eq)]
-pub struct Config;
+pub struct ConfigCounts {
+    pub roles: u64,
+    /// 0, until farm files have clients.
+    pub clients: u64,
+    /// 0, until farm files have hooks.
+    pub hooks: u64,
+}
+
+impl Config {
+    /// How many rows of each kind there are.
+    pub fn counts(&self) -> ConfigCounts
+        ensures { result ≡ counts_of self.now }
+    {
+        ConfigCounts {
+            roles: self.roles.len() as u64,
+            clients: 0,
+            hooks: 0,
+        }
+    }
+}

@@ -18,11 +18,11 @@ pub struct Farm {}
 pub struct States {}
 
 impl Model for States {
-    ghost use Rattle.farm_machine.specs.State.{State, empty_state};
+    ghost use Rattle.farm_machine.specs.State.{State, empty_state, no_config};
 
     ghost Value = { State };
 
-    ghost view = { λ _. empty_state (record {}) };
+    ghost view = { λ _. empty_state no_config };
 }
 
 /// Stands for the entries of a history where a type is asked for. No value of it is made.
@@ -41,11 +41,11 @@ pub struct Openings {}
 
 impl Model for Openings {
     ghost use Rattle.farm_machine.specs.Law.{Opening};
-    ghost use Rattle.farm_machine.specs.State.{empty_state};
+    ghost use Rattle.farm_machine.specs.State.{empty_state, no_config};
 
     ghost Value = { Opening };
 
-    ghost view = { λ _. record { state = empty_state (record {}) } };
+    ghost view = { λ _. record { state = empty_state no_config } };
 }
 
 impl Machine for Farm {

@@ -43,9 +43,10 @@ impl Tables {
         self.last
     }
 
-    /// Makes this the last moment.
+    /// Makes this the last moment, which it is not before.
     pub fn reach(&mut self, moment: Moment)
-        requires { moment ≤ LAST_TOLD_MOMENT }
+        requires told { moment ≤ LAST_TOLD_MOMENT }
+        requires later { self.old.last ≤ moment }
         ensures { self.new ≡ reached self.old moment }
     {
         self.last = moment;

@@ -1,10 +1,11 @@
-use crate::config::Config;
+use crate::config::{Config, ConfigCounts};
 use crate::question::{Call, Caller, Parameter, Question};
 use crate::reply::Reply;
 use crate::step::{apply, plan};
 use crate::tables::{Tables, due, tick};
 use farm_text::{Moment, SlugId, Text};
-use std::alloc::{AllocError, Global};
+use role_expand::RoleSet;
+use std::alloc::Global;
 use std::test::Fail;
 
 /// The id that is written `AAAAAAAAQACAAAAAAAAAAA`.
@@ -12,14 +13,29 @@ fn first_task(rt: &impl std::process::Abort) -> SlugId {
     SlugId::of_uuid([0, 0, 0, 0, 0, 0, 0x40, 0, 0x80, 0, 0, 0, 0, 0, 0, 0]).expect(rt, "version 4")
 }
 
+/// A configuration without roles.
+fn config(alloc: Global) -> Result<Config, Fail> {
+    let roles = RoleSet::build(alloc, Vec::new(alloc))
+        .ok()
+        .ok_or("no roles")?;
+    Ok(Config {
+        host: Text::from_str(alloc, "localhost")?,
+        port: 8080,
+        claim_timeout: 1200,
+        max_tasks: 1_000_000,
+        roles,
+    })
+}
+
 /// The reply of a farm without tasks.
 #[tactic(auto, using(crate::proofs::DueLemmas::nothing_due))]
-fn ask(alloc: Global, caller: Caller, drawn: SlugId, call: Call) -> Result<Reply, AllocError> {
+fn ask(alloc: Global, caller: Caller, drawn: SlugId, call: Call) -> Result<Reply, Fail> {
+    let config = config(alloc)?;
     let mut tables = Tables::new();
     let planned = plan(
         alloc,
         &mut tables,
-        &Config,
+        &config,
         Question::new(Moment::FIRST, drawn, caller, call),
     )?;
     Ok(apply(&mut tables, planned))
@@ -70,6 +86,20 @@ fn replies_are_those_of_the_reference(rt: HostRuntime) -> Result<(), Fail> {
     assert_eq!(rt;
         Reply::OutOfMemory.body(),
         "{\"code\":\"OutOfMemory\",\"details\":{},\"message\":\"no memory\"}"
+    );
+    Ok(())
+}
+
+#[test]
+fn a_configuration_counts_its_rows(rt: HostRuntime) -> Result<(), Fail> {
+    let counts = config(rt.alloc())?.counts();
+    assert_eq!(rt;
+        counts,
+        ConfigCounts {
+            roles: 0,
+            clients: 0,
+            hooks: 0
+        }
     );
     Ok(())
 }

@@ -4,20 +4,21 @@ use Rattle.std.proofs.lemmas.Bool.{ne_eqb}
 use Rattle.std.specs.Io.KnownBytes.{Appends}
 use Rattle.std.proofs.KnownBytes.{Appends-nil, Appends-trans}
 use Rattle.causes.specs.Causes.{Rose}
-use Rattle.causes.proofs.CausesLemmas.{Rose-earlier}
 use Rattle.causes.proofs.LogsLemmas.{LogGrows-none, LogGrows-then}
 use Rattle.history.specs.Asks.{AsksInTurn}
 use Rattle.history.proofs.AsksLemmas.{AsksInTurn-none, AsksInTurn-then}
 use Rattle.http_wire.specs.declared.message.Message.{Message}
 use Rattle.http_wire.specs.declared.message.Wire.{Wire}
 use Rattle.http_wire.specs.declared.message.Wire.TheVariants as wire
+use Rattle.http_wire.specs.Reading.{KeepsUnlessFailed}
 use Rattle.http_wire.specs.Stream.{whole, Gives, Ending, Messages, TakesOne, Stops, is_of_stream, stopped, closed, full}
+use Rattle.http_wire.specs.Whole.{IsFrontOf}
 use Rattle.farm_machine.specs.declared.reply.Reply.{Reply}
 use Rattle.farm_machine.specs.Law.{opened}
 use Rattle.farm_machine.specs.Step.{farm_rules}
 use Rattle.farm_server.specs.ReplyText.{reply_text, wire_text}
 use Rattle.farm_server.specs.Routes.{question_of}
-use Rattle.farm_server.specs.Served.{Outside, Ask, messages_of, questions_of, reply_texts, IsFront, is_refused, EndsAs, IsOwnReply, IsFrontOf, Writes, IsCaused, IsCount, Standing, ServesWithin}
+use Rattle.farm_server.specs.Served.{Outside, Ask, messages_of, questions_of, reply_texts, IsFront, is_refused, EndsAs, IsOwnReply, Writes, but_last, BreaksOff, IsCaused, IsCount, Standing, ServesWithin}
 use Rattle.farm_server.specs.Turn.{Telling, AsksOnce, Ends, Refuses, Goes, Turns}
 use Rattle.farm_server.specs.declared.served.Served.{Served}
 use Rattle.farm_server.specs.declared.served.Served.TheVariants.{Closed, EndedInside, WireFault, ReadFault, WriteFault, Full, NoMemory}
@@ -106,16 +107,14 @@ IsCount-more room count ReadFault some counted = omega arith
 IsCount-more room count WriteFault some counted = omega arith
 IsCount-more room count NoMemory some counted = omega arith
 
-IsCaused-more : (before between after : Outside) (served : Served) → before.read_faults ≤ between.read_faults → before.write_faults ≤ between.write_faults → IsCaused between after served → IsCaused before after served
-IsCaused-more before between after Closed reads writes caused = tt
-IsCaused-more before between after Full reads writes caused = tt
-IsCaused-more before between after EndedInside reads writes caused = tt
-IsCaused-more before between after (WireFault reason) reads writes caused = tt
-IsCaused-more before between after ReadFault reads writes caused =
-    Rose-earlier before.read_faults between.read_faults after.read_faults reads caused
-IsCaused-more before between after WriteFault reads writes caused =
-    Rose-earlier before.write_faults between.write_faults after.write_faults writes caused
-IsCaused-more before between after NoMemory reads writes caused = tt
+IsCaused-more : (before between after : Outside) (served : Served) → between.read_faults ≡ before.read_faults → between.write_faults ≡ before.write_faults → IsCaused between after served → IsCaused before after served
+IsCaused-more before between after Closed reads writes caused = rw (reads, writes) at caused
+IsCaused-more before between after Full reads writes caused = rw (reads, writes) at caused
+IsCaused-more before between after EndedInside reads writes caused = rw (reads, writes) at caused
+IsCaused-more before between after (WireFault reason) reads writes caused = rw (reads, writes) at caused
+IsCaused-more before between after ReadFault reads writes caused = rw (reads, writes) at caused
+IsCaused-more before between after WriteFault reads writes caused = rw (reads, writes) at caused
+IsCaused-more before between after NoMemory reads writes caused = rw (reads, writes) at caused
 
 Writes-more : (room : ℕ) (before between after : Outside) (m : Message) (ms : List Message) (text texts : List ℕ) (served : Served) → 0 < room → TakesOne before.left m between.left → (m.closes ≡ false) ⊎ (room ≡ 1) → Appends before.written between.written text → Writes (room - 1) between after ms texts served → Writes room before after (m ∷ ms) (text ++ texts) served
 Writes-more room before between after m ms text texts Closed some takes goes_on first others =
@@ -136,24 +135,54 @@ Writes-more room before between after m ms text texts WriteFault some takes goes
     let begins = others.3 in
     (own, text ++ wrote, IsOwnReply-more room before.left between.left m ms own some takes goes_on others.2, (begins.0, append_assoc text texts own ∙ (ap (λ xs. text ++ xs) begins.1 ∙ sym (append_assoc text wrote begins.0))), Appends-trans before.written between.written after.written text wrote first others.4)
 
+-- of one message at most no reply but the last is there
+BreaksOff-front : (room : ℕ) (before after : Outside) (ms : List Message) (texts : List ℕ) (asks : List Ask) (replies : List Reply) (served : Served) → but_last asks ≡ [] → Writes room before after ms texts served → BreaksOff room before after asks replies served
+BreaksOff-front room before after ms texts asks replies WriteFault none writes =
+    (writes.1, rw none writes.4)
+BreaksOff-front room before after ms texts asks replies Closed none writes = tt
+BreaksOff-front room before after ms texts asks replies Full none writes = tt
+BreaksOff-front room before after ms texts asks replies EndedInside none writes = tt
+BreaksOff-front room before after ms texts asks replies (WireFault reason) none writes = tt
+BreaksOff-front room before after ms texts asks replies ReadFault none writes = tt
+BreaksOff-front room before after ms texts asks replies NoMemory none writes = tt
+
+-- a reply that was written whole, and then others
+BreaksOff-more : (room : ℕ) (before between after : Outside) (ask : Ask) (reply : Reply) (ms : List Message) (texts : List ℕ) (asks : List Ask) (replies : List Reply) (served : Served) → Appends before.written between.written (reply_text reply (ask.message.closes || eqb room 1)) → Writes room before after ms texts served → BreaksOff (room - 1) between after asks replies served → BreaksOff room before after (ask ∷ asks) (reply ∷ replies) served
+BreaksOff-more room before between after ask reply ms texts [] replies served first writes others =
+    BreaksOff-front room before after ms texts (ask ∷ []) (reply ∷ replies) served refl writes
+BreaksOff-more room before between after ask reply ms texts (next ∷ asks) replies WriteFault first writes others =
+    let text = reply_text reply (ask.message.closes || eqb room 1) in
+    let more = reply_texts (room - 1) (but_last (next ∷ asks)) replies in
+    (others.0, rw (append_assoc text more others.0) (Appends-trans before.written between.written after.written text (more ++ others.0) first others.1))
+BreaksOff-more room before between after ask reply ms texts (next ∷ asks) replies Closed first writes others = tt
+BreaksOff-more room before between after ask reply ms texts (next ∷ asks) replies Full first writes others = tt
+BreaksOff-more room before between after ask reply ms texts (next ∷ asks) replies EndedInside first writes others = tt
+BreaksOff-more room before between after ask reply ms texts (next ∷ asks) replies (WireFault reason) first writes others = tt
+BreaksOff-more room before between after ask reply ms texts (next ∷ asks) replies ReadFault first writes others = tt
+BreaksOff-more room before between after ask reply ms texts (next ∷ asks) replies NoMemory first writes others = tt
+
 -- one message, and then what follows it
 pub ServesWithin-more : (room : ℕ) (old middle new : Standing) (before between after : Outside) (left : Option (List ℕ)) (served : Served) → 0 < room → Goes room old middle before between left → ServesWithin (room - 1) middle new (record between { left = left }) after served → ServesWithin room old new before after served
 ServesWithin-more room old middle new before between after left served some goes rest =
     let m = goes.message in
     let from : Outside = record between { left = left } in
     let others = rest.spoke in
+    let ask : Ask = record { message = m; moment = goes.once.moment; id = goes.once.id } in
+    let all = Writes-more room before from after m (messages_of rest.asks) (reply_text goes.reply (m.closes || eqb room 1)) (reply_texts (room - 1) rest.asks rest.replies) served some goes.taken goes.goes_on goes.written others.written in
     record {
-      asks = record { message = m; moment = goes.once.moment; id = goes.once.id } ∷ rest.asks;
+      asks = ask ∷ rest.asks;
       replies = goes.reply ∷ rest.replies;
       spoke = record {
         count = IsCount-more room (length rest.asks) served some others.count;
+        each = ap suc others.each;
         taken = taken-more room before.left left m (messages_of rest.asks) served some goes.taken goes.goes_on others.taken;
         moments = LogGrows-then before.moments between.moments after.moments (goes.once.moment ∷ []) (map (λ (ask : Ask). ask.moment) rest.asks) goes.once.moments others.moments;
         ids = LogGrows-then before.ids between.ids after.ids (goes.once.id ∷ []) (map (λ (ask : Ask). ask.id) rest.asks) goes.once.ids others.ids;
-        written = Writes-more room before from after m (messages_of rest.asks) (reply_text goes.reply (m.closes || eqb room 1)) (reply_texts (room - 1) rest.asks rest.replies) served some goes.taken goes.goes_on goes.written others.written;
-        cause = IsCaused-more before from after served goes.reads_later goes.writes_later others.cause;
-        reads_later = omega (arith, goes.reads_later, others.reads_later);
-        writes_later = omega (arith, goes.writes_later, others.writes_later);
+        written = all;
+        breaks_off = BreaksOff-more room before from after ask goes.reply (m ∷ messages_of rest.asks) (reply_text goes.reply (m.closes || eqb room 1) ++ reply_texts (room - 1) rest.asks rest.replies) rest.asks rest.replies served goes.written all others.breaks_off;
+        cause = IsCaused-more before from after served goes.reads_kept goes.writes_kept others.cause;
+        reads_later = omega (arith, goes.reads_kept, others.reads_later);
+        writes_later = omega (arith, goes.writes_kept, others.writes_later);
       };
       asked = AsksInTurn-then farm_rules opened old.stands middle.stands new.stands (question_of m goes.once.moment goes.once.id ∷ []) (questions_of rest.asks) (goes.reply ∷ []) rest.replies goes.once.asked rest.asked;
       spent = omega (arith, goes.once.spent, rest.spent);
@@ -177,10 +206,12 @@ ServesWithin-none room old new before after served asked same_spare same_moments
   replies = [];
   spoke = record {
     count = count;
+    each = refl;
     taken = taken;
     moments = rw same_moments (LogGrows-none after.moments);
     ids = rw same_ids (LogGrows-none after.ids);
     written = written;
+    breaks_off = BreaksOff-front room before after [] [] [] [] served refl written;
     cause = cause;
     reads_later = reads;
     writes_later = writes;
@@ -196,10 +227,12 @@ ServesWithin-one room old new before after m reply served once count taken writt
   replies = reply ∷ [];
   spoke = record {
     count = count;
+    each = refl;
     taken = taken;
     moments = once.moments;
     ids = once.ids;
     written = written;
+    breaks_off = BreaksOff-front room before after (m ∷ []) (reply_text reply (m.closes || eqb room 1) ++ []) (record { message = m; moment = once.moment; id = once.id } ∷ []) (reply ∷ []) served refl written;
     cause = cause;
     reads_later = reads;
     writes_later = writes;
@@ -240,8 +273,8 @@ front_alone : (front text : List ℕ) → IsFrontOf front text → IsFrontOf fro
 front_alone front text begins = rw (append-nil text, append-nil text) begins
 
 -- what one message does to a connection
-pub Turns-from_ends : (room : ℕ) (old new : Standing) (stream left_now rest : Option (List ℕ)) (reads now : ℕ) (before after : Telling) (m : Message) (result : Option Served) → 0 < room → TakesOne stream m rest → reads ≤ now → Ends room old new before after m result → Turns room old new (outside stream before reads) (outside left_now after now) rest result
-Turns-from_ends room old new stream left_now rest reads now before after m None some takes later ends =
+pub Turns-from_ends : (room : ℕ) (old new : Standing) (stream left_now rest : Option (List ℕ)) (reads now : ℕ) (before after : Telling) (m : Message) (result : Option Served) → 0 < room → TakesOne stream m rest → now ≡ reads → Ends room old new before after m result → Turns room old new (outside stream before reads) (outside left_now after now) rest result
+Turns-from_ends room old new stream left_now rest reads now before after m None some takes kept ends =
     let said = ends.0 in
     record {
       message = m;
@@ -250,31 +283,31 @@ Turns-from_ends room old new stream left_now rest reads now before after m None 
       once = said.once;
       written = said.written;
       goes_on = ends.1;
-      reads_later = later;
-      writes_later = said.later;
+      reads_kept = kept;
+      writes_kept = said.kept;
     }
-Turns-from_ends room old new stream left_now rest reads now before after m (Some Closed) some takes later ends =
+Turns-from_ends room old new stream left_now rest reads now before after m (Some Closed) some takes kept ends =
     let said = ends.0 in
-    ServesWithin-one room old new (outside stream before reads) (outside left_now after now) m said.reply Closed said.once (omega arith) (taken_closed room stream rest m some takes ends.1 ends.2) (rw append-nil said.written) tt later said.later
-Turns-from_ends room old new stream left_now rest reads now before after m (Some WriteFault) some takes later ends =
-    ServesWithin-one room old new (outside stream before reads) (outside left_now after now) m ends.reply WriteFault ends.once (omega arith) (taken_front room stream rest m some takes) ([], ends.written.0, inl refl, front_alone ends.written.0 (reply_text ends.reply (m.closes || eqb room 1)) ends.written.1, ends.written.2) ends.rose later ends.later
-Turns-from_ends room old new stream left_now rest reads now before after m (Some NoMemory) some takes later ends =
+    ServesWithin-one room old new (outside stream before reads) (outside left_now after now) m said.reply Closed said.once (omega arith) (taken_closed room stream rest m some takes ends.1 ends.2) (rw append-nil said.written) (kept, said.kept) (omega (arith, kept)) (omega (arith, said.kept))
+Turns-from_ends room old new stream left_now rest reads now before after m (Some WriteFault) some takes kept ends =
+    ServesWithin-one room old new (outside stream before reads) (outside left_now after now) m ends.reply WriteFault ends.once (omega arith) (taken_front room stream rest m some takes) ([], ends.written.0, inl refl, front_alone ends.written.0 (reply_text ends.reply (m.closes || eqb room 1)) ends.written.1, ends.written.2) (ends.rose, kept) (omega (arith, kept)) ends.later
+Turns-from_ends room old new stream left_now rest reads now before after m (Some NoMemory) some takes kept ends =
     let P : Telling → Type 0 = λ t. ServesWithin room old new (outside stream before reads) (outside left_now t now) NoMemory in
-    subst P (sym ends.0) (ServesWithin-none room old new (outside stream before reads) (outside left_now before now) NoMemory ends.1 ends.2 refl refl (omega arith) (no_front room stream) (Appends-nil before.written) tt later (omega arith))
-Turns-from_ends room old new stream left_now rest reads now before after m (Some Full) some takes later ends =
+    subst P (sym ends.0) (ServesWithin-none room old new (outside stream before reads) (outside left_now before now) NoMemory ends.1 ends.2 refl refl (omega arith) (no_front room stream) (Appends-nil before.written) (kept, refl) (omega (arith, kept)) (omega arith))
+Turns-from_ends room old new stream left_now rest reads now before after m (Some Full) some takes kept ends =
     absurd ends
-Turns-from_ends room old new stream left_now rest reads now before after m (Some EndedInside) some takes later ends =
+Turns-from_ends room old new stream left_now rest reads now before after m (Some EndedInside) some takes kept ends =
     absurd ends
-Turns-from_ends room old new stream left_now rest reads now before after m (Some (WireFault reason)) some takes later ends =
+Turns-from_ends room old new stream left_now rest reads now before after m (Some (WireFault reason)) some takes kept ends =
     absurd ends
-Turns-from_ends room old new stream left_now rest reads now before after m (Some ReadFault) some takes later ends =
+Turns-from_ends room old new stream left_now rest reads now before after m (Some ReadFault) some takes kept ends =
     absurd ends
 
 -- the same where what was told of answers has another name
-pub Turns-answered : (room : ℕ) (old new : Standing) (stream left_now rest : Option (List ℕ)) (reads now : ℕ) (before between after : Telling) (m : Message) (result : Option Served) → 0 < room → TakesOne stream m rest → reads ≤ now → between ≡ before → Ends room old new between after m result → Turns room old new (outside stream before reads) (outside left_now after now) rest result
-Turns-answered room old new stream left_now rest reads now before between after m result some takes later same ends =
+pub Turns-answered : (room : ℕ) (old new : Standing) (stream left_now rest : Option (List ℕ)) (reads now : ℕ) (before between after : Telling) (m : Message) (result : Option Served) → 0 < room → TakesOne stream m rest → now ≡ reads → between ≡ before → Ends room old new between after m result → Turns room old new (outside stream before reads) (outside left_now after now) rest result
+Turns-answered room old new stream left_now rest reads now before between after m result some takes kept same ends =
     let P : Telling → Type 0 = λ t. Ends room old new t after m result in
-    Turns-from_ends room old new stream left_now rest reads now before after m result some takes later (subst P same ends)
+    Turns-from_ends room old new stream left_now rest reads now before after m result some takes kept (subst P same ends)
 
 pub telling_same : (written written_now moments : Option (List ℕ)) (ids : Option (List (List ℕ))) (faults faults_now : ℕ) → written_now ≡ written → faults_now ≡ faults → ◌≡◌ {A = Telling} (record { written = written_now; moments = moments; ids = ids; write_faults = faults_now }) (record { written = written; moments = moments; ids = ids; write_faults = faults })
 telling_same written written_now moments ids faults faults_now w f = rw (w, f) refl
@@ -296,45 +329,59 @@ refused-of_stream wire.EndedInside refused = cc
 refused-of_stream wire.ReadFault refused = cc
 refused-of_stream wire.NoMemory refused = cc
 
+-- a refusal of the wire is no failed read
+kept_refused : (before now : ℕ) (reason : Wire) → is_refused reason ≡ true → KeepsUnlessFailed before now reason → now ≡ before
+kept_refused before now wire.HeadFault refused kept = kept
+kept_refused before now wire.HeadTooLarge refused kept = kept
+kept_refused before now wire.NoLength refused kept = kept
+kept_refused before now wire.BodyTooLarge refused kept = kept
+kept_refused before now wire.End refused kept = kept
+kept_refused before now wire.EndedInside refused kept = kept
+kept_refused before now wire.ReadFault refused kept = cc
+kept_refused before now wire.NoMemory refused kept = kept
+
 -- no message came, and the connection ends so
-pub Turns-refused : (room : ℕ) (old : Standing) (stream left_now : Option (List ℕ)) (reads now : ℕ) (before after : Telling) (reason : Wire) (served : Served) → 0 < room → Stops stream reason → (reason ≡ wire.ReadFault → Rose reads now) → reads ≤ now → before.moments ≡ after.moments → before.ids ≡ after.ids → before.write_faults ≤ after.write_faults → Refuses before.written after.written before.write_faults after.write_faults reason served → ServesWithin room old old (outside stream before reads) (outside left_now after now) served
-Turns-refused room old stream left_now reads now before after reason Closed some halts fault later moments ids writes refuses =
+pub Turns-refused : (room : ℕ) (old : Standing) (stream left_now : Option (List ℕ)) (reads now : ℕ) (before after : Telling) (reason : Wire) (served : Served) → 0 < room → Stops stream reason → (reason ≡ wire.ReadFault → Rose reads now) → KeepsUnlessFailed reads now reason → reads ≤ now → before.moments ≡ after.moments → before.ids ≡ after.ids → before.write_faults ≤ after.write_faults → Refuses before.written after.written before.write_faults after.write_faults reason served → ServesWithin room old old (outside stream before reads) (outside left_now after now) served
+Turns-refused room old stream left_now reads now before after reason Closed some halts fault keeps later moments ids writes refuses =
+    let Q : Wire → Type 0 = λ r. KeepsUnlessFailed reads now r in
     let P : Wire → Type 0 = λ r. Stops stream r in
-    ServesWithin-none room old old (outside stream before reads) (outside left_now after now) Closed (AsksInTurn-none farm_rules opened old.stands) refl moments ids (omega arith) (closes_there stream (subst P refuses.0 halts)) refuses.1 tt later writes
+    ServesWithin-none room old old (outside stream before reads) (outside left_now after now) Closed (AsksInTurn-none farm_rules opened old.stands) refl moments ids (omega arith) (closes_there stream (subst P refuses.0 halts)) refuses.1 (subst Q refuses.0 keeps, refuses.2) later writes
   where
     closes_there : (stream : Option (List ℕ)) → Stops stream wire.End → IfSome stream (λ bytes. EndsAs room bytes [] Closed)
     closes_there None halts = tt
     closes_there (Some bytes) halts = inr (stopped_here room (Some bytes) wire.End some refl halts)
-Turns-refused room old stream left_now reads now before after reason EndedInside some halts fault later moments ids writes refuses =
+Turns-refused room old stream left_now reads now before after reason EndedInside some halts fault keeps later moments ids writes refuses =
+    let Q : Wire → Type 0 = λ r. KeepsUnlessFailed reads now r in
     let P : Wire → Type 0 = λ r. Stops stream r in
-    ServesWithin-none room old old (outside stream before reads) (outside left_now after now) EndedInside (AsksInTurn-none farm_rules opened old.stands) refl moments ids (omega arith) (stopped_here room stream wire.EndedInside some refl (subst P refuses.0 halts)) refuses.1 tt later writes
-Turns-refused room old stream left_now reads now before after reason ReadFault some halts fault later moments ids writes refuses =
-    ServesWithin-none room old old (outside stream before reads) (outside left_now after now) ReadFault (AsksInTurn-none farm_rules opened old.stands) refl moments ids (omega arith) (no_read stream) refuses.1 (fault refuses.0) later writes
+    ServesWithin-none room old old (outside stream before reads) (outside left_now after now) EndedInside (AsksInTurn-none farm_rules opened old.stands) refl moments ids (omega arith) (stopped_here room stream wire.EndedInside some refl (subst P refuses.0 halts)) refuses.1 (subst Q refuses.0 keeps, refuses.2) later writes
+Turns-refused room old stream left_now reads now before after reason ReadFault some halts fault keeps later moments ids writes refuses =
+    ServesWithin-none room old old (outside stream before reads) (outside left_now after now) ReadFault (AsksInTurn-none farm_rules opened old.stands) refl moments ids (omega arith) (no_read stream) refuses.1 (fault refuses.0, refuses.2) later writes
   where
     no_read : (stream : Option (List ℕ)) → IfSome stream (λ bytes. EndsAs room bytes [] ReadFault)
     no_read None = tt
     no_read (Some bytes) = tt
-Turns-refused room old stream left_now reads now before after reason NoMemory some halts fault later moments ids writes refuses =
-    ServesWithin-none room old old (outside stream before reads) (outside left_now after now) NoMemory (AsksInTurn-none farm_rules opened old.stands) refl moments ids (omega arith) (no_front room stream) refuses.1 tt later writes
-Turns-refused room old stream left_now reads now before after reason (WireFault told) some halts fault later moments ids writes refuses =
+Turns-refused room old stream left_now reads now before after reason NoMemory some halts fault keeps later moments ids writes refuses =
+    let Q : Wire → Type 0 = λ r. KeepsUnlessFailed reads now r in
+    ServesWithin-none room old old (outside stream before reads) (outside left_now after now) NoMemory (AsksInTurn-none farm_rules opened old.stands) refl moments ids (omega arith) (no_front room stream) refuses.1 (subst Q refuses.0 keeps, refuses.2) later writes
+Turns-refused room old stream left_now reads now before after reason (WireFault told) some halts fault keeps later moments ids writes refuses =
     let P : Wire → Type 0 = λ r. Stops stream r in
     let refused : is_refused told ≡ true = rw refuses.0 refuses.1 in
-    ServesWithin-none room old old (outside stream before reads) (outside left_now after now) (WireFault told) (AsksInTurn-none farm_rules opened old.stands) refl moments ids (omega arith) (stopped_here room stream told some (refused-of_stream told refused) (subst P (sym refuses.0) halts)) (refused, rw refuses.0 refuses.2) tt later writes
-Turns-refused room old stream left_now reads now before after reason WriteFault some halts fault later moments ids writes refuses =
+    ServesWithin-none room old old (outside stream before reads) (outside left_now after now) (WireFault told) (AsksInTurn-none farm_rules opened old.stands) refl moments ids (omega arith) (stopped_here room stream told some (refused-of_stream told refused) (subst P (sym refuses.0) halts)) (refused, rw refuses.0 refuses.2) (kept_refused reads now reason refuses.1 keeps, refuses.3) later writes
+Turns-refused room old stream left_now reads now before after reason WriteFault some halts fault keeps later moments ids writes refuses =
     let there = stopped_here room stream reason some (refused-of_stream reason refuses.0) halts in
     let front = refuses.1 in
-    ServesWithin-none room old old (outside stream before reads) (outside left_now after now) WriteFault (AsksInTurn-none farm_rules opened old.stands) refl moments ids (omega arith) (no_write stream) (wire_text reason, front.0, inr (reason, refuses.0, refl, there), front.1, front.2) refuses.2 later writes
+    ServesWithin-none room old old (outside stream before reads) (outside left_now after now) WriteFault (AsksInTurn-none farm_rules opened old.stands) refl moments ids (omega arith) (no_write stream) (wire_text reason, front.0, inr (reason, refuses.0, refl, there), front.1, front.2) (refuses.2, kept_refused reads now reason refuses.0 keeps) later writes
   where
     no_write : (stream : Option (List ℕ)) → IfSome stream (λ bytes. EndsAs room bytes [] WriteFault)
     no_write None = tt
     no_write (Some bytes) = tt
-Turns-refused room old stream left_now reads now before after reason Full some halts fault later moments ids writes refuses =
+Turns-refused room old stream left_now reads now before after reason Full some halts fault keeps later moments ids writes refuses =
     absurd refuses
 
 -- the room is used up
 pub ServesWithin-full : (room : ℕ) (old : Standing) (stream left_now : Option (List ℕ)) (reads : ℕ) (before : Telling) → room ≡ 0 → ServesWithin room old old (outside stream before reads) (outside left_now before reads) Full
 ServesWithin-full room old stream left_now reads before none =
-    ServesWithin-none room old old (outside stream before reads) (outside left_now before reads) Full (AsksInTurn-none farm_rules opened old.stands) refl refl refl (sym none) (all_taken stream) (Appends-nil before.written) tt (omega arith) (omega arith)
+    ServesWithin-none room old old (outside stream before reads) (outside left_now before reads) Full (AsksInTurn-none farm_rules opened old.stands) refl refl refl (sym none) (all_taken stream) (Appends-nil before.written) (refl, refl) (omega arith) (omega arith)
   where
     all_taken : (stream : Option (List ℕ)) → IfSome stream (λ bytes. EndsAs room bytes [] Full)
     all_taken None = tt
@@ -343,7 +390,7 @@ ServesWithin-full room old stream left_now reads before none =
 -- want of memory before the first message
 pub ServesWithin-no_memory : (room : ℕ) (old : Standing) (before : Outside) → ServesWithin room old old before before NoMemory
 ServesWithin-no_memory room old before =
-    ServesWithin-none room old old before before NoMemory (AsksInTurn-none farm_rules opened old.stands) refl refl refl (omega arith) (no_front room before.left) (Appends-nil before.written) tt (omega arith) (omega arith)
+    ServesWithin-none room old old before before NoMemory (AsksInTurn-none farm_rules opened old.stands) refl refl refl (omega arith) (no_front room before.left) (Appends-nil before.written) (refl, refl) (omega arith) (omega arith)
 
 -- one message, and then what follows it with the room that is left then
 pub ServesWithin-next : (room next : ℕ) (old middle new : Standing) (before between after : Outside) (left : Option (List ℕ)) (served : Served) → next ≡ room - 1 → 0 < room → Goes room old middle before between left → ServesWithin next middle new (record between { left = left }) after served → ServesWithin room old new before after served

@@ -64,6 +64,7 @@ status_or None path = NoRoute (route_name path)
 status_or (Some []) path = NoRoute (route_name path)
 status_or (Some (part ∷ parts)) path = status_call (slug_of (percent_decode part))
 
+-- the call of a path that is that of a ping, or of another route
 abbrev pub ping_or : Option (List (List ℕ)) → List ℕ → Call
 ping_or (Some parts) path = Ping
 ping_or None path = status_or (parameters_in status_route (parts_of path)) path

@@ -9,6 +9,7 @@ use Rattle.http_wire.specs.declared.message.Message.{Message}
 use Rattle.http_wire.specs.declared.message.Wire.{Wire}
 use Rattle.http_wire.specs.declared.message.Wire.TheVariants as wire
 use Rattle.http_wire.specs.Stream.{whole, Gives, Messages, stopped, closed, full}
+use Rattle.http_wire.specs.Whole.{IsFrontOf}
 use Rattle.farm_machine.specs.declared.reply.Reply.{Reply}
 use Rattle.farm_machine.specs.Entry.{Asking, Entry}
 use Rattle.farm_machine.specs.Law.{Opening, opened}
@@ -79,10 +80,6 @@ IsOwnReply room left messages own =
     (own ≡ []) ⊎ ((reason : Wire) × (is_refused reason ≡ true) × (own ≡ wire_text reason)
     × IfSome left (λ bytes. Messages room bytes messages (stopped reason)))
 
--- front is how text begins
-abbrev pub IsFrontOf : List ℕ → List ℕ → Type 0
-IsFrontOf front text = (more : List ℕ) × (text ≡ front ++ more)
-
 -- What was written: the texts of the replies, and then the wire's own reply where it refuses; after a failed write a front of that.
 abbrev pub Writes : ℕ → Outside → Outside → List Message → List ℕ → Served → Type 0
 Writes room before after messages texts (WireFault reason) =
@@ -91,11 +88,23 @@ Writes room before after messages texts WriteFault =
     (own wrote : List ℕ) × IsOwnReply room before.left messages own × IsFrontOf wrote (texts ++ own) × Appends before.written after.written wrote
 Writes room before after messages texts served = Appends before.written after.written texts
 
--- a failed read and a failed write have their counts as cause
+-- all but the last
+abbrev pub but_last : {A : Type 0} → List A → List A
+but_last [] = []
+but_last (x ∷ []) = []
+but_last (x ∷ y ∷ ys) = x ∷ but_last (y ∷ ys)
+
+-- no message was asked after a failed write: what was written has the texts of all replies but the last one
+abbrev pub BreaksOff : ℕ → Outside → Outside → List Ask → List Reply → Served → Type 0
+BreaksOff room before after asks replies WriteFault =
+    (front : List ℕ) × Appends before.written after.written (reply_texts room (but_last asks) replies ++ front)
+BreaksOff room before after asks replies served = Unit {0}
+
+-- a failed read and a failed write have their counts as cause; a count of what did not fail is as it was
 abbrev pub IsCaused : Outside → Outside → Served → Type 0
-IsCaused before after ReadFault = Rose before.read_faults after.read_faults
-IsCaused before after WriteFault = Rose before.write_faults after.write_faults
-IsCaused before after served = Unit {0}
+IsCaused before after ReadFault = Rose before.read_faults after.read_faults × (after.write_faults ≡ before.write_faults)
+IsCaused before after WriteFault = Rose before.write_faults after.write_faults × (after.read_faults ≡ before.read_faults)
+IsCaused before after served = (after.read_faults ≡ before.read_faults) × (after.write_faults ≡ before.write_faults)
 
 -- so many messages were asked: all that there is room for, or no more
 abbrev pub IsCount : ℕ → ℕ → Served → Type 0
@@ -105,10 +114,12 @@ IsCount room count served = count ≤ room
 -- What was said where there was room for so many messages: these were asked, with these replies, and then it ended so.
 pub record SpokeWithin (room : ℕ) (before after : Outside) (asks : List Ask) (replies : List Reply) (served : Served) : Type 0 where
   pub count : IsCount room (length asks) served
+  pub each : length replies ≡ length asks
   pub taken : IfSome before.left (λ bytes. EndsAs room bytes (messages_of asks) served)
   pub moments : LogGrows before.moments after.moments (map (λ ask. ask.moment) asks)
   pub ids : LogGrows before.ids after.ids (map (λ ask. ask.id) asks)
   pub written : Writes room before after (messages_of asks) (reply_texts room asks replies) served
+  pub breaks_off : BreaksOff room before after asks replies served
   pub cause : IsCaused before after served
   pub reads_later : before.read_faults ≤ after.read_faults
   pub writes_later : before.write_faults ≤ after.write_faults

@@ -8,18 +8,15 @@ use Rattle.http_wire.specs.declared.message.Message.{Message}
 use Rattle.http_wire.specs.declared.message.Wire.{Wire}
 use Rattle.http_wire.specs.declared.message.Wire.TheVariants as wire
 use Rattle.http_wire.specs.Stream.{TakesOne}
+use Rattle.http_wire.specs.Whole.{AppendsFront}
 use Rattle.farm_machine.specs.declared.reply.Reply.{Reply}
 use Rattle.farm_machine.specs.Law.{opened}
 use Rattle.farm_machine.specs.Step.{farm_rules}
 use Rattle.farm_server.specs.ReplyText.{reply_text, wire_text}
 use Rattle.farm_server.specs.Routes.{question_of}
-use Rattle.farm_server.specs.Served.{Outside, IsFrontOf, is_refused, Standing, ServesWithin}
+use Rattle.farm_server.specs.Served.{Outside, is_refused, Standing, ServesWithin}
 use Rattle.farm_server.specs.declared.served.Served.{Served}
 use Rattle.farm_server.specs.declared.served.Served.TheVariants.{Closed, EndedInside, WireFault, ReadFault, WriteFault, Full, NoMemory}
-
--- known bytes grow by a front of these
-abbrev pub AppendsFront : Option (List ℕ) → Option (List ℕ) → List ℕ → Type 0
-AppendsFront before after text = (front : List ℕ) × IsFrontOf front text × Appends before after front
 
 -- what the outside tells of answers: what was written, which moments and ids were told, and how many writes failed
 pub record Telling : Type 0 where
@@ -42,7 +39,7 @@ pub record Answers (room : ℕ) (old new : Standing) (before after : Telling) (m
   pub reply : Reply
   pub once : AsksOnce old new before.moments after.moments before.ids after.ids message reply
   pub written : Appends before.written after.written (reply_text reply (message.closes || (room == 1)))
-  pub later : before.write_faults ≤ after.write_faults
+  pub kept : after.write_faults ≡ before.write_faults
 
 -- One message was asked, and a write of its reply failed.
 pub record Breaks (room : ℕ) (old new : Standing) (before after : Telling) (message : Message) : Type 0 where
@@ -64,12 +61,12 @@ Ends room old new before after message (Some served) = ⊥
 
 -- how a connection ends on which no message came for this reason
 abbrev pub Refuses : Option (List ℕ) → Option (List ℕ) → ℕ → ℕ → Wire → Served → Type 0
-Refuses before after faults_before faults_after reason Closed = (reason ≡ wire.End) × Appends before after []
-Refuses before after faults_before faults_after reason EndedInside = (reason ≡ wire.EndedInside) × Appends before after []
-Refuses before after faults_before faults_after reason ReadFault = (reason ≡ wire.ReadFault) × Appends before after []
-Refuses before after faults_before faults_after reason NoMemory = (reason ≡ wire.NoMemory) × Appends before after []
+Refuses before after faults_before faults_after reason Closed = (reason ≡ wire.End) × Appends before after [] × (faults_after ≡ faults_before)
+Refuses before after faults_before faults_after reason EndedInside = (reason ≡ wire.EndedInside) × Appends before after [] × (faults_after ≡ faults_before)
+Refuses before after faults_before faults_after reason ReadFault = (reason ≡ wire.ReadFault) × Appends before after [] × (faults_after ≡ faults_before)
+Refuses before after faults_before faults_after reason NoMemory = (reason ≡ wire.NoMemory) × Appends before after [] × (faults_after ≡ faults_before)
 Refuses before after faults_before faults_after reason (WireFault told) =
-    (told ≡ reason) × (is_refused reason ≡ true) × Appends before after (wire_text reason)
+    (told ≡ reason) × (is_refused reason ≡ true) × Appends before after (wire_text reason) × (faults_after ≡ faults_before)
 Refuses before after faults_before faults_after reason WriteFault =
     (is_refused reason ≡ true) × AppendsFront before after (wire_text reason) × Rose faults_before faults_after
 Refuses before after faults_before faults_after reason Full = ⊥
@@ -82,8 +79,8 @@ pub record Goes (room : ℕ) (old new : Standing) (before after : Outside) (rest
   pub once : AsksOnce old new before.moments after.moments before.ids after.ids message reply
   pub written : Appends before.written after.written (reply_text reply (message.closes || (room == 1)))
   pub goes_on : (message.closes ≡ false) ⊎ (room ≡ 1)
-  pub reads_later : before.read_faults ≤ after.read_faults
-  pub writes_later : before.write_faults ≤ after.write_faults
+  pub reads_kept : after.read_faults ≡ before.read_faults
+  pub writes_kept : after.write_faults ≡ before.write_faults
 
 -- what one turn does, with room for so many messages: one is answered and the rest is left, or the connection ends so
 abbrev pub Turns : ℕ → Standing → Standing → Outside → Outside → Option (List ℕ) → Option Served → Type 0

@@ -10,14 +10,14 @@ use crate::gate::{Gate, When};
 use crate::routes::{call_of, question};
 use crate::served::{REQUESTS, Served};
 use crate::wire_replies::own_reply;
-use crate::write::{write_all, write_reply};
+use crate::write::write_reply;
 use causes::Failed;
 use farm_desk::Desk;
 use farm_machine::law::Farm;
 use farm_machine::question::{Call, Question};
 use farm_machine::reply::{Asked, Reply};
 use farm_text::{Clock, Draws};
-use http_wire::{Link, Message, Reader, Wire};
+use http_wire::{Link, Message, Reader, Wire, write_all};
 use std::alloc::Global;
 
 /// Serves one connection: takes requests from the link (RFC 9112), asks the desk each of them, and writes the replies in

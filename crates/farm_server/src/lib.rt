@@ -14,7 +14,6 @@ pub use bare::Bare;
 pub use connection::serve_connection;
 pub use gate::{Gate, NoGate, When};
 pub use head::{Head, reply_head};
-pub use routes::{call_of, question};
 pub use served::{REQUESTS, Served, a_connection_serves_a_thousand};
 
 #[cfg(test)]

@@ -14,7 +14,7 @@ use percent_encoding::percent_decode;
 use std::alloc::{AllocError, Global};
 
 /// The call of a message, by its method and its target.
-pub fn call_of(alloc: Global, message: &Message) -> Result<Call, AllocError>
+pub(crate) fn call_of(alloc: Global, message: &Message) -> Result<Call, AllocError>
     ensures { IfOk result (λ c. c ≡ routes.call_of message.now) }
 {
     let path = path_of(message.target.as_slice());
@@ -31,7 +31,7 @@ pub fn call_of(alloc: Global, message: &Message) -> Result<Call, AllocError>
 }
 
 /// The question of a message that makes this call, with the moment and the id that were told for it.
-pub fn question(message: &Message, call: Call, moment: Moment, drawn: SlugId) -> Question
+pub(crate) fn question(message: &Message, call: Call, moment: Moment, drawn: SlugId) -> Question
     requires called { call ≡ routes.call_of message.now }
     requires told { moment ≤ LAST_TOLD_MOMENT }
     ensures { result ≡ routes.question_of message.now moment drawn }

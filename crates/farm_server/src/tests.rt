@@ -12,8 +12,9 @@ use farm_machine::config::Config;
 use farm_machine::law::Farm;
 use farm_machine::question::{Call, Caller, Question};
 use farm_machine::reply::Asked;
-use farm_text::{ListClock, ListDraws, Moment, SlugId};
+use farm_text::{ListClock, ListDraws, Moment, SlugId, Text};
 use http_wire::{Joined, MemorySink, MemorySource, Wire};
+use role_expand::RoleSet;
 use std::alloc::{AllocError, Global};
 use std::test::Fail;
 
@@ -77,10 +78,24 @@ fn serve_over<K: Desk<Question = Question, Answer = Asked, Law = Farm>>(
     Ok(Output { served, written })
 }
 
+/// A configuration without roles.
+fn config(alloc: Global) -> Result<Config, Fail> {
+    let roles = RoleSet::build(alloc, Vec::new(alloc))
+        .ok()
+        .ok_or("no roles")?;
+    Ok(Config {
+        host: Text::from_str(alloc, "localhost")?,
+        port: 8080,
+        claim_timeout: 1200,
+        max_tasks: 1_000_000,
+        roles,
+    })
+}
+
 /// Serves the input over an empty farm.
-fn serve(alloc: Global, input: &Input) -> Result<Output, AllocError> {
-    let mut desk = Solo::new(Bare::new(alloc, Config));
-    serve_over(alloc, input, &mut desk)
+fn serve(alloc: Global, input: &Input) -> Result<Output, Fail> {
+    let mut desk = Solo::new(Bare::new(alloc, config(alloc)?));
+    Ok(serve_over(alloc, input, &mut desk)?)
 }
 
 fn both(alloc: Global, first: &[u8], second: &[u8]) -> Result<Vec<u8>, AllocError> {
@@ -106,7 +121,7 @@ fn a_farm_without_a_disk_answers(rt: HostRuntime) -> Result<(), Fail> {
     let Some(id) = SlugId::read(b"AAAAAAAAQACAAAAAAAAAAA") else {
         return Err(Fail::from("no slugid"));
     };
-    let mut farm = Bare::new(alloc, Config);
+    let mut farm = Bare::new(alloc, config(alloc)?);
     let asked = farm.ask(Question::new(Moment::FIRST, id, Caller::Anonymous, Call::Ping));
     assert_eq!(rt; asked.reply.body(), "{\"alive\":true}");
     assert!(rt; !asked.ticked);
@@ -250,7 +265,7 @@ fn others_may_ask_between(rt: HostRuntime) -> Result<(), Fail> {
         return Err(Fail::from("no slugid"));
     };
     let mut desk = Busy {
-        farm: Bare::new(alloc, Config),
+        farm: Bare::new(alloc, config(alloc)?),
         others,
         left: 1_000,
     };

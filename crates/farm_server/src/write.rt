@@ -1,35 +1,17 @@
-//! Bytes to a link.
+//! Replies to a link.
 ghost use Rattle.std.specs.Prelude.{◌≡◌, ◌+◌, ◌≤◌, ◌++◌, length, OnOk, OnErr};
 ghost use Rattle.std.specs.Io.KnownBytes.{Appends};
 ghost use Rattle.causes.specs.Causes.{HasCause};
+ghost use Rattle.http_wire.specs.Whole.{AppendsFront};
 ghost use Rattle.farm_server.specs.ReplyText.{reply_text};
-ghost use Rattle.farm_server.specs.Turn.{AppendsFront};
 
 use crate::head::reply_head;
 use causes::Failed;
 use farm_machine::reply::Reply;
-use http_wire::Link;
+use http_wire::{Link, write_all};
 
 /// Up to how many bytes a head and a body are put together for one write.
 const PIECE: usize = 1_024;
-
-/// Writes all of the bytes.
-pub(crate) fn write_all<L: Link>(link: &mut L, bytes: &[u8]) -> Result<(), Failed>
-    ensures ok { OnOk result (Appends (L.written link.old) (L.written link.new) bytes.now) }
-    ensures front { OnErr result (AppendsFront (L.written link.old) (L.written link.new) bytes.now) }
-    ensures cause { HasCause (L.write_faults link.old) (L.write_faults link.new) result }
-    ensures left { L.left link.new ≡ L.left link.old }
-    ensures read_faults { L.read_faults link.new ≡ L.read_faults link.old }
-{
-    let mut rest = bytes;
-    while !rest.is_empty() {
-        match link.write(rest) {
-            Ok(count) => rest = &rest[count..],
-            Err(Failed) => return Err(Failed),
-        }
-    }
-    Ok(())
-}
 
 /// Writes a reply, which says whether it closes the connection: in one write, where it is short.
 pub(crate) fn write_reply<L: Link>(link: &mut L, reply: &Reply, closes: bool) -> Result<(), Failed>

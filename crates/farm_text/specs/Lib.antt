@@ -1,5 +1,6 @@
 pub mod Document
 pub mod Doc
+pub mod Draws
 pub mod Entries
 pub mod Moment
 pub mod Slug

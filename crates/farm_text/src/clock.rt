@@ -61,15 +61,30 @@ impl Clock for ListClock {
 }
 
 /// The clock of the runtime. Where that fails or stands before 1970, the moment told last is told again.
+///
+/// A contract sees it as its runtime and the moment told last.
 #[derive(Drop)]
 pub struct HostClock<R: rt::Clock + Drop> {
     rt: R,
     last: Moment,
 }
 
+impl<R: rt::Clock + Drop> Model for HostClock<R> {
+    ghost use Rattle.std.specs.Prelude.{ℕ, ◌≤◌};
+    ghost use Rattle.farm_text.specs.declared.moment.TheConstants.{LAST_TOLD_MOMENT};
+
+    ghost Value = { R × ℕ };
+
+    ghost view = { λ c. (c.rt, c.last) };
+
+    ghost invariant = { λ c. c.last ≤ LAST_TOLD_MOMENT };
+}
+
 impl<R: rt::Clock + Drop> HostClock<R> {
-    /// The clock of this runtime.
-    pub fn new(rt: R) -> HostClock<R> {
+    /// The clock of this runtime. Before its first moment it has told moment 0.
+    pub fn new(rt: R) -> HostClock<R>
+        ensures { result ≡ (rt, 0) }
+    {
         HostClock {
             rt,
             last: Moment::FIRST,
@@ -80,10 +95,14 @@ impl<R: rt::Clock + Drop> HostClock<R> {
 impl<R: rt::Clock + Drop> Clock for HostClock<R> {
     ghost told = { λ _. None };
 
-    fn now(&mut self) -> Moment {
+    fn now(&mut self) -> Moment
+        ensures told { LogGrows None None (result ∷ []) }
+        ensures within { result ≤ LAST_TOLD_MOMENT }
+        ensures kept { self.new ≡ (self.old.0, result) }
+    {
         if let Ok(since) = self.rt.since_1970() {
             self.last = Moment::saturating(since.as_millis());
         }
-        self.last.min_told()
+        self.last
     }
 }

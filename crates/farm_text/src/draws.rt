@@ -1,9 +1,14 @@
-ghost use Rattle.std.specs.Prelude.{◌≡◌, ℕ, ◌+◌, ◌-◌, ◌^◌, List, [], ◌∷◌, min, Option, Some, None};
+ghost use Rattle.std.specs.Prelude.{◌≡◌, ℕ, ◌+◌, ◌-◌, ◌^◌, List, [], ◌∷◌, min, Option, Some, None, IfOk};
+ghost use Rattle.causes.specs.Causes.{HasCause};
 ghost use Rattle.causes.specs.Logs.{LogGrows};
+ghost use Rattle.rand_core.specs.Stream.{fill_bytes};
+ghost use Rattle.rand_chacha.specs.ChaCha.{of_seed};
+ghost use Rattle.uuid.specs.Parts.{v4_of_fill};
+ghost use Rattle.farm_text.specs.Draws.{IsSeeded, stream};
 ghost use Rattle.farm_text.specs.Told.{told_by, listed_id};
 
 use crate::slug::SlugId;
-use causes::Failed;
+use causes::{Failed, FaultCount};
 use rand::SeedableRng;
 use rand::rngs::StdRng;
 use std::marker::Model;
@@ -60,22 +65,41 @@ impl Draws for ListDraws {
 }
 
 /// Random ids, of a generator that the runtime seeded once.
+///
+/// A contract sees them as that generator.
 #[derive(Drop)]
 pub struct HostDraws {
     generator: StdRng,
 }
 
+impl Model for HostDraws {
+    ghost use Rattle.rand_chacha.specs.ChaCha.{ChaCha};
+
+    ghost Value = { ChaCha };
+
+    ghost view = { λ d. d.generator };
+}
+
 impl HostDraws {
-    /// Seeds the generator, which fails where the runtime gives no random bytes.
-    pub fn new(rt: &impl RandomSource) -> Result<HostDraws, Failed> {
+    /// Seeds the generator. A runtime that gives no random bytes is counted among the refused seeds.
+    pub fn new(rt: &impl RandomSource, refused: &mut FaultCount) -> Result<HostDraws, Failed>
+        ensures seeded { IfOk result IsSeeded }
+        ensures cause { HasCause refused.old refused.new result }
+    {
         match rand::make_rng(rt) {
             Ok(generator) => Ok(HostDraws { generator }),
-            Err(_) => Err(Failed),
+            Err(_) => {
+                refused.raise();
+                Err(Failed)
+            }
         }
     }
 
     /// Draws of a generator of their own, which this one seeds.
-    pub fn fork(&mut self) -> HostDraws {
+    pub fn fork(&mut self) -> HostDraws
+        ensures seeded { result ≡ of_seed (fill_bytes 32 (stream self.old)).0 }
+        ensures rest { stream self.new ≡ (fill_bytes 32 (stream self.old)).1 }
+    {
         HostDraws {
             generator: self.generator.fork(),
         }
@@ -85,7 +109,10 @@ impl HostDraws {
 impl Draws for HostDraws {
     ghost told = { λ _. None };
 
-    fn draw(&mut self) -> SlugId {
+    fn draw(&mut self) -> SlugId
+        ensures told { LogGrows None None (result ∷ []) }
+        ensures drawn { (result, stream self.new) ≡ v4_of_fill (fill_bytes 16 (stream self.old)) }
+    {
         let uuid = Uuid::new_v4(&mut self.generator);
         let Some(id) = SlugId::of_uuid(uuid.into_bytes()) else {
             unreachable!();

@@ -15,6 +15,8 @@ pub use clock::{Clock, HostClock, ListClock};
 pub use doc::Doc;
 pub use draws::{Draws, HostDraws, ListDraws};
 pub use entries::Entries;
-pub use moment::{LAST_MOMENT, LAST_TOLD_MOMENT, Moment, moment_texts_are_one, write_moment};
+pub use moment::{
+    LAST_MOMENT, LAST_TOLD_MOMENT, Moment, moment_texts_are_one, the_last_moments, write_moment,
+};
 pub use slug::{SlugId, slugs_are_texts_of_uuids};
 pub use text::Text;

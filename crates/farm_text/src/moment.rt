@@ -152,3 +152,9 @@ fn four_digits(n: u16) -> [u8; 4]
 pub fn moment_texts_are_one()
     ensures { (millis : ℕ) (a b : List ℕ) → IsMomentText millis a → IsMomentText millis b → a ≡ b }
 {}
+
+/// The last moments: what the contracts say of the two constants, they say of these numbers.
+pub fn the_last_moments()
+    ensures last { LAST_MOMENT ≡ 253402300799999 }
+    ensures told { LAST_TOLD_MOMENT ≡ 253370764799999 }
+{}

@@ -6,6 +6,7 @@ use crate::{
     Clock, Doc, Draws, Entries, HostClock, HostDraws, LAST_MOMENT, LAST_TOLD_MOMENT, ListClock,
     ListDraws, Moment, SlugId, Text, write_moment,
 };
+use causes::FaultCount;
 use std::alloc::{AllocError, Global};
 use std::test::Fail;
 
@@ -125,7 +126,9 @@ fn the_host_tells(rt: HostRuntime) -> Result<(), Fail> {
     let mut clock = HostClock::new(rt.clone()?);
     // 2024-01-01
     assert!(rt; clock.now().millis() > 1_704_067_200_000);
-    let mut draws = HostDraws::new(&rt).map_err(|_| "no random bytes")?;
+    let mut refused = FaultCount::new();
+    let mut draws = HostDraws::new(&rt, &mut refused).map_err(|_| "no random bytes")?;
     assert_ne!(rt; draws.draw(), draws.draw());
+    assert_ne!(rt; draws.fork().draw(), draws.draw());
     Ok(())
 }

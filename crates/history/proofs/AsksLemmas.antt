@@ -1,9 +1,9 @@
 -- How asks of a desk follow from asks of its object, and how asks in turn go together.
-use Rattle.std.proofs.Common.{◌≡◌, ℕ, ◌+◌, List, [], ◌∷◌, ◌++◌, length, Some, refl, sym, ◌∙◌, ap, append_assoc, append-nil, arith}
+use Rattle.std.proofs.Common.{◌≡◌, ℕ, ◌+◌, ◌≤◌, List, [], ◌∷◌, ◌++◌, length, length-append, Some, refl, sym, ◌∙◌, ap, append_assoc, append-nil, arith}
 use Rattle.std.proofs.lemmas.List.{map-append, length-map, append_cancel_left}
 use Rattle.history.specs.Rules.{Rules}
-use Rattle.history.specs.Histories.{end_state, reply_at, asked_at, calls_of, Leads, LeadsAlone}
-use Rattle.history.specs.Asks.{entries, IsAsk, HasAsked, Gains, AsksInTurn}
+use Rattle.history.specs.Histories.{entries, asks_entries, end_state, reply_at, asked_at, calls_of, Leads, LeadsAlone}
+use Rattle.history.specs.Asks.{IsAsk, HasAsked, IsRisingWithin, Gains, AsksInTurn}
 use Rattle.history.proofs.HistoriesLemmas.{end_state-append, Leads-append, calls_of-append, asked_at-append_seam, reply_at-append_seam, asked_at-each_stays, reply_at-each_stays}
 
 -- a history that leads to a state goes on by an ask of an object in that state
@@ -22,6 +22,18 @@ pub calls_of-ask : {Q A S E R : Type 0} (r : Rules Q A S E R) (place : ℕ) (see
 calls_of-ask r place seen old question answer new ask =
     calls_of-quiet_call r place seen (r.ticks old question answer) (r.call question answer) question ask.quiet ask.asked
 
+-- one ask more after others in turn
+asks_entries-one_more : {Q A S E R : Type 0} (r : Rules Q A S E R) (state : S) (asks : List (Q × A)) (ask : Q × A) → asks_entries r state (asks ++ ask ∷ []) ≡ asks_entries r state asks ++ entries r (end_state r state (asks_entries r state asks)) ask.0 ask.1
+asks_entries-one_more r state [] ask = append-nil (entries r state ask.0 ask.1)
+asks_entries-one_more r state (first ∷ asks) ask =
+    let mine = entries r state first.0 first.1 in
+    let next = end_state r state mine in
+    rw (asks_entries-one_more r next asks ask, end_state-append r state mine (asks_entries r next asks), append_assoc mine (asks_entries r next asks) (entries r (end_state r next (asks_entries r next asks)) ask.0 ask.1)) refl
+
+-- no ask: the state is the opening's
+pub LeadsAlone-none : {Q A S E R : Type 0} (r : Rules Q A S E R) (opening state : S) → opening ≡ state → LeadsAlone r opening [] [] state
+LeadsAlone-none r opening state is = record { legal = tt; leads = sym is; all = refl; made = ([], refl) }
+
 -- an ask of an object whose history has these calls alone: they gain its place
 pub LeadsAlone-ask : {Q A S E R : Type 0} (r : Rules Q A S E R) (opening : S) (seen : List E) (mine : List ℕ) (old : S) (question : Q) (answer : A) (new : S) → LeadsAlone r opening seen mine old → IsAsk r old question answer new → LeadsAlone r opening (seen ++ entries r old question answer) (mine ++ length (seen ++ r.ticks old question answer) ∷ []) new
 LeadsAlone-ask r opening seen mine old question answer new alone ask =
@@ -31,6 +43,7 @@ LeadsAlone-ask r opening seen mine old question answer new alone ask =
       legal = longer.0;
       leads = longer.1;
       all = rw (calls_of-ask r 0 seen old question answer new ask, counted, alone.all) refl;
+      made = (alone.made.0 ++ (question, answer) ∷ [], rw (asks_entries-one_more r opening alone.made.0 (question, answer), ← alone.made.1, ← alone.leads) refl);
     }
 
 -- An ask after others: the history that was seen and what they did lead to the object's state, and the object is asked.
@@ -71,33 +84,57 @@ HasAsked-weaker r stands weaker opening seen mine question answer follows asks =
   reply = asks.reply;
 }
 
+-- places that rise from a later one rise from an earlier one
+rising_earlier : (first middle end : ℕ) (places : List ℕ) → first ≤ middle → IsRisingWithin middle end places → IsRisingWithin first end places
+rising_earlier first middle end [] before rise = omega (arith, rise)
+rising_earlier first middle end (place ∷ places) before rise = (omega (arith, rise.0), rise.1)
+
+-- places that rise, and then those after them
+rising_then : (first middle end : ℕ) (places more : List ℕ) → IsRisingWithin first middle places → IsRisingWithin middle end more → IsRisingWithin first end (places ++ more)
+rising_then first middle end [] more some others = rising_earlier first middle end more some others
+rising_then first middle end (place ∷ places) more some others = (some.0, rising_then (place + 1) middle end places more some.1 others)
+
+-- a longer history is not shorter
+longer_history : {E : Type 0} (seen since : List E) → length seen ≤ length (seen ++ since)
+longer_history seen since = let sum = length-append seen since in omega arith
+
 -- no turn: nothing was asked
 pub Gains-none : {Q A S E R : Type 0} (r : Rules Q A S E R) (stands : List E → List ℕ → Type 0) (opening : S) (seen : List E) (mine : List ℕ) → stands seen mine → Gains r stands opening seen mine [] []
 Gains-none r stands opening seen mine stands_now = record {
   since = [];
   gained = [];
+  rising = longer_history seen [];
   stands_now = rw (append-nil seen, append-nil mine) stands_now;
   asked = refl;
   replied = refl;
 }
 
 -- what a desk has seen since is the rest of a longer history
-Gains-longer : {Q A S E R : Type 0} (r : Rules Q A S E R) (stands : List E → List ℕ → Type 0) (opening : S) (seen since : List E) (mine : List ℕ) (longer : List E) (place : ℕ) (question : Q) (reply : R) → longer ≡ seen ++ since → stands longer (mine ++ place ∷ []) → asked_at r longer place ≡ Some question → reply_at r opening longer place ≡ Some reply → Gains r stands opening seen mine (question ∷ []) (reply ∷ [])
-Gains-longer r stands opening seen since mine longer place question reply is stands_now asked replied = record {
+Gains-longer : {Q A S E R : Type 0} (r : Rules Q A S E R) (stands : List E → List ℕ → Type 0) (opening : S) (seen since : List E) (mine : List ℕ) (longer : List E) (place : ℕ) (question : Q) (reply : R) → longer ≡ seen ++ since → length seen ≤ place → place + 1 ≤ length longer → stands longer (mine ++ place ∷ []) → asked_at r longer place ≡ Some question → reply_at r opening longer place ≡ Some reply → Gains r stands opening seen mine (question ∷ []) (reply ∷ [])
+Gains-longer r stands opening seen since mine longer place question reply is above below stands_now asked replied = record {
   since = since;
   gained = place ∷ [];
+  rising = (above, rw (← is) below);
   stands_now = rw (← is) stands_now;
   asked = rw (← is, asked) refl;
   replied = rw (← is, replied) refl;
 }
+
+longer_before : {E : Type 0} (seen between ticks : List E) → length seen ≤ length ((seen ++ between) ++ ticks)
+longer_before seen between ticks =
+    let first = length-append seen between in
+    let second = length-append (seen ++ between) ticks in
+    omega arith
 
 -- one turn: one ask
 pub Gains-one : {Q A S E R : Type 0} (r : Rules Q A S E R) (stands : List E → List ℕ → Type 0) (opening : S) (seen : List E) (mine : List ℕ) (question : Q) (answer : A) → HasAsked r stands opening seen mine question answer → Gains r stands opening seen mine (question ∷ []) (r.told answer ∷ [])
 Gains-one r stands opening seen mine question answer asks =
     let ticks = r.ticks (end_state r opening (seen ++ asks.between)) question answer in
     let call = r.call question answer in
+    let above : length seen ≤ length asks.before = rw asks.before_is (longer_before seen asks.between ticks) in
+    let below : length asks.before + 1 ≤ length (asks.before ++ call ∷ []) = let sum = length-append asks.before (call ∷ []) in omega arith in
     let goes_on : asks.before ++ call ∷ [] ≡ seen ++ (asks.between ++ (ticks ++ call ∷ [])) = rw asks.before_is (simp append_assoc) in
-    Gains-longer r stands opening seen (asks.between ++ (ticks ++ call ∷ [])) mine (asks.before ++ call ∷ []) (length asks.before) question (r.told answer) goes_on asks.stands_now asks.asked asks.reply
+    Gains-longer r stands opening seen (asks.between ++ (ticks ++ call ∷ [])) mine (asks.before ++ call ∷ []) (length asks.before) question (r.told answer) goes_on above below asks.stands_now asks.asked asks.reply
 
 -- more turns: those of one portion, and then those of the next from where the first ends
 pub Gains-then : {Q A S E R : Type 0} (r : Rules Q A S E R) (middle stands : List E → List ℕ → Type 0) (opening : S) (seen : List E) (mine : List ℕ) (questions more : List Q) (replies further : List R) → Gains r middle opening seen mine questions replies → ((history : List E) (places : List ℕ) → middle history places → Gains r stands opening history places more further) → Gains r stands opening seen mine (questions ++ more) (replies ++ further)
@@ -106,6 +143,7 @@ Gains-then r middle stands opening seen mine questions more replies further firs
     record {
       since = first.since ++ second.since;
       gained = first.gained ++ second.gained;
+      rising = rising_then (length seen) (length (seen ++ first.since)) (length (seen ++ (first.since ++ second.since))) first.gained second.gained first.rising (rw (← append_assoc seen first.since second.since) second.rising);
       stands_now = rw (← append_assoc seen first.since second.since, ← append_assoc mine first.gained second.gained) second.stands_now;
       asked = rw (← append_assoc seen first.since second.since, map-append (asked_at r ((seen ++ first.since) ++ second.since)) first.gained second.gained, asked_at-each_stays r (seen ++ first.since) second.since first.gained questions first.asked, second.asked) (sym (map-append Some questions more));
       replied = rw (← append_assoc seen first.since second.since, map-append (reply_at r opening ((seen ++ first.since) ++ second.since)) first.gained second.gained, reply_at-each_stays r opening (seen ++ first.since) second.since first.gained replies first.replied, second.replied) (sym (map-append Some replies further));

@@ -1,11 +1,7 @@
 -- What asks do: one ask of an object that has a state, one ask of a desk that stands for a history, and many asks in turn.
-use Rattle.std.specs.Prelude.{◌≡◌, ℕ, List, [], ◌∷◌, ◌++◌, length, map, Some}
+use Rattle.std.specs.Prelude.{◌≡◌, ℕ, ◌+◌, ◌≤◌, List, [], ◌∷◌, ◌++◌, length, map, Some}
 use Rattle.history.specs.Rules.{Rules}
-use Rattle.history.specs.Histories.{end_state, IsLegal, reply_at, asked_at, calls_of}
-
--- the entries of one ask, from the state that it finds: what goes before its call, and the call
-abbrev pub entries : {Q A S E R : Type 0} → Rules Q A S E R → S → Q → A → List E
-entries r state question answer = r.ticks state question answer ++ r.call question answer ∷ []
+use Rattle.history.specs.Histories.{entries, end_state, IsLegal, reply_at, asked_at, calls_of}
 
 -- One ask of an object: its entries are legal and lead from the old state to the new one, its last entry alone is a call, of
 -- this question, and that call's reply is the answer's.
@@ -27,11 +23,17 @@ pub record HasAsked {Q A S E R : Type 0} (r : Rules Q A S E R) (stands : List E 
   pub asked : asked_at r (before ++ r.call question answer ∷ []) (length before) ≡ Some question
   pub reply : reply_at r opening (before ++ r.call question answer ∷ []) (length before) ≡ Some (r.told answer)
 
--- Many asks in turn: the history that was seen goes on, the desk's own places gain one for each question, and there stand
--- these questions with these replies, in order.
+-- the places rise: none is before the first, or at the end or after it
+abbrev pub IsRisingWithin : ℕ → ℕ → List ℕ → Type 0
+IsRisingWithin first end [] = first ≤ end
+IsRisingWithin first end (place ∷ places) = (first ≤ place) × IsRisingWithin (place + 1) end places
+
+-- Many asks in turn: the history that was seen goes on, the desk's own places gain one for each question, in what came since
+-- and each after the one before it, and there stand these questions with these replies, in order.
 pub record Gains {Q A S E R : Type 0} (r : Rules Q A S E R) (stands : List E → List ℕ → Type 0) (opening : S) (seen : List E) (mine : List ℕ) (questions : List Q) (replies : List R) : Type 0 where
   pub since : List E
   pub gained : List ℕ
+  pub rising : IsRisingWithin (length seen) (length (seen ++ since)) gained
   pub stands_now : stands (seen ++ since) (mine ++ gained)
   pub asked : map (asked_at r (seen ++ since)) gained ≡ map Some questions
   pub replied : map (reply_at r opening (seen ++ since)) gained ≡ map Some replies

@@ -2,3 +2,4 @@ pub mod HeadLemmas
 pub mod KnownLemmas
 pub mod StreamLemmas
 pub mod StreamLaws
+pub mod WholeLemmas

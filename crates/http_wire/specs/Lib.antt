@@ -6,3 +6,4 @@ pub mod Memory
 pub mod Message
 pub mod Reading
 pub mod Stream
+pub mod Whole

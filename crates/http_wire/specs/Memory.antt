@@ -20,6 +20,7 @@ read_faults s = s.faults
 abbrev pub failing_reads : MemorySource → List ℕ
 failing_reads s = s.failing.items
 
+-- the number of the next read
 abbrev pub read_number : MemorySource → ℕ
 read_number s = s.calls
 
@@ -31,6 +32,7 @@ read_piece s = max s.piece 1
 abbrev pub failing_writes : MemorySink → List ℕ
 failing_writes s = s.failing.items
 
+-- the number of the next write
 abbrev pub write_number : MemorySink → ℕ
 write_number s = s.calls
 

@@ -1,5 +1,5 @@
 -- Why a step of the reader stopped, and what a call leaves of a stream.
-use Rattle.std.specs.Prelude.{ℕ, ◌<◌, Bool, true, false, List, length, Option, IfSome}
+use Rattle.std.specs.Prelude.{◌≡◌, ℕ, ◌<◌, Bool, true, false, List, length, Option, IfSome}
 use Rattle.std.specs.Bool.{MatchBool}
 use Rattle.std.specs.Io.KnownBytes.{Keeps, Consumes, IsAtEnd}
 use Rattle.causes.specs.Causes.{Rose}
@@ -9,6 +9,11 @@ use Rattle.http_wire.specs.declared.message.Wire.TheVariants.{End, EndedInside, 
 -- the stream has lost some bytes at its front, or none
 abbrev pub Loses : Option (List ℕ) → Option (List ℕ) → Type 0
 Loses before now = (gone : List ℕ) × Consumes before now gone
+
+-- the count of failed reads is as it was, unless this says that a read failed
+abbrev pub KeepsUnlessFailed : ℕ → ℕ → Wire → Type 0
+KeepsUnlessFailed before now ReadFault = Unit {0}
+KeepsUnlessFailed before now wire = now ≡ before
 
 -- a piece did not come: a read failed, or memory ran out
 abbrev pub IsFillStop : ℕ → ℕ → Wire → Type 0

@@ -1,10 +1,9 @@
 //! Bytes from a link: one more piece of a head, and a body.
-ghost use Rattle.std.specs.Prelude.{◌≡◌, ℕ, ◌+◌, ◌<◌, ◌≤◌, List, ◌++◌, length, drop, vec_len, IfOk, IfErr, OnOk};
+ghost use Rattle.std.specs.Prelude.{◌≡◌, ℕ, ◌+◌, ◌<◌, ◌≤◌, List, ◌++◌, length, drop, vec_len, IfOk, IfErr, OnOk, OnErr, MatchResult};
 ghost use Rattle.std.specs.Io.KnownBytes.{prepend_known, Keeps, Consumes, IsAtEnd};
 ghost use Rattle.causes.specs.Causes.{Rose};
-ghost use Rattle.http_wire.specs.Reading.{IsFillStop, IsReadStop, IsBodyStop, Ends, Leaves, Loses};
+ghost use Rattle.http_wire.specs.Reading.{IsFillStop, IsReadStop, IsBodyStop, KeepsUnlessFailed, Ends, Leaves, Loses};
 
-use crate::head::HEAD_LIMIT;
 use crate::link::Link;
 use crate::message::Wire;
 use causes::Failed;
@@ -15,13 +14,16 @@ const PIECE: usize = 8192;
 
 /// Reads one piece to the end of `held`, and says how many bytes came. None are the end of the input.
 pub(crate) fn fill<L: Link>(held: &mut Vec<u8>, link: &mut L) -> Result<usize, Wire>
-    requires { vec_len held.old < HEAD_LIMIT }
     ensures count { IfOk result (λ n. vec_len held.new ≡ vec_len held.old + n) }
+    ensures piece { IfOk result (λ n. n ≤ PIECE) }
     ensures end { IfOk result (λ n. n ≡ 0 → (held.new.items ≡ held.old.items) × IsAtEnd (L.left link.new)) }
     ensures grown { OnOk result ((piece : List ℕ) × (held.new.items ≡ held.old.items ++ piece)) }
+    ensures same { OnErr result (vec_len held.new ≡ vec_len held.old) }
     ensures stop { IfErr result (IsFillStop (L.read_faults link.old) (L.read_faults link.new)) }
     ensures kept { Keeps (prepend_known held.old.items (L.left link.old)) (prepend_known held.new.items (L.left link.new)) }
     ensures later { L.read_faults link.old ≤ L.read_faults link.new }
+    ensures same_reads { MatchResult result (λ _. L.read_faults link.new ≡ L.read_faults link.old)
+        (KeepsUnlessFailed (L.read_faults link.old) (L.read_faults link.new)) }
     ensures written { L.written link.new ≡ L.written link.old }
     ensures write_faults { L.write_faults link.new ≡ L.write_faults link.old }
 {
@@ -49,6 +51,8 @@ fn read_into<L: Link>(buf: &mut [u8], link: &mut L) -> Result<(), Wire>
     ensures lost { Loses (L.left link.old) (L.left link.new) }
     ensures ended { IfErr result (Ends (L.left link.new)) }
     ensures later { L.read_faults link.old ≤ L.read_faults link.new }
+    ensures same_reads { MatchResult result (λ _. L.read_faults link.new ≡ L.read_faults link.old)
+        (KeepsUnlessFailed (L.read_faults link.old) (L.read_faults link.new)) }
     ensures written { L.written link.new ≡ L.written link.old }
     ensures write_faults { L.write_faults link.new ≡ L.write_faults link.old }
 {
@@ -90,6 +94,8 @@ pub(crate) fn take_body<L: Link>(
     ensures ended { IfErr result (Ends (L.left link.new)) }
     ensures stop { IfErr result (IsBodyStop size (prepend_known (drop start held.old.items) (L.left link.old)) (L.read_faults link.old) (L.read_faults link.new)) }
     ensures later { L.read_faults link.old ≤ L.read_faults link.new }
+    ensures same_reads { MatchResult result (λ _. L.read_faults link.new ≡ L.read_faults link.old)
+        (KeepsUnlessFailed (L.read_faults link.old) (L.read_faults link.new)) }
     ensures written { L.written link.new ≡ L.written link.old }
     ensures write_faults { L.write_faults link.new ≡ L.write_faults link.old }
 {

@@ -1,6 +1,7 @@
 //! What the definitions of a stream determine.
 ghost use Rattle.std.specs.Prelude.{◌≡◌, ℕ, List};
 ghost use Rattle.http_wire.specs.Stream.{Outcome, Gives, Ending, Messages};
+ghost use Rattle.http_wire.specs.declared.head.TheConstants.{HEAD_LIMIT, BODY_LIMIT, FIELD_LIMIT};
 ghost use Rattle.http_wire.specs.declared.message.Message.{Message};
 
 /// The next outcome of a stream is one.
@@ -12,4 +13,11 @@ pub fn outcome_is_one()
 pub fn messages_are_one()
     ensures { (room : ℕ) (bytes : List ℕ) (some others : List Message) (end ending : Ending)
         → Messages room bytes some end → Messages room bytes others ending → (some ≡ others) × (end ≡ ending) }
+{}
+
+/// What is said of the limits is said of these numbers. Each field takes three bytes of a head at least.
+pub fn the_limits()
+    ensures head { HEAD_LIMIT ≡ 16384 }
+    ensures body { BODY_LIMIT ≡ 1048576 }
+    ensures fields { FIELD_LIMIT ≡ 5462 }
 {}

@@ -16,16 +16,18 @@ mod memory;
 mod message;
 mod reader;
 mod rules;
+mod whole;
 
 pub use head::{BODY_LIMIT, FIELD_LIMIT, HEAD_LIMIT};
 pub use host::{HostSink, HostSource, StreamLink};
 pub use joined::Joined;
-pub use laws::{messages_are_one, outcome_is_one};
+pub use laws::{messages_are_one, outcome_is_one, the_limits};
 pub use link::{Link, Sink, Source};
 pub use list::{ListEnd, MessageList, read_messages};
 pub use memory::{MemoryLink, MemorySink, MemorySource};
 pub use message::{Bytes, Message, Wire};
 pub use reader::Reader;
+pub use whole::{ReadAllFault, read_all, write_all};
 
 #[cfg(test)]
 mod tests;

@@ -1,7 +1,8 @@
 //! All messages of a stream.
-ghost use Rattle.std.specs.Prelude.{◌≡◌, ◌≤◌, IfOk, IfErr, IfSome, Err, false};
+ghost use Rattle.std.specs.Prelude.{◌≡◌, ◌≤◌, IfOk, IfErr, IfSome, MatchResult, Err, false};
 ghost use Rattle.causes.specs.Causes.{Rose};
 ghost use Rattle.http_wire.specs.List.{ending_of};
+ghost use Rattle.http_wire.specs.Reading.{KeepsUnlessFailed};
 ghost use Rattle.http_wire.specs.Stream.{Messages, is_of_stream};
 
 use crate::link::Link;
@@ -34,6 +35,8 @@ pub fn read_messages<L: Link>(alloc: Global, link: &mut L, room: usize) -> Resul
     ensures other { IfErr result (λ wire. is_of_stream wire ≡ false) }
     ensures fault { result ≡ Err Wire.ReadFault → Rose (L.read_faults link.old) (L.read_faults link.new) }
     ensures later { L.read_faults link.old ≤ L.read_faults link.new }
+    ensures same_reads { MatchResult result (λ _. L.read_faults link.new ≡ L.read_faults link.old)
+        (KeepsUnlessFailed (L.read_faults link.old) (L.read_faults link.new)) }
     ensures written { L.written link.new ≡ L.written link.old }
     ensures write_faults { L.write_faults link.new ≡ L.write_faults link.old }
 {

@@ -1,5 +1,5 @@
 //! Sources, sinks and links in memory, which tell all that they hold.
-ghost use Rattle.std.specs.Prelude.{◌≡◌, max, ℕ, ◌+◌, ◌-◌, ◌<◌, ◌≤◌, List, [], ◌++◌, length, Some, IfOk, IsErr, Contains, ◌↔◌, ◌⊎◌};
+ghost use Rattle.std.specs.Prelude.{◌≡◌, max, ℕ, ◌+◌, ◌-◌, ◌<◌, ◌≤◌, List, [], ◌++◌, length, Some, IfOk, OnErr, MatchResult, IsErr, Contains, ◌↔◌, ◌⊎◌};
 ghost use Rattle.std.specs.Io.{ReadsAtMost, WritesAtMost};
 ghost use Rattle.std.specs.Io.KnownBytes.{ReadConsumes, WriteAppends};
 ghost use Rattle.causes.specs.Causes.{HasCause};
@@ -62,6 +62,7 @@ impl Source for MemorySource {
         ensures fails { IsErr result ↔ Contains (failing_reads self.old) (read_number self.old) }
         ensures failing { failing_reads self.new ≡ failing_reads self.old }
         ensures number { read_number self.new ≡ next_call (read_number self.old) }
+        ensures count { OnErr result (read_faults self.new ≡ next_call (read_faults self.old)) }
         ensures piece { IfOk result (λ n. n ≤ read_piece self.old) }
         ensures same_piece { read_piece self.new ≡ read_piece self.old }
     {
@@ -156,6 +157,8 @@ impl Sink for MemorySink {
         ensures fails { IsErr result ↔ (Contains (failing_writes self.old) (write_number self.old) ⊎ (room_left self.old < length buf.now)) }
         ensures failing { failing_writes self.new ≡ failing_writes self.old }
         ensures number { write_number self.new ≡ next_call (write_number self.old) }
+        ensures count { OnErr result (write_faults self.new ≡ next_call (write_faults self.old)) }
+        ensures room { MatchResult result (λ n. room_left self.old ≤ room_left self.new + n) (λ _. room_left self.old ≤ room_left self.new) }
     {
         let call = self.calls;
         self.calls = call.saturating_add(1);

@@ -1,11 +1,11 @@
 //! The reader of requests.
-ghost use Rattle.std.specs.Prelude.{◌≡◌, ℕ, ◌<◌, ◌≤◌, List, [], length, vec_len, IsTrue, IfOk, IfErr, OnErr, Err, false};
+ghost use Rattle.std.specs.Prelude.{◌≡◌, ℕ, ◌<◌, ◌≤◌, List, [], length, vec_len, IsTrue, IfOk, IfErr, OnErr, MatchResult, Err, false};
 ghost use Rattle.std.specs.Io.KnownBytes.{prepend_known, Keeps, IsAtEnd};
 ghost use Rattle.causes.specs.Causes.{Rose};
 ghost use Rattle.http_wire.specs.declared.head.TheConstants.{FIELD_LIMIT, HEAD_LIMIT};
 ghost use Rattle.http_wire.specs.Head.{IsOpen};
 ghost use Rattle.http_wire.specs.Front.{IsHeadAt};
-ghost use Rattle.http_wire.specs.Reading.{Ends, IsFillStop, Leaves};
+ghost use Rattle.http_wire.specs.Reading.{Ends, IsFillStop, KeepsUnlessFailed, Leaves};
 ghost use Rattle.http_wire.specs.Stream.{TakesOne, Stops};
 
 use crate::body::{fill, take_body};
@@ -27,6 +27,8 @@ fn await_line<L: Link>(held: &mut Vec<u8>, link: &mut L) -> Result<bool, Wire>
     ensures stop { IfErr result (IsFillStop (L.read_faults link.old) (L.read_faults link.new)) }
     ensures kept { Keeps (prepend_known held.old.items (L.left link.old)) (prepend_known held.new.items (L.left link.new)) }
     ensures later { L.read_faults link.old ≤ L.read_faults link.new }
+    ensures same_reads { MatchResult result (λ _. L.read_faults link.new ≡ L.read_faults link.old)
+        (KeepsUnlessFailed (L.read_faults link.old) (L.read_faults link.new)) }
     ensures written { L.written link.new ≡ L.written link.old }
     ensures write_faults { L.write_faults link.new ≡ L.write_faults link.old }
 {
@@ -56,6 +58,8 @@ fn read_head<L: Link>(
     ensures ended { IfErr result (Ends (L.left link.new)) }
     ensures fault { result ≡ Err Wire.ReadFault → Rose (L.read_faults link.old) (L.read_faults link.new) }
     ensures later { L.read_faults link.old ≤ L.read_faults link.new }
+    ensures same_reads { MatchResult result (λ _. L.read_faults link.new ≡ L.read_faults link.old)
+        (KeepsUnlessFailed (L.read_faults link.old) (L.read_faults link.new)) }
     ensures written { L.written link.new ≡ L.written link.old }
     ensures write_faults { L.write_faults link.new ≡ L.write_faults link.old }
 {
@@ -89,6 +93,8 @@ fn next_message<L: Link>(
     ensures ended { IfErr result (Ends (L.left link.new)) }
     ensures fault { result ≡ Err Wire.ReadFault → Rose (L.read_faults link.old) (L.read_faults link.new) }
     ensures later { L.read_faults link.old ≤ L.read_faults link.new }
+    ensures same_reads { MatchResult result (λ _. L.read_faults link.new ≡ L.read_faults link.old)
+        (KeepsUnlessFailed (L.read_faults link.old) (L.read_faults link.new)) }
     ensures written { L.written link.new ≡ L.written link.old }
     ensures write_faults { L.write_faults link.new ≡ L.write_faults link.old }
 {
@@ -153,6 +159,8 @@ impl Reader {
         ensures ended { IfErr result (Ends (L.left link.new)) }
         ensures fault { result ≡ Err Wire.ReadFault → Rose (L.read_faults link.old) (L.read_faults link.new) }
         ensures later { L.read_faults link.old ≤ L.read_faults link.new }
+        ensures same_reads { MatchResult result (λ _. L.read_faults link.new ≡ L.read_faults link.old)
+            (KeepsUnlessFailed (L.read_faults link.old) (L.read_faults link.new)) }
         ensures written { L.written link.new ≡ L.written link.old }
         ensures write_faults { L.write_faults link.new ≡ L.write_faults link.old }
     {

@@ -1,8 +1,10 @@
 //! Streams with what stands in them, by the standard (RFC 9112) and the limits of this crate.
 
+ghost use Rattle.http_wire.specs.Memory.{sink_written, write_faults};
+
 use crate::{
     HostSink, HostSource, Joined, Link, ListEnd, MemoryLink, MemorySink, MemorySource, Message,
-    Reader, Sink, Source, StreamLink, Wire, read_messages,
+    ReadAllFault, Reader, Sink, Source, StreamLink, Wire, read_all, read_messages, write_all,
 };
 use causes::Failed;
 use std::alloc::{AllocError, Global};
@@ -193,6 +195,72 @@ fn lists_end_as_their_stream_does(rt: HostRuntime) -> Result<(), Fail> {
         let list = read_messages(alloc, &mut link, room).ok().ok_or("a list")?;
         assert_eq!(rt; list.messages.len(), count, "room {room}");
         assert_eq!(rt; list.end, end, "room {room}");
+    }
+    Ok(())
+}
+
+/// A link that has these bytes left and gives seven at a time. Chosen reads fail.
+fn sevens(alloc: Global, bytes: &[u8], failing: &[u64]) -> Result<MemoryLink, AllocError> {
+    let bytes = Vec::from_slice(alloc, bytes)?;
+    let failing = Vec::from_slice(alloc, failing)?;
+    Ok(Joined {
+        source: MemorySource::new(bytes, failing, 7),
+        sink: MemorySink::without_room(alloc),
+    })
+}
+
+#[test]
+fn all_that_is_left(rt: HostRuntime) -> Result<(), Fail> {
+    let alloc = rt.alloc();
+    let mut bytes = Vec::new(alloc);
+    for _ in 0..4_000u64 {
+        bytes.extend_from_slice(b"hello")?;
+    }
+    let read = read_all(alloc, &mut sevens(alloc, &bytes, &[])?, 20_000);
+    let all = read.ok().ok_or("a read")?.ok_or("all")?;
+    assert_eq!(rt; all.as_slice(), bytes.as_slice());
+    let read = read_all(alloc, &mut sevens(alloc, &bytes, &[])?, 19_999);
+    assert!(rt; read.ok().ok_or("a read")?.is_none());
+    let read = read_all(alloc, &mut sevens(alloc, &bytes, &[1])?, 20_000);
+    assert_eq!(rt; read.err(), Some(ReadAllFault::Failed));
+    let read = read_all(alloc, &mut sevens(alloc, b"", &[])?, 0);
+    assert!(rt; read.ok().ok_or("a read")?.ok_or("nothing")?.is_empty());
+    Ok(())
+}
+
+/// A sink that takes two bytes at a time.
+#[derive(Drop)]
+struct Twos {
+    sink: MemorySink,
+}
+
+impl Sink for Twos {
+    ghost written = { λ twos. sink_written twos.sink };
+
+    ghost faults = { λ twos. write_faults twos.sink };
+
+    fn write(&mut self, buf: &[u8]) -> Result<usize, Failed> {
+        let most = buf.len().min(2);
+        self.sink.write(&buf[..most])
+    }
+}
+
+#[test]
+fn writes_of_two_bytes(rt: HostRuntime) -> Result<(), Fail> {
+    let alloc = rt.alloc();
+    for (failing, result, written) in [
+        (1, Err(Failed), b"he".as_slice()),
+        (2, Err(Failed), b"hell".as_slice()),
+        (3, Ok(()), b"hello".as_slice()),
+    ] {
+        let source = MemorySource::new(Vec::new(alloc), Vec::new(alloc), 1);
+        let sink = MemorySink::new(alloc, 5, Vec::from_slice(alloc, &[failing])?)?;
+        let mut link = Joined {
+            source,
+            sink: Twos { sink },
+        };
+        assert_eq!(rt; write_all(&mut link, b"hello"), result);
+        assert_eq!(rt; link.sink.sink.written(), written);
     }
     Ok(())
 }

@@ -39,8 +39,10 @@ KeepsAfter parameter after rest = (EndsWithStar parameter × (rest ≡ [])) ⊎ 
 abbrev pub IsGrantedAsWritten : List ℕ → List ℕ → List (List ℕ) → List ℕ → Type 0
 IsGrantedAsWritten held grant scopes s = Satisfies held grant × Contains scopes s
 
+-- the same for a role granted by `assume:` and its front
 abbrev pub IsGrantedByFront : List ℕ → List ℕ → List (List ℕ) → List ℕ → Type 0
 IsGrantedByFront held front scopes s = (parameter : List ℕ) × (held ≡ assume ++ (front ++ parameter)) × IsFilledFrom scopes parameter s
 
+-- the same for a role granted with the parameter `*`
 abbrev pub IsGrantedWithStar : List ℕ → List ℕ → List (List ℕ) → List ℕ → Type 0
 IsGrantedWithStar held grant scopes s = Satisfies held grant × IsFilledFrom scopes (star ∷ []) s

@@ -8,9 +8,11 @@ pub record RoleData : Type 0 where
   pub id : List ℕ
   pub scopes : List (List ℕ)
 
+-- the role as plain data
 abbrev pub role_data : Role → RoleData
 role_data role = record { id = string_bytes role.id; scopes = role.scopes.items }
 
+-- roles as plain data
 abbrev pub roles_data : List Role → List RoleData
 roles_data roles = map role_data roles
 
@@ -22,6 +24,7 @@ assume = codes "assume:"
 abbrev pub hole : List ℕ
 hole = codes "<..>"
 
+-- the text ends with `*`
 abbrev pub EndsWithStar : List ℕ → Type 0
 EndsWithStar s = (front : List ℕ) × (s ≡ front ++ star ∷ [])
 

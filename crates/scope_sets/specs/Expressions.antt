@@ -15,6 +15,7 @@ mutual
     no_members : Members
     member : Expression → Members → Members
 
+-- a list of expressions as members
 abbrev pub members_of : List Expression → Members
 members_of [] = no_members
 members_of (e ∷ es) = member e (members_of es)
@@ -29,6 +30,7 @@ view_step (Expr-F.AnyOf es) = any_of (members_of es.items)
 abbrev pub view : Expr → Expression
 view = fold-Expr Expression view_step
 
+-- the members of a list of `Expr`
 abbrev pub members_view : List Expr → Members
 members_view es = members_of (map view es)
 

@@ -2,11 +2,12 @@ use Rattle.std.proofs.Common.{◌≡◌, ℕ, List, Bor, map, true, false, sym, 
 use Rattle.std.specs.Prelude.{codes}
 use Rattle.std.proofs.lemmas.Result.{err_from_is_err_and}
 use Rattle.role_expand.specs.Roles.{RoleData, roles_data}
+use Rattle.farm_machine.specs.declared.config.Config.{Config}
 use Rattle.toml.specs.Data.{get_member}
 use Rattle.toml.specs.View.{table_view}
 use Rattle.farm_files.specs.Values.{has_only}
-use Rattle.farm_files.specs.Files.{table_names, SettingsData}
-use Rattle.farm_files.specs.Farms.{FarmData}
+use Rattle.farm_files.specs.Files.{table_names}
+use Rattle.farm_files.specs.declared.settings.Settings.{Settings}
 use Rattle.farm_files.proofs.FarmLemmas.{first_unknown, first_farm, refuses_rows, refuses_cycle, forms, apart, tables_sound}
 use Rattle.farm_files.proofs.reading.read_tables.Goals as goal
 
@@ -47,7 +48,7 @@ pub returns : goal.returns
 returns c =
     let top = table_view c.args.top.now in
     let only : has_only table_names top ≡ true = ap (λ (t : List (Bor (List ℕ))). has_only (map (λ k. k.now) t) top) (sym c.as_slice.ensures) ∙ sym c.if-not-has_only.ensures in
-    let made : SettingsData → List RoleData → FarmData = λ s rs. record { settings = s; roles = rs } in record {
+    let made : Settings → List RoleData → Config = λ s rs. record { host = s.host; port = s.port; claim_timeout = s.claim_timeout; max_tasks = s.max_tasks; roles = rs } in record {
       sound = tables_sound top only c.in-Ok.ensures.0 c.in_ok-roles.ensures.0 (roles_data c.in_ok-roles.roles.items) c.in_ok-roles.ensures.1 c.in_ok-roles-2.ensures.1;
       said = ap (λ s. made s c.in_ok-roles-2.roles) c.in-Ok.ensures.1 ∙ ap (made _) (c.in_ok-roles-2.ensures.0 ∙ c.in_ok-roles.ensures.1);
     }

@@ -4,7 +4,8 @@ use Rattle.std.proofs.lemmas.Bool.{false≢true}
 use Rattle.std.proofs.lemmas.Result.{err_from_is_err_and}
 use Rattle.toml.specs.View.{table_view}
 use Rattle.farm_files.specs.Values.{has_only, IsUpTo, natural}
-use Rattle.farm_files.specs.Files.{farm_keys, HasFarmKinds, HasHostForm, settings_of}
+use Rattle.farm_files.specs.Files.{farm_keys, HasFarmKinds, HasHostForm}
+use Rattle.farm_files.specs.Parts.{settings_of}
 use Rattle.farm_files.proofs.RuleLemmas.{farm_form, farm_sound, settings_are}
 use Rattle.farm_files.proofs.settings.read_table.Goals as goal
 
@@ -35,6 +36,6 @@ returns c =
         claim_timeout = subst (λ (z : ℤ). IsUpTo 86400 z) (let same : to_z w64 (of_z w64 c.in_ok-claim_timeout.claim_timeout) ≡ c.in_ok-claim_timeout.claim_timeout = search (rules, ints, to_z-of_z) in same ∙ c.in_ok-claim_timeout.ensures.1) c.in_ok-up_to-2.ensures.0;
         max_tasks = subst (λ (z : ℤ). IsUpTo 1000000 z) (let same : to_z w64 (of_z w64 c.in_ok-max_tasks.max_tasks) ≡ c.in_ok-max_tasks.max_tasks = search (rules, ints, to_z-of_z) in same ∙ c.in_ok-max_tasks.ensures.1) c.in_ok-up_to-3.ensures.0;
       },
-      settings_are _ _ _ _ (settings_of ms) (c.in_ok-from_str.ensures.ok ∙ c.in_ok-host.ensures.1) (c.in_ok-up_to.ensures.1 ∙ ap natural (let same : to_z w64 (of_z w64 c.in_ok-port.port) ≡ c.in_ok-port.port = search (rules, ints, to_z-of_z) in same ∙ c.in_ok-port.ensures.1))
+      settings_are _ _ _ _ (settings_of ms) (c.in_ok-from_str.ensures ∙ c.in_ok-host.ensures.1) (c.in_ok-up_to.ensures.1 ∙ ap natural (let same : to_z w64 (of_z w64 c.in_ok-port.port) ≡ c.in_ok-port.port = search (rules, ints, to_z-of_z) in same ∙ c.in_ok-port.ensures.1))
           (c.in_ok-up_to-2.ensures.1 ∙ ap natural (let same : to_z w64 (of_z w64 c.in_ok-claim_timeout.claim_timeout) ≡ c.in_ok-claim_timeout.claim_timeout = search (rules, ints, to_z-of_z) in same ∙ c.in_ok-claim_timeout.ensures.1)) (c.in_ok-up_to-3.ensures.1 ∙ ap natural (let same : to_z w64 (of_z w64 c.in_ok-max_tasks.max_tasks) ≡ c.in_ok-max_tasks.max_tasks = search (rules, ints, to_z-of_z) in same ∙ c.in_ok-max_tasks.ensures.1)),
     )

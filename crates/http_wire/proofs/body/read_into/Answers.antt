@@ -28,7 +28,7 @@ loop-filled-preserved g c =
       same_length = search rules;
       within = search rules;
       bytes = subst (Consumes _ _) (ap (λ l. take from c.loop-filled.buf ++ l) (sym part) ∙ joined) (Consumes-trans _ _ _ _ _ c.loop-filled.invariant.bytes c.in-Ok.ensures.bytes.0);
-      later = omega (arith, c.in-Ok.ensures.cause.later);
+      reads = c.in-Ok.ensures.cause.kept ∙ c.loop-filled.invariant.reads;
       written = c.in-Ok.ensures.written ∙ c.loop-filled.invariant.written;
       write_faults = c.in-Ok.ensures.write_faults ∙ c.loop-filled.invariant.write_faults;
     }

@@ -8,7 +8,7 @@ invariant-loop-filled g l = record {
   same_length : length l.buf ≡ length l.initial.buf;
   within : l.filled ≤ length l.buf;
   bytes : Consumes (g.L.Link.left l.initial.link) (g.L.Link.left l.link) (take l.filled l.buf);
-  later : g.L.Link.read_faults l.initial.link ≤ g.L.Link.read_faults l.link;
+  reads : g.L.Link.read_faults l.link ≡ g.L.Link.read_faults l.initial.link;
   written : g.L.Link.written l.link ≡ g.L.Link.written l.initial.link;
   write_faults : g.L.Link.write_faults l.link ≡ g.L.Link.write_faults l.initial.link;
 }

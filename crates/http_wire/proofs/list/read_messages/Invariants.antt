@@ -9,7 +9,7 @@ invariant-messages g l = record {
   took : TakesKnown (g.L.Link.left l.initial.link) l.messages.items (prepend_known l.reader (g.L.Link.left l.link));
   none : NoneCloses l.messages.items;
   fits : vec_len l.messages ≤ l.room;
-  later : g.L.Link.read_faults l.initial.link ≤ g.L.Link.read_faults l.link;
+  reads : g.L.Link.read_faults l.link ≡ g.L.Link.read_faults l.initial.link;
   written : g.L.Link.written l.link ≡ g.L.Link.written l.initial.link;
   write_faults : g.L.Link.write_faults l.link ≡ g.L.Link.write_faults l.initial.link;
 }

@@ -10,7 +10,7 @@ invariant-pieces g l = record {
   neither : IsOpen l.held.items;
   longer : vec_len l.initial.held ≤ vec_len l.held;
   kept : Keeps (prepend_known l.initial.held.items (g.L.Link.left l.initial.link)) (prepend_known l.held.items (g.L.Link.left l.link));
-  later : g.L.Link.read_faults l.initial.link ≤ g.L.Link.read_faults l.link;
+  reads : g.L.Link.read_faults l.link ≡ g.L.Link.read_faults l.initial.link;
   written : g.L.Link.written l.link ≡ g.L.Link.written l.initial.link;
   write_faults : g.L.Link.write_faults l.link ≡ g.L.Link.write_faults l.initial.link;
 }

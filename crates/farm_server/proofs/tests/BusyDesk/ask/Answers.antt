@@ -1,7 +1,7 @@
 -- The history goes on by the other caller's ask, and then by this one.
 use Rattle.std.proofs.Common.{ℕ, List, ◌++◌}
 use Rattle.history.specs.Histories.{Leads}
-use Rattle.history.specs.Asks.{entries}
+use Rattle.history.specs.Histories.{entries}
 use Rattle.history.proofs.AsksLemmas.{Leads-ask, HasAsked-leads}
 use Rattle.farm_machine.specs.Entry.{Entry}
 use Rattle.farm_machine.specs.Law.{opened}

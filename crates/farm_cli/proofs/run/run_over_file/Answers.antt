@@ -1,0 +1,16 @@
+use Rattle.std.proofs.Common.{◌∙◌, refl, inl}
+use Rattle.farm_cli.proofs.RunLemmas.{Obeyed-same}
+use Rattle.farm_cli.proofs.run.run_over_file.Goals as goal
+
+pub returns-in-Ok-clause-ran : goal.returns-in-Ok-clause-ran
+returns-in-Ok-clause-ran g c =
+    let lends = c.back_farm_file.ensures.lends in (
+      c.read_config-config.new.file.source,
+      c.obey.ensures.file ∙ rw lends refl,
+      inl (
+        c.in-Ok.config,
+        c.in-Ok.ensures.0,
+        c.in-Ok.ensures.1,
+        Obeyed-same _ (g.H.House.lends c.back_farm_file.new.self) _ _ _ _ _ _ (record { console = rw lends refl; clock = rw lends refl; draws = rw lends refl }) (record { console = refl; clock = refl; draws = refl }) c.obey.ensures.obeyed,
+      ),
+    )

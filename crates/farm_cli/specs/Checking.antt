@@ -1,0 +1,23 @@
+-- What `check` does: it counts what a farm file has.
+use Rattle.std.specs.Prelude.{ℕ, List, ◌++◌, codes, decimal}
+use Rattle.farm_machine.specs.declared.config.Config.{Config}
+use Rattle.farm_machine.specs.declared.config.ConfigCounts.{ConfigCounts}
+use Rattle.farm_machine.specs.Config.{counts_of}
+use Rattle.farm_cli.specs.declared.status.Status.{Status}
+use Rattle.farm_cli.specs.declared.status.Status.TheVariants.{NoMemory}
+use Rattle.farm_cli.specs.Views.{Talk}
+use Rattle.farm_cli.specs.Writing.{SameReads, SameWrites, WritesText}
+
+-- the line of a farm file that breaks no rule and has these rows
+abbrev pub counts_text : ConfigCounts → List ℕ
+counts_text counts =
+    codes "ok roles=" ++ (decimal counts.roles ++ (codes " clients=" ++ (decimal counts.clients ++ (codes " hooks=" ++ (decimal counts.hooks ++ codes "\n")))))
+
+-- the line of a configuration
+abbrev pub check_text : Config → List ℕ
+check_text config = counts_text (counts_of config)
+
+-- what `check` did with a console, which it does not read, by the status that it ended with
+abbrev pub Checks : Config → Talk → Talk → Status → Type 0
+Checks config before after NoMemory = SameReads before after × SameWrites before after
+Checks config before after status = SameReads before after × WritesText before after (check_text config) status

@@ -1,0 +1,52 @@
+-- What `answer` does: it serves one connection on the console.
+use Rattle.std.specs.Prelude.{◌≡◌, List, map, Some}
+use Rattle.history.specs.Histories.{asks_entries, IsLegal, reply_at, asked_at, calls_of}
+use Rattle.farm_machine.specs.declared.config.Config.{Config}
+use Rattle.farm_machine.specs.declared.reply.Asked.{Asked}
+use Rattle.farm_machine.specs.Entry.{Asking, Entry}
+use Rattle.farm_machine.specs.State.{State, empty_state}
+use Rattle.farm_machine.specs.Step.{farm_rules}
+use Rattle.farm_machine.specs.declared.reply.Reply.{Reply}
+use Rattle.farm_server.specs.Served.{Ask, questions_of, Spoke}
+use Rattle.farm_server.specs.declared.served.Served.{Served}
+use Rattle.farm_server.specs.declared.served.Served.TheVariants as served
+use Rattle.farm_cli.specs.declared.status.Status.{Status}
+use Rattle.farm_cli.specs.declared.status.Status.TheVariants.{Done, Read, Write, NoMemory, Wire}
+use Rattle.farm_cli.specs.House.{WasLent, Lendings}
+use Rattle.farm_cli.specs.Views.{Views, outside_of}
+
+-- One history from this state: it is legal, it has the entries of asks in turn and no others, its calls are these asks in order, and these are their replies.
+pub record IsHistoryOf (start : State) (asks : List Ask) (replies : List Reply) : Type 0 where
+  pub history : List Entry
+  pub legal : IsLegal farm_rules start history
+  pub made : (turns : List (Asking × Asked)) × (history ≡ asks_entries farm_rules start turns)
+  pub asked : map (asked_at farm_rules history) (calls_of farm_rules 0 history) ≡ map Some (questions_of asks)
+  pub replied : map (reply_at farm_rules start history) (calls_of farm_rules 0 history) ≡ map Some replies
+
+-- the status that a connection ends a run with
+abbrev pub status_of : Served → Status
+status_of served.Closed = Done
+status_of served.Full = Done
+status_of served.EndedInside = Wire
+status_of (served.WireFault reason) = Wire
+status_of served.ReadFault = Read
+status_of served.WriteFault = Write
+status_of served.NoMemory = NoMemory
+
+-- The console was served over a farm that was set up so, and began without tasks.
+pub record Conversed {F C N T I : Type 0} (views : Views F C N T I) (old new : Lendings F C N T I) (config : Config) (status : Status) : Type 0 where
+  pub console_given : C
+  pub console_back : C
+  pub console : WasLent old.console new.console console_given console_back
+  pub clock_given : T
+  pub clock_back : T
+  pub clock : WasLent old.clock new.clock clock_given clock_back
+  pub draws_given : I
+  pub draws_back : I
+  pub draws : WasLent old.draws new.draws draws_given draws_back
+  pub asks : List Ask
+  pub replies : List Reply
+  pub served : Served
+  pub spoke : Spoke (outside_of views console_given clock_given draws_given) (outside_of views console_back clock_back draws_back) asks replies served
+  pub history : IsHistoryOf (empty_state config) asks replies
+  pub status_is : status ≡ status_of served

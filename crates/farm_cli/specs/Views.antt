@@ -1,0 +1,46 @@
+-- What the objects of a house tell of themselves.
+use Rattle.std.specs.Prelude.{ℕ, List, Option}
+use Rattle.farm_server.specs.Served.{Outside}
+
+-- what is left of the farm file, and how many of its reads failed; the same of the console, and what was written there; what notes
+-- were told; which moments and ids were told
+pub record Views (F C N T I : Type 0) : Type 0 where
+  pub file_left : F → Option (List ℕ)
+  pub file_faults : F → ℕ
+  pub console_left : C → Option (List ℕ)
+  pub console_written : C → Option (List ℕ)
+  pub console_read_faults : C → ℕ
+  pub console_write_faults : C → ℕ
+  pub notes_written : N → Option (List ℕ)
+  pub notes_faults : N → ℕ
+  pub clock_told : T → Option (List ℕ)
+  pub draws_told : I → Option (List (List ℕ))
+
+-- what console, clock and draws tell at one moment
+abbrev pub outside_of : {F C N T I : Type 0} → Views F C N T I → C → T → I → Outside
+outside_of views console clock draws =
+    record {
+      left = views.console_left console;
+      written = views.console_written console;
+      moments = views.clock_told clock;
+      ids = views.draws_told draws;
+      read_faults = views.console_read_faults console;
+      write_faults = views.console_write_faults console;
+    }
+
+-- what a console tells at one moment: what is left to read, what was written, and both counts of faults
+pub record Talk : Type 0 where
+  pub left : Option (List ℕ)
+  pub written : Option (List ℕ)
+  pub read_faults : ℕ
+  pub write_faults : ℕ
+
+-- the same of a console of a house
+abbrev pub talk_of : {F C N T I : Type 0} → Views F C N T I → C → Talk
+talk_of views console =
+    record {
+      left = views.console_left console;
+      written = views.console_written console;
+      read_faults = views.console_read_faults console;
+      write_faults = views.console_write_faults console;
+    }

@@ -1,0 +1,31 @@
+-- How much of a text was written, and what a command left alone.
+use Rattle.std.specs.Prelude.{◌≡◌, ℕ, ◌⊎◌, List, Option}
+use Rattle.std.specs.Io.KnownBytes.{Appends}
+use Rattle.causes.specs.Causes.{Rose}
+use Rattle.http_wire.specs.Whole.{IsFrontOf, AppendsFront}
+use Rattle.farm_cli.specs.declared.status.Status.{Status}
+use Rattle.farm_cli.specs.declared.status.Status.TheVariants.{Done, Write}
+use Rattle.farm_cli.specs.Views.{Talk}
+
+-- a front of a text was written: all of it, where no write failed
+pub record WritesFront (written_before written_after : Option (List ℕ)) (faults_before faults_after : ℕ) (text : List ℕ) : Type 0 where
+  pub front : List ℕ
+  pub is_front : IsFrontOf front text
+  pub appends : Appends written_before written_after front
+  pub whole : (front ≡ text) ⊎ Rose faults_before faults_after
+
+-- the console was not read
+pub record SameReads (before after : Talk) : Type 0 where
+  pub left : after.left ≡ before.left
+  pub faults : after.read_faults ≡ before.read_faults
+
+-- nothing was written to the console
+pub record SameWrites (before after : Talk) : Type 0 where
+  pub written : after.written ≡ before.written
+  pub faults : after.write_faults ≡ before.write_faults
+
+-- a text was written to the console; or a write failed, and a front of it was
+abbrev pub WritesText : Talk → Talk → List ℕ → Status → Type 0
+WritesText before after text Done = Appends before.written after.written text × (after.write_faults ≡ before.write_faults)
+WritesText before after text Write = AppendsFront before.written after.written text × Rose before.write_faults after.write_faults
+WritesText before after text _ = ⊥

@@ -1,0 +1,33 @@
+//! What a farm file has, counted.
+ghost use Rattle.std.specs.Prelude.{◌≡◌, string_bytes, IfOk};
+ghost use Rattle.farm_cli.specs.Checking.{counts_text, Checks};
+
+use crate::ended::Ended;
+use crate::status::Status;
+use crate::writing::write_text;
+use farm_machine::config::{Config, ConfigCounts};
+use http_wire::Link;
+use std::alloc::{AllocError, Global};
+
+/// Writes to the console what the configuration has.
+pub(crate) fn check<L: Link>(alloc: Global, config: &Config, console: &mut L) -> Ended
+    ensures checks { Checks config.now
+        (record { left = L.left console.old; written = L.written console.old; read_faults = L.read_faults console.old; write_faults = L.write_faults console.old })
+        (record { left = L.left console.new; written = L.written console.new; read_faults = L.read_faults console.new; write_faults = L.write_faults console.new })
+        result.status }
+{
+    match check_line(alloc, config.counts()) {
+        Ok(line) => Ended::plain(write_text(console, line.as_bytes())),
+        Err(_) => Ended::plain(Status::NoMemory),
+    }
+}
+
+/// The line of a farm file that breaks no rule and has these rows.
+fn check_line(alloc: Global, counts: ConfigCounts) -> Result<String, AllocError>
+    ensures { IfOk result (λ line. string_bytes line ≡ counts_text counts) }
+{
+    format!(in alloc;
+        "ok roles={} clients={} hooks={}\n",
+        counts.roles, counts.clients, counts.hooks
+    )
+}

@@ -1,0 +1,150 @@
+//! The commands, over a farm that is set up.
+ghost use Rattle.std.specs.Prelude.{◌≡◌};
+ghost use Rattle.farm_cli.specs.Checking.{Checks};
+ghost use Rattle.farm_cli.specs.Expanding.{Expands};
+ghost use Rattle.farm_cli.specs.Run.{Obeyed, UsedConsole};
+ghost use Rattle.farm_cli.specs.Serving.{Conversed, status_of as status_from};
+ghost use Rattle.farm_cli.specs.Views.{Views};
+
+use crate::checking::check;
+use crate::ended::Ended;
+use crate::expanding::expand;
+use crate::house::House;
+use crate::status::Status;
+use command_line::Command;
+use farm_desk::Solo;
+use farm_machine::config::Config;
+use farm_server::{Bare, NoGate, Served, serve_connection};
+use std::alloc::Global;
+
+/// Obeys a command over a farm that is set up so.
+pub(crate) fn obey<H: House>(
+    alloc: Global,
+    command: &Command,
+    config: Config,
+    house: &mut H,
+) -> Ended
+    ensures obeyed { let views : Views H.File H.Console H.Notes H.Time H.Ids = record {
+      file_left = H.File.left;
+      file_faults = H.File.faults;
+      console_left = H.Console.left;
+      console_written = H.Console.written;
+      console_read_faults = H.Console.read_faults;
+      console_write_faults = H.Console.write_faults;
+      notes_written = H.Notes.written;
+      notes_faults = H.Notes.faults;
+      clock_told = H.Time.told;
+      draws_told = H.Ids.told;
+    } in
+        Obeyed views (H.lends house.old) (H.lends house.new) config command.now result.status }
+    ensures file { (H.lends house.new).file ≡ (H.lends house.old).file }
+    ensures notes { (H.lends house.new).notes ≡ (H.lends house.old).notes }
+    ensures refusals { H.refusals house.new ≡ H.refusals house.old }
+{
+    match command {
+        Command::Answer { .. } => Ended::plain(converse(alloc, config, house)),
+        Command::Expand { .. } => expand_over(alloc, &config, house),
+        Command::Check { .. } => check_over(alloc, &config, house),
+    }
+}
+
+/// Serves the console over a farm without tasks.
+fn converse<H: House>(alloc: Global, config: Config, house: &mut H) -> Status
+    ensures conversed { let views : Views H.File H.Console H.Notes H.Time H.Ids = record {
+      file_left = H.File.left;
+      file_faults = H.File.faults;
+      console_left = H.Console.left;
+      console_written = H.Console.written;
+      console_read_faults = H.Console.read_faults;
+      console_write_faults = H.Console.write_faults;
+      notes_written = H.Notes.written;
+      notes_faults = H.Notes.faults;
+      clock_told = H.Time.told;
+      draws_told = H.Ids.told;
+    } in
+        Conversed views (H.lends house.old) (H.lends house.new) config result }
+    ensures file { (H.lends house.new).file ≡ (H.lends house.old).file }
+    ensures notes { (H.lends house.new).notes ≡ (H.lends house.old).notes }
+    ensures refusals { H.refusals house.new ≡ H.refusals house.old }
+{
+    let mut console = house.console();
+    let mut clock = house.clock();
+    let mut draws = house.draws();
+    let mut desk = Solo::new(Bare::new(alloc, config));
+    let served = serve_connection(
+        alloc,
+        &mut console,
+        &mut desk,
+        &mut clock,
+        &mut draws,
+        &mut NoGate,
+    );
+    house.back_console(console);
+    house.back_clock(clock);
+    house.back_draws(draws);
+    let _bare = desk.into_object();
+    status_of(served)
+}
+
+/// The status that a connection ends a run with.
+fn status_of(served: Served) -> Status
+    ensures { result ≡ status_from served }
+{
+    match served {
+        Served::Closed | Served::Full => Status::Done,
+        Served::EndedInside | Served::WireFault(_) => Status::Wire,
+        Served::ReadFault => Status::Read,
+        Served::WriteFault => Status::Write,
+        Served::NoMemory => Status::NoMemory,
+    }
+}
+
+/// Expands the console's scopes over the roles of a farm.
+fn expand_over<H: House>(alloc: Global, config: &Config, house: &mut H) -> Ended
+    ensures used { let views : Views H.File H.Console H.Notes H.Time H.Ids = record {
+      file_left = H.File.left;
+      file_faults = H.File.faults;
+      console_left = H.Console.left;
+      console_written = H.Console.written;
+      console_read_faults = H.Console.read_faults;
+      console_write_faults = H.Console.write_faults;
+      notes_written = H.Notes.written;
+      notes_faults = H.Notes.faults;
+      clock_told = H.Time.told;
+      draws_told = H.Ids.told;
+    } in
+        UsedConsole views (H.lends house.old) (H.lends house.new) (λ before after. Expands config.now.roles before after result.status) }
+    ensures file { (H.lends house.new).file ≡ (H.lends house.old).file }
+    ensures notes { (H.lends house.new).notes ≡ (H.lends house.old).notes }
+    ensures refusals { H.refusals house.new ≡ H.refusals house.old }
+{
+    let mut console = house.console();
+    let ended = expand(alloc, &config.roles, &mut console);
+    house.back_console(console);
+    ended
+}
+
+/// Counts what a farm has, on the console.
+fn check_over<H: House>(alloc: Global, config: &Config, house: &mut H) -> Ended
+    ensures used { let views : Views H.File H.Console H.Notes H.Time H.Ids = record {
+      file_left = H.File.left;
+      file_faults = H.File.faults;
+      console_left = H.Console.left;
+      console_written = H.Console.written;
+      console_read_faults = H.Console.read_faults;
+      console_write_faults = H.Console.write_faults;
+      notes_written = H.Notes.written;
+      notes_faults = H.Notes.faults;
+      clock_told = H.Time.told;
+      draws_told = H.Ids.told;
+    } in
+        UsedConsole views (H.lends house.old) (H.lends house.new) (λ before after. Checks config.now before after result.status) }
+    ensures file { (H.lends house.new).file ≡ (H.lends house.old).file }
+    ensures notes { (H.lends house.new).notes ≡ (H.lends house.old).notes }
+    ensures refusals { H.refusals house.new ≡ H.refusals house.old }
+{
+    let mut console = house.console();
+    let ended = check(alloc, config, &mut console);
+    house.back_console(console);
+    ended
+}

@@ -1,0 +1,27 @@
+-- All bytes written to a link or read from one, by calls that each move some of them (as `write` and `read` of POSIX, IEEE 1003.1).
+use Rattle.std.specs.Prelude.{◌≡◌, ℕ, ◌≤◌, List, ◌++◌, length, Option}
+use Rattle.std.specs.Io.KnownBytes.{Appends, Consumes}
+use Rattle.causes.specs.Causes.{Rose}
+use Rattle.http_wire.specs.declared.whole.ReadAllFault.{ReadAllFault}
+use Rattle.http_wire.specs.declared.whole.ReadAllFault.TheVariants.{Failed, NoMemory}
+
+-- front is how text begins
+abbrev pub IsFrontOf : List ℕ → List ℕ → Type 0
+IsFrontOf front text = (more : List ℕ) × (text ≡ front ++ more)
+
+-- known bytes grow by a front of these
+abbrev pub AppendsFront : Option (List ℕ) → Option (List ℕ) → List ℕ → Type 0
+AppendsFront before after text = (front : List ℕ) × IsFrontOf front text × Appends before after front
+
+-- the most that one read takes
+abbrev pub piece_size : ℕ
+piece_size = 8_192
+
+-- the bytes that a link has left have lost some at their front, no more than so many
+abbrev pub LosesWithin : ℕ → Option (List ℕ) → Option (List ℕ) → Type 0
+LosesWithin most before now = (gone : List ℕ) × Consumes before now gone × (length gone ≤ most)
+
+-- why not all bytes could be read: a read failed, for which the count of faults rose, or memory ran out, and the count is as it was
+abbrev pub FailsToReadAll : ℕ → ℕ → ReadAllFault → Type 0
+FailsToReadAll before now Failed = Rose before now
+FailsToReadAll before now NoMemory = now ≡ before

@@ -1,0 +1,71 @@
+//! All bytes to a link, and all bytes from one.
+ghost use Rattle.std.specs.Prelude.{◌≡◌, ◌+◌, ◌<◌, ◌≤◌, length, vec_len, MatchOption, IfSome, IfOk, IfErr, OnOk, OnErr};
+ghost use Rattle.std.specs.Io.KnownBytes.{Appends, IsAtEnd};
+ghost use Rattle.causes.specs.Causes.{HasCause};
+ghost use Rattle.http_wire.specs.Whole.{AppendsFront, piece_size, LosesWithin, FailsToReadAll};
+
+use crate::body::fill;
+use crate::link::Link;
+use crate::message::Wire;
+use causes::Failed;
+use std::alloc::Global;
+
+/// Writes all of the bytes. Where a write fails, a front of them is written.
+pub fn write_all<L: Link>(link: &mut L, bytes: &[u8]) -> Result<(), Failed>
+    ensures ok { OnOk result (Appends (L.written link.old) (L.written link.new) bytes.now) }
+    ensures front { OnErr result (AppendsFront (L.written link.old) (L.written link.new) bytes.now) }
+    ensures cause { HasCause (L.write_faults link.old) (L.write_faults link.new) result }
+    ensures left { L.left link.new ≡ L.left link.old }
+    ensures read_faults { L.read_faults link.new ≡ L.read_faults link.old }
+{
+    let mut rest = bytes;
+    while !rest.is_empty() {
+        match link.write(rest) {
+            Ok(count) => rest = &rest[count..],
+            Err(Failed) => return Err(Failed),
+        }
+    }
+    Ok(())
+}
+
+/// Why not all bytes could be read.
+#[derive(Clone, Copy, Debug, PartialEq, Eq)]
+pub enum ReadAllFault {
+    /// A read failed.
+    Failed,
+    /// Memory ran out.
+    NoMemory,
+}
+
+/// All bytes that the link has left, or `None` where they are more than `most`.
+///
+/// At most 8 KiB more than `most` are read. Of what was read nothing is given where there are more, or where it fails.
+pub fn read_all<L: Link>(
+    alloc: Global,
+    link: &mut L,
+    most: usize,
+) -> Result<Option<Vec<u8>>, ReadAllFault>
+    // Those that came are all that were left, and no more is left; or there were more than so many.
+    ensures whole { IfOk result (λ read. MatchOption read
+        (IfSome (L.left link.old) (λ all. most < length all))
+        (λ bytes. (vec_len bytes ≤ most) × IfSome (L.left link.old) (λ all. bytes.items ≡ all) × IsAtEnd (L.left link.new))) }
+    ensures fault { IfErr result (FailsToReadAll (L.read_faults link.old) (L.read_faults link.new)) }
+
+    // How much is read at most, whatever comes of it. Nothing is written.
+    ensures lost { LosesWithin (most + piece_size) (L.left link.old) (L.left link.new) }
+    ensures later { L.read_faults link.old ≤ L.read_faults link.new }
+    ensures same_reads { OnOk result (L.read_faults link.new ≡ L.read_faults link.old) }
+    ensures written { L.written link.new ≡ L.written link.old }
+    ensures write_faults { L.write_faults link.new ≡ L.write_faults link.old }
+{
+    let mut bytes = Vec::new(alloc);
+    while bytes.len() <= most {
+        match fill(&mut bytes, link) {
+            Ok(0) => return Ok(Some(bytes)),
+            Ok(_) => {}
+            Err(Wire::ReadFault) => return Err(ReadAllFault::Failed),
+            Err(_) => return Err(ReadAllFault::NoMemory),
+        }
+    }
+    Ok(None)
+}
