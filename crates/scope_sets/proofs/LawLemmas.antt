@@ -1,10 +1,11 @@
 -- Laws of satisfying, of sets and of what is missing.
-use Rattle.std.proofs.Common.{◌≡◌, ℕ, zero, suc, Bool, true, false, ◌&&◌, cond, ◌⊎◌, inl, inr, List, [], ◌∷◌, ◌++◌, Some, None, refl, sym, ap, ◌∙◌, subst, Contains, arith}
+use Rattle.std.proofs.Common.{◌≡◌, ℕ, zero, suc, Bool, true, false, ◌&&◌, cond, ◌⊎◌, inl, inr, List, [], ◌∷◌, ◌++◌, Some, None, refl, sym, ap, ◌∙◌, subst, All, Any, Contains, arith}
 use Rattle.std.proofs.lemmas.Bool.{and_parts, and_from, or_cases, or_parts, or_left, or_right, false≢true}
 use Rattle.std.proofs.lemmas.Cmp.{nat_list_cmp_total}
 use Rattle.std.proofs.lemmas.List.{append_assoc, append-nil, same_from_push}
+use Rattle.std.proofs.lemmas.List.Elements.{All-nil, All-cons, All-head, All-tail}
 use Rattle.scope_sets.specs.Scopes.{star, Satisfies, covers, EndsWithTwoStars, IsBefore, IsRising}
-use Rattle.scope_sets.specs.Expressions.{Expression, one, all_of, any_of, Members, no_members, member, holds, all_hold, some_holds, reduced, lacking, each_reduced, missing, HasNoEmptyAllOf, NoneHasEmptyAllOf}
+use Rattle.scope_sets.specs.Expressions.{Expression, one, all_of, any_of, Members, no_members, member, members_of, holds, all_hold, some_holds, reduced, lacking, each_reduced, missing, HasNoEmptyAllOf, NoneHasEmptyAllOf}
 use Rattle.scope_sets.proofs.OrderLemmas.{Equal-itself}
 use Rattle.scope_sets.proofs.SatisfyingLemmas.{Any-from_covers, covers_by}
 
@@ -99,6 +100,27 @@ pub covers_more : (set joined : List (List ℕ)) (s : List ℕ) → ((t : List �
 covers_more set joined s within e =
     let h = Any-from_covers set s e in
     covers_by joined h.1 s (within h.1 (h.0, h.2, h.3)) h.4
+
+pub all_hold-All : (set : List (List ℕ)) (es : List Expression) → all_hold set (members_of es) ≡ true → All (λ e. holds set e ≡ true) es
+all_hold-All set [] h = All-nil (λ e. holds set e ≡ true)
+all_hold-All set (e ∷ es) h = let parts = and_parts _ _ h in All-cons (λ e. holds set e ≡ true) e es parts.0 (all_hold-All set es parts.1)
+
+pub all_hold-from_All : (set : List (List ℕ)) (es : List Expression) → All (λ e. holds set e ≡ true) es → all_hold set (members_of es) ≡ true
+all_hold-from_All set [] h = refl
+all_hold-from_All set (e ∷ es) h = and_from _ _ (All-head (λ e. holds set e ≡ true) e es h) (all_hold-from_All set es (All-tail (λ e. holds set e ≡ true) e es h))
+
+pub some_holds-Any : (set : List (List ℕ)) (es : List Expression) → some_holds set (members_of es) ≡ true → Any (λ e. holds set e ≡ true) es
+some_holds-Any set [] h = absurd (false≢true h)
+some_holds-Any set (e ∷ es) h =
+    elim (or_cases _ _ h) [
+      | inl here ↦ (0, e, omega arith, refl, here)
+      | inr later ↦ let found = some_holds-Any set es later in (suc found.0, found.1, omega (arith, found.2), found.3, found.4)
+    ]
+
+pub some_holds-from_Any : (set : List (List ℕ)) (es : List Expression) → Any (λ e. holds set e ≡ true) es → some_holds set (members_of es) ≡ true
+some_holds-from_Any set [] h = absurd (omega (arith, h.2))
+some_holds-from_Any set (e ∷ es) (zero, x, lt, is, h) = or_left _ _ (ap (holds set) is ∙ h)
+some_holds-from_Any set (e ∷ es) (suc k, x, lt, is, h) = or_right _ _ (some_holds-from_Any set es (k, x, omega (arith, lt), is, h))
 
 module _ (set joined : List (List ℕ)) (within : (t : List ℕ) → Contains set t → Contains joined t) where
   mutual

@@ -1,8 +1,25 @@
 //! What follows from the definitions. The functions do nothing: each contract is a law.
-ghost use Rattle.std.specs.Prelude.{◌≡◌, ℕ, ◌↔◌, List, Some, Contains, IsTrue};
-ghost use Rattle.scope_sets.specs.Scopes.{Satisfies, EndsWithTwoStars, IsRising};
+ghost use Rattle.std.specs.Prelude.{◌≡◌, ℕ, ◌↔◌, List, Some, All, Any, Contains, IsTrue};
+ghost use Rattle.scope_sets.specs.Scopes.{Satisfies, satisfies, covers, EndsWithTwoStars, IsRising};
 ghost use Rattle.scope_sets.specs.declared.scopes.TheConstants.{LONGEST_SCOPE};
-ghost use Rattle.scope_sets.specs.Expressions.{Expression, holds, missing, HasNoEmptyAllOf};
+ghost use Rattle.scope_sets.specs.Expressions.{Expression, one, all_of, any_of, members_of, holds, missing, HasNoEmptyAllOf};
+
+/// The tests of satisfying and of covering are true exactly where what they test holds.
+pub fn tests_are_exact()
+    ensures satisfies { (held asked : List ℕ) → IsTrue (satisfies held asked) ↔ Satisfies held asked }
+    ensures covers { (set : List (List ℕ)) (asked : List ℕ)
+        → IsTrue (covers set asked) ↔ Any (λ held. Satisfies held asked) set }
+{}
+
+/// An expression holds, as the test says, exactly where a scope of the set satisfies it, each of its members holds, or one does.
+pub fn expressions_hold_by_their_members()
+    ensures scope { (set : List (List ℕ)) (asked : List ℕ)
+        → IsTrue (holds set (one asked)) ↔ Any (λ held. Satisfies held asked) set }
+    ensures all { (set : List (List ℕ)) (members : List Expression)
+        → IsTrue (holds set (all_of (members_of members))) ↔ All (λ e. IsTrue (holds set e)) members }
+    ensures any { (set : List (List ℕ)) (members : List Expression)
+        → IsTrue (holds set (any_of (members_of members))) ↔ Any (λ e. IsTrue (holds set e)) members }
+{}
 
 /// Satisfying is transitive where the first scope does not end with `**`. Hence the form of scopes that are handed in.
 pub fn satisfying_is_transitive()
