@@ -1,8 +1,12 @@
 -- An expression, level by level, beside what the loops of `holds` and `missing` have done so far.
-use Rattle.std.proofs.Common.{◌≡◌, ℕ, ◌+◌, ◌<◌, ◌≤◌, Bool, true, false, ◌&&◌, cond, List, [], ◌∷◌, ◌++◌, length, drop, get_or, Some, None, Vec, Global, refl, sym, ap, ◌∙◌, rules}
+use Rattle.std.proofs.Common.{◌≡◌, ℕ, ◌+◌, ◌<◌, ◌≤◌, Bool, true, false, ◌&&◌, cond, List, [], ◌∷◌, ◌++◌, length, drop, get_or, map, Some, None, Vec, Global, refl, sym, ap, ◌∙◌, rules}
 use Rattle.std.proofs.lemmas.List.{drop_more, drop_all}
-use Rattle.scope_sets.specs.Expressions.{Expression, all_of, any_of, Members, no_members, member, view, members_view, holds, all_hold, some_holds, reduced, lacking, each_reduced, missing}
+use Rattle.scope_sets.specs.Expressions.{Expression, all_of, any_of, Members, no_members, member, members_of, view, holds, all_hold, some_holds, reduced, lacking, each_reduced, missing}
 use Rattle.scope_sets.specs.declared.expressions.Expr.{Expr, AllOf, AnyOf, the_lemmas}
+
+-- the members of a list of `Expr`
+abbrev pub members_view : List Expr → Members
+members_view es = members_of (map view es)
 
 pub view-AllOf : (v : Vec Expr Global) → view (AllOf v) ≡ all_of (members_view v.items)
 view-AllOf v = search (rules, the_lemmas)

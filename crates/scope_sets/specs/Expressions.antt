@@ -1,5 +1,5 @@
 -- Scope expressions, what they ask of a set, and what a set lacks of them (the Taskcluster reference, "Scope expressions").
-use Rattle.std.specs.Prelude.{ℕ, Bool, true, false, ◌&&◌, ◌||◌, cond, List, [], ◌∷◌, Option, Some, None, map}
+use Rattle.std.specs.Prelude.{ℕ, Bool, true, false, ◌&&◌, ◌||◌, cond, List, [], ◌∷◌, Option, Some, None}
 use Rattle.scope_sets.specs.Scopes.{covers}
 use Rattle.scope_sets.specs.declared.expressions.Expr.{Expr, fold-Expr}
 use Rattle.scope_sets.specs.declared.expressions.Expr.TheOpen.{Expr-F}
@@ -29,10 +29,6 @@ view_step (Expr-F.AnyOf es) = any_of (members_of es.items)
 -- the expression that an `Expr` stands for
 abbrev pub view : Expr → Expression
 view = fold-Expr Expression view_step
-
--- the members of a list of `Expr`
-abbrev pub members_view : List Expr → Members
-members_view es = members_of (map view es)
 
 abbrev mutual
   -- a scope holds if the set covers it, `AllOf` if each member holds, `AnyOf` if one does

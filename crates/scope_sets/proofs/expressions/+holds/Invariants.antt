@@ -1,5 +1,6 @@
 use Rattle.std.proofs.Common.{◌≡◌, drop}
-use Rattle.scope_sets.specs.Expressions.{view, members_view, holds, all_hold, some_holds}
+use Rattle.scope_sets.specs.Expressions.{view, holds, all_hold, some_holds}
+use Rattle.scope_sets.proofs.ExpressionLemmas.{members_view}
 use Rattle.scope_sets.proofs.expressions.+holds.Given as goal
 
 abbrev pub decreases-holds : goal.decreases-holds

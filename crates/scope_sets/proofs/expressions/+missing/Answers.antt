@@ -1,9 +1,9 @@
 use Rattle.std.proofs.Common.{◌≡◌, [], List, false, refl, Some, None, option_map, length, ap, sym, ◌∙◌, arith}
 use Rattle.std.proofs.lemmas.Bool.{eqb-true, eqb-false}
 use Rattle.std.proofs.lemmas.List.{nil_from_length}
-use Rattle.scope_sets.specs.Expressions.{view, members_view, some_holds, lacking, each_reduced, missing}
+use Rattle.scope_sets.specs.Expressions.{view, some_holds, lacking, each_reduced, missing}
 use Rattle.scope_sets.specs.declared.expressions.Expr.{Expr}
-use Rattle.scope_sets.proofs.ExpressionLemmas.{lacking_begin, lacking_kept, lacking_skipped, lacking_end, missing_all_none, missing_all_kept, reduced_begin, reduced_kept, reduced_end, some_hold_kept, some_hold_met, some_holds_end, missing_any_none, missing_any_some}
+use Rattle.scope_sets.proofs.ExpressionLemmas.{members_view, lacking_begin, lacking_kept, lacking_skipped, lacking_end, missing_all_none, missing_all_kept, reduced_begin, reduced_kept, reduced_end, some_hold_kept, some_hold_met, some_holds_end, missing_any_none, missing_any_some}
 use Rattle.scope_sets.proofs.expressions.+missing.Goals as goal
 use Rattle.scope_sets.proofs.expressions.+missing.Goals.{in-Some+in_ok-push-in-AllOf, in_default}
 

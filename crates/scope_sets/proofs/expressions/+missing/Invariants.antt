@@ -1,6 +1,6 @@
 use Rattle.std.proofs.Common.{◌≡◌, drop}
-use Rattle.scope_sets.specs.Expressions.{members_view, some_holds, lacking, each_reduced}
-use Rattle.scope_sets.proofs.ExpressionLemmas.{lacking_from, reduced_from}
+use Rattle.scope_sets.specs.Expressions.{some_holds, lacking, each_reduced}
+use Rattle.scope_sets.proofs.ExpressionLemmas.{members_view, lacking_from, reduced_from}
 use Rattle.scope_sets.proofs.expressions.+missing.Given as goal
 
 abbrev pub decreases-missing : goal.decreases-missing
