@@ -2,4 +2,5 @@ pub mod HeadLemmas
 pub mod KnownLemmas
 pub mod StreamLemmas
 pub mod StreamLaws
+pub mod Taken
 pub mod WholeLemmas

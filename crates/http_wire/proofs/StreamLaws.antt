@@ -7,7 +7,8 @@ use Rattle.http_wire.specs.declared.message.Message.{Message}
 use Rattle.http_wire.specs.declared.message.Wire.{Wire}
 use Rattle.http_wire.specs.Head.{HasHead, HasFault, Next, message, fault, too_large, ended, inside, Begins}
 use Rattle.std.proofs.lemmas.Bool.Decides.{nat_tests}
-use Rattle.http_wire.specs.Stream.{Outcome, whole, stops, finish, Gives, Ending, stopped, closed, full, closing, Messages, Takes, TakesKnown, NoneCloses, TakesOne, is_of_stream, Stops}
+use Rattle.http_wire.specs.Stream.{Outcome, whole, stops, finish, Gives, Ending, stopped, closed, full, closing, Messages, TakesOne, is_of_stream, Stops}
+use Rattle.http_wire.proofs.Taken.{Takes, TakesKnown, NoneCloses}
 
 -- a head and a fault exclude each other
 head_no_fault : (bytes : List ℕ) (h : RequestHead) (rest : List ℕ) (n : ℕ) → HasHead bytes h rest → HasFault bytes n → ⊥

@@ -2,7 +2,8 @@ use Rattle.std.proofs.Common.{◌≡◌, ◌+◌, ◌-◌, ◌<◌, List, length
 use Rattle.std.specs.Io.KnownBytes.{prepend_known}
 use Rattle.http_wire.specs.List.{ending_of}
 use Rattle.http_wire.specs.declared.message.Message.{Message}
-use Rattle.http_wire.specs.Stream.{Ending, Messages, TakesKnown, NoneCloses, closing, is_of_stream}
+use Rattle.http_wire.specs.Stream.{Ending, Messages, closing, is_of_stream}
+use Rattle.http_wire.proofs.Taken.{TakesKnown, NoneCloses}
 use Rattle.http_wire.proofs.StreamLaws.{TakesKnown-push, NoneCloses-push, known_stopped, known_full, known_closed, closing_some, closing_none}
 use Rattle.http_wire.proofs.list.read_messages.Goals as goal
 use Rattle.http_wire.proofs.list.read_messages.Goals.{then-len-room, else-len-room}

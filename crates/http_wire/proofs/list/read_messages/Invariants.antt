@@ -1,6 +1,6 @@
 use Rattle.std.proofs.Common.{◌≡◌, ◌≤◌, ◌-◌, vec_len}
 use Rattle.std.specs.Io.KnownBytes.{prepend_known}
-use Rattle.http_wire.specs.Stream.{TakesKnown, NoneCloses}
+use Rattle.http_wire.proofs.Taken.{TakesKnown, NoneCloses}
 use Rattle.http_wire.proofs.list.read_messages.Given as goal
 
 -- the messages so far were taken from the stream, none of them closes, and the link is else as it was
