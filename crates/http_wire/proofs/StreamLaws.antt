@@ -37,11 +37,11 @@ next_unique bytes ended (message k q) x y = absurd (x.1.no_head k q y)
 next_unique bytes ended fault x y = absurd (x.1.no_fault y.0 y.1)
 next_unique bytes ended too_large x y = absurd (omega (arith, x.0, y.0))
 next_unique bytes ended ended x y = refl
-next_unique bytes ended inside x y = absurd (let e : true ≡ false = sym x.2 ∙ y.2 in cc)
+next_unique bytes ended inside x y = absurd (y.2 x.2)
 next_unique bytes inside (message k q) x y = absurd (x.1.no_head k q y)
 next_unique bytes inside fault x y = absurd (x.1.no_fault y.0 y.1)
 next_unique bytes inside too_large x y = absurd (omega (arith, x.0, y.0))
-next_unique bytes inside ended x y = absurd (let e : true ≡ false = sym y.2 ∙ x.2 in cc)
+next_unique bytes inside ended x y = absurd (x.2 y.2)
 next_unique bytes inside inside x y = refl
 
 pub outcome_unique : (bytes : List ℕ) (a b : Outcome) → Gives bytes a → Gives bytes b → a ≡ b

@@ -16,7 +16,7 @@ use Rattle.http_wire.specs.Framing.{body_limit, named_fields, body_length, is_di
 use Rattle.http_wire.specs.Front.{IsHeadAt}
 use Rattle.http_wire.specs.Message.{message_of}
 use Rattle.http_wire.specs.Reading.{IsBodyStop, Ends}
-use Rattle.http_wire.specs.Head.{head_limit, HasHead, message, HasFault, IsOpen, is_pairs, fault, too_large, ended, inside}
+use Rattle.http_wire.specs.Head.{head_limit, HasHead, message, HasFault, IsOpen, IsEmptyLines, fault, too_large, ended, inside}
 use Rattle.http_wire.specs.Stream.{Gives, Stops, stops, whole, with_body, is_of_stream, TakesOne}
 use Rattle.http_wire.proofs.HeadLemmas.{HasFault-append, HasHead-append}
 use Rattle.http_wire.proofs.KnownLemmas.{match_any}
@@ -37,13 +37,13 @@ pub stops_large : (held : List ℕ) (left : Option (List ℕ)) → head_limit �
 stops_large held None large open_ = tt
 stops_large held (Some more) large open_ = (too_large, (omega (arith, length-append held more), open_ more), refl)
 
-pub stops_end : (held : List ℕ) (left : Option (List ℕ)) → length held < head_limit → IsOpen held → IsAtEnd left → is_pairs held ≡ true → Stops (prepend_known held left) End
+pub stops_end : (held : List ℕ) (left : Option (List ℕ)) → length held < head_limit → IsOpen held → IsAtEnd left → IsEmptyLines held → Stops (prepend_known held left) End
 stops_end held None short open_ at_end pairs = tt
 stops_end held (Some more) short open_ at_end pairs =
     let whole : held ++ more ≡ held = ap (λ l. held ++ l) at_end ∙ append-nil held in
     subst (λ l. Gives l (stops End)) (sym whole) (ended, (short, open_, pairs), refl)
 
-pub stops_inside : (held : List ℕ) (left : Option (List ℕ)) → length held < head_limit → IsOpen held → IsAtEnd left → is_pairs held ≡ false → Stops (prepend_known held left) EndedInside
+pub stops_inside : (held : List ℕ) (left : Option (List ℕ)) → length held < head_limit → IsOpen held → IsAtEnd left → ¬ IsEmptyLines held → Stops (prepend_known held left) EndedInside
 stops_inside held None short open_ at_end pairs = tt
 stops_inside held (Some more) short open_ at_end pairs =
     let whole : held ++ more ≡ held = ap (λ l. held ++ l) at_end ∙ append-nil held in

@@ -1,5 +1,6 @@
 -- What stands at the front of a stream of bytes: a request head (RFC 9112, sections 2 and 3, by httparse's grammar, whose heads include the empty lines before them), or why none does.
-use Rattle.std.specs.Prelude.{◌≡◌, ℕ, ◌-◌, ◌<◌, ◌≤◌, Bool, false, ◌&&◌, List, [], ◌∷◌, length, take, slice_index, ◌==◌, true, IsTrue}
+use Rattle.std.specs.Prelude.{◌≡◌, ℕ, ◌-◌, ◌<◌, ◌≤◌, List, [], ◌∷◌, length, take, slice_index, replicate}
+use Rattle.std.specs.List.{concat}
 use Rattle.httparse.specs.Ascii.{line_feed, carriage_return}
 use Rattle.httparse.specs.Grammar.{RequestHead, print_request, ReadsRequest, NeverHasRequest}
 
@@ -27,11 +28,9 @@ pub record IsOpen (bytes : List ℕ) : Type 0 where
   pub no_head : (h : RequestHead) (rest : List ℕ) → ¬ (HasHead bytes h rest)
   pub no_fault : (n : ℕ) → ¬ (HasFault bytes n)
 
--- pairs of carriage return and line feed alone
-abbrev pub is_pairs : List ℕ → Bool
-is_pairs [] = true
-is_pairs (a ∷ []) = false
-is_pairs (a ∷ b ∷ bytes) = (a == carriage_return) && ((b == line_feed) && is_pairs bytes)
+-- empty lines alone, each of them a carriage return and a line feed (RFC 9112, section 2.2)
+abbrev pub IsEmptyLines : List ℕ → Type 0
+IsEmptyLines bytes = (count : ℕ) × (bytes ≡ concat (replicate count (carriage_return ∷ line_feed ∷ [])))
 
 -- what comes next: a head and what follows it, a fault, too many bytes without either, or the end of the input before or inside a message
 pub data Next : Type 0 where
@@ -43,5 +42,5 @@ abbrev pub Begins : List ℕ → Next → Type 0
 Begins bytes (message h rest) = HasHead bytes h rest
 Begins bytes fault = (n : ℕ) × HasFault bytes n
 Begins bytes too_large = (head_limit ≤ length bytes) × IsOpen bytes
-Begins bytes ended = (length bytes < head_limit) × IsOpen bytes × IsTrue (is_pairs bytes)
-Begins bytes inside = (length bytes < head_limit) × IsOpen bytes × (is_pairs bytes ≡ false)
+Begins bytes ended = (length bytes < head_limit) × IsOpen bytes × IsEmptyLines bytes
+Begins bytes inside = (length bytes < head_limit) × IsOpen bytes × ¬ IsEmptyLines bytes

@@ -1,6 +1,6 @@
 //! What stands at the front of the bytes held: a whole head, a fault, too much, or too little.
 ghost use Rattle.std.specs.Prelude.{◌≡◌, ℕ, ◌<◌, ◌≤◌, length, IsTrue, ◌↔◌};
-ghost use Rattle.http_wire.specs.Head.{EndsLine, is_pairs};
+ghost use Rattle.http_wire.specs.Head.{EndsLine, IsEmptyLines};
 ghost use Rattle.http_wire.specs.Front.{Judges, IsFront};
 
 use httparse::Status;
@@ -52,9 +52,9 @@ pub(crate) fn lines_end(bytes: &[u8]) -> usize
     end
 }
 
-/// Whether the bytes are pairs of carriage return and line feed.
-pub(crate) fn is_pairs(bytes: &[u8]) -> bool
-    ensures { result ≡ is_pairs bytes.now }
+/// Whether the bytes are empty lines alone, each of them a carriage return and a line feed.
+pub(crate) fn are_empty_lines(bytes: &[u8]) -> bool
+    ensures { IsTrue result ↔ IsEmptyLines bytes.now }
 {
     let mut rest = bytes;
     while let [first, second, tail @ ..] = rest {

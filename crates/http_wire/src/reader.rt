@@ -9,7 +9,7 @@ ghost use Rattle.http_wire.specs.Reading.{Ends, IsFillStop, KeepsUnlessFailed, L
 ghost use Rattle.http_wire.specs.Stream.{TakesOne, Stops};
 
 use crate::body::{fill, take_body};
-use crate::head::{FIELD_LIMIT, Front, HEAD_LIMIT, HeadAt, is_pairs, lines_end, look_at};
+use crate::head::{FIELD_LIMIT, Front, HEAD_LIMIT, HeadAt, are_empty_lines, lines_end, look_at};
 use crate::link::Link;
 use crate::message::{Bytes, Message, Wire};
 use crate::rules::{body_length, message_of};
@@ -72,7 +72,7 @@ fn read_head<L: Link>(
         }
         match await_line(held, link) {
             Ok(true) => {}
-            Ok(false) if is_pairs(held) => return Err(Wire::End),
+            Ok(false) if are_empty_lines(held) => return Err(Wire::End),
             Ok(false) => return Err(Wire::EndedInside),
             Err(wire) => return Err(wire),
         }

@@ -1,6 +1,6 @@
 use Rattle.std.proofs.Common.{◌≡◌, length}
-use Rattle.http_wire.specs.Head.{is_pairs}
-use Rattle.http_wire.proofs.head.is_pairs.Given as goal
+use Rattle.http_wire.proofs.EmptyLines.{is_pairs}
+use Rattle.http_wire.proofs.head.are_empty_lines.Given as goal
 
 -- the pairs so far decide nothing
 abbrev pub invariant-loop-rest : goal.invariant-loop-rest
