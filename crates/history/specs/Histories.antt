@@ -12,7 +12,7 @@ abbrev pub IsLegal : {Q A S E R : Type 0} → Rules Q A S E R → S → List E �
 IsLegal r state [] = Unit {0}
 IsLegal r state (entry ∷ rest) = r.lawful state entry × IsLegal r (r.after state entry) rest
 
--- the reply of the call at a place; None past the end and where no call stands
+-- what the entry at a place replies, in the state that those before it leave; None past the end
 abbrev pub reply_at : {Q A S E R : Type 0} → Rules Q A S E R → S → List E → ℕ → Option R
 reply_at r state [] place = None
 reply_at r state (entry ∷ rest) zero = r.reply state entry
