@@ -6,21 +6,33 @@ ghost use Rattle.farm_desk.specs.Home.{nowhere};
 use crate::desk::{Desk, Spare};
 use crate::object::Object;
 use history::Machine;
+use std::marker::Model;
 
 /// How many asks a new desk has.
 const ASKS: u64 = 1 << 63;
 
 /// The desk of one caller, who has its object alone: the history that it stands for has no calls but its own.
+///
+/// A contract sees it as its object and the number of asks that are left.
 #[derive(Drop)]
 pub struct Solo<O> {
     object: O,
     left: u64,
 }
 
+impl<O> Model for Solo<O> {
+    ghost use Rattle.std.specs.Prelude.{ℕ};
+
+    ghost Value = { O × ℕ };
+
+    ghost view = { λ solo. (solo.object, solo.left) };
+}
+
 impl<O: Object> Solo<O> {
     /// A desk at which this object can be asked 2^63 times. It stands for exactly what leads, by these calls alone, to the
     /// object's state and is held by the object: with no call yet, for each opening that begins in that state.
     pub fn new(object: O) -> Self
+        ensures object { result ≡ (object, 2 ^ 63) }
         ensures left { ⟦<Solo<O> as Spare>⟧.spare result ≡ 2 ^ 63 }
         ensures home { ⟦<Solo<O> as Desk>⟧.home result ≡ nowhere }
         ensures stands { (opening : O.Law.Opening) (seen : List O.Law.Entry) (mine : List ℕ)
@@ -34,8 +46,9 @@ impl<O: Object> Solo<O> {
         Solo { object, left: ASKS }
     }
 
-    /// The object. The desk stood for exactly what leads to its state and is held by it.
+    /// The object itself. The desk stood for exactly what leads to its state and is held by it.
     pub fn into_object(self) -> O
+        ensures object { result ≡ self.0 }
         ensures stood { (opening : O.Law.Opening) (seen : List O.Law.Entry) (mine : List ℕ)
             → ⟦<Solo<O> as Desk>⟧.stands self opening seen mine
             ↔ (LeadsAlone O.Law.rules (O.Law.start opening) seen mine (O.state result) × O.holds result opening seen) }
@@ -46,7 +59,7 @@ impl<O: Object> Solo<O> {
 }
 
 impl<O: Object> Spare for Solo<O> {
-    ghost spare = { λ solo. solo.left };
+    ghost spare = { λ solo. solo.1 };
 
     fn left(&self) -> u64 {
         self.left
@@ -60,7 +73,7 @@ impl<O: Object> Desk for Solo<O> {
 
     type Law = O::Law;
 
-    ghost stands = { λ solo opening seen mine. LeadsAlone O.Law.rules (O.Law.start opening) seen mine (O.state solo.object) × O.holds solo.object opening seen };
+    ghost stands = { λ solo opening seen mine. LeadsAlone O.Law.rules (O.Law.start opening) seen mine (O.state solo.0) × O.holds solo.0 opening seen };
 
     ghost home = { λ solo. nowhere };
 
