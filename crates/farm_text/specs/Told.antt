@@ -1,11 +1,11 @@
 -- What a list tells: its values in order, and after them the last one again.
-use Rattle.std.specs.Prelude.{ℕ, ◌-◌, ◌^◌, List, [], ◌∷◌, length, map, min, nat_lt, slice_index_or, if◌then◌else◌, Option, Some, None}
-use Rattle.std.specs.List.{range_with_len}
+use Rattle.std.specs.Prelude.{ℕ, ◌-◌, ◌^◌, List, [], ◌∷◌, map, min, nat_lt, slice_get, unwrap_or, if◌then◌else◌, Option, Some, None}
+use Rattle.std.specs.List.{range_with_len, last_or}
 use Rattle.farm_text.specs.declared.moment.TheConstants.{LAST_TOLD_MOMENT}
 
--- the value told by the call that k calls came before; an empty list tells `other`
+-- the value told by the call that k calls came before: the one at place k, past the end the last one, and `other` of an empty list
 abbrev pub told_at : {A : Type 0} → List A → A → ℕ → A
-told_at values other k = slice_index_or values (min k (length values - 1)) other
+told_at values other k = unwrap_or (slice_get values k) (unwrap_or (last_or None values) other)
 
 -- the values told by the first n calls, which are counted up to 2^64 - 2
 abbrev pub told_by : {A : Type 0} → (ℕ → A) → ℕ → Option (List A)
