@@ -151,6 +151,46 @@ fn scopes_are_expanded(rt: HostRuntime) -> Result<(), Fail> {
     Ok(())
 }
 
+/// So many scopes, each a number between these texts.
+fn numbered(
+    alloc: Global,
+    count: usize,
+    before: &str,
+    after: &str,
+) -> Result<String, AllocError> {
+    let mut text = String::new(alloc);
+    for number in 0..count {
+        text.push_str(&format!(in alloc; "{before}{number}{after}")?)?;
+    }
+    Ok(text)
+}
+
+#[test]
+fn too_many_scopes_are_refused(rt: HostRuntime) -> Result<(), Fail> {
+    let alloc = rt.alloc();
+    let lines = numbered(alloc, 10_001, "", "\n")?;
+    let expand = Case {
+        words: &["expand", "farm.toml"],
+        ..Case::over(lines.as_bytes())
+    };
+    let refused = outcome_of(alloc, &expand)?;
+    assert_eq!(rt; refused.status.code(), 3);
+    assert_eq!(rt; refused.output.len(), 0);
+
+    let scopes = numbered(alloc, 10_000, "'", "',")?;
+    let farm = format!(in alloc; "[[role]]\nid = 'anonymous'\nscopes = [{scopes}]\n")?;
+    let answer = Case {
+        farm: farm.as_bytes(),
+        ..Case::over(PING)
+    };
+    let answered = outcome_of(alloc, &answer)?;
+    assert_eq!(rt; answered.status.code(), 0);
+    let output: &[u8] =
+        b"HTTP/1.1 403 Forbidden\r\nContent-Length: 93\r\nContent-Type: application/json\r\n\r\n{\"code\":\"ExpansionLimit\",\"details\":{\"limit\":10000},\"message\":\"too many scopes are derivable\"}";
+    assert_eq!(rt; answered.output.as_slice(), output);
+    Ok(())
+}
+
 #[test]
 fn roles_are_counted(rt: HostRuntime) -> Result<(), Fail> {
     let case = Case {

@@ -1,3 +1,4 @@
+pub mod AccessLemmas
 pub mod DueLemmas
 pub mod PlanLemmas
 pub mod VerdictLemmas

@@ -2,6 +2,7 @@
 use Rattle.std.specs.Prelude.{ℕ, List}
 use Rattle.farm_machine.specs.declared.question.Call.{Call}
 use Rattle.farm_machine.specs.declared.question.Caller.{Caller}
+use Rattle.farm_machine.specs.Judgement.{Judgement}
 
 -- a call as it was asked: the clock's moment, the id drawn for it, who calls, and what
 pub record Asking : Type 0 where
@@ -10,9 +11,9 @@ pub record Asking : Type 0 where
   pub caller : Caller
   pub call : Call
 
--- what became of a call
+-- what became of a call: it was judged so, or memory ran out
 pub data Outcome : Type 0 where
-  finished : Outcome
+  finished : (judgement : Judgement) → Outcome
   out_of_memory : Outcome
 
 -- an entry of a history: a tick at a moment, or a call

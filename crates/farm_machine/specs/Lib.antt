@@ -1,6 +1,8 @@
+pub mod Access
 pub mod Config
 pub mod Due
 pub mod Entry
+pub mod Judgement
 pub mod Law
 pub mod Planned
 pub mod Replies

@@ -42,6 +42,14 @@ not_authentic reason =
       body = error_text (codes "AuthenticationFailed") (members_of ((codes "reason", text reason) ∷ [])) (codes "the caller is not who it says");
     }
 
+-- too many scopes are derivable for the caller
+abbrev pub expansion_limit : Answer
+expansion_limit =
+    record {
+      status = 403;
+      body = error_text (codes "ExpansionLimit") (members_of ((codes "limit", whole (pos 10000)) ∷ [])) (codes "too many scopes are derivable");
+    }
+
 -- memory ran out
 abbrev pub no_memory : Answer
 no_memory = record { status = 503; body = error_text (codes "OutOfMemory") no_members (codes "no memory") }

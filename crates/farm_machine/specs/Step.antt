@@ -7,8 +7,9 @@ use Rattle.farm_machine.specs.declared.reply.Reply.{Reply}
 use Rattle.farm_machine.specs.declared.reply.Reply.TheVariants.{Answered, OutOfMemory}
 use Rattle.farm_machine.specs.Due.{is_due, advance}
 use Rattle.farm_machine.specs.Entry.{Asking, Outcome, finished, out_of_memory, Entry, tick, call}
+use Rattle.farm_machine.specs.Judgement.{Change, only_answer}
 use Rattle.farm_machine.specs.State.{State, Contents}
-use Rattle.farm_machine.specs.Verdict.{Change, verdict}
+use Rattle.farm_machine.specs.Verdict.{IsVerdict}
 
 -- the moment of a call: the greater of the clock's and the last
 abbrev pub moment_of : Contents → Asking → ℕ
@@ -30,21 +31,27 @@ pub record MayTick (state : State) (moment : ℕ) : Type 0 where
   pub told : moment ≤ LAST_TOLD_MOMENT
   pub due : is_due state.contents moment ≡ true
 
--- a call comes where nothing is due at its moment
-pub record MayCall (state : State) (asking : Asking) : Type 0 where
+-- a call may become this: a finished one has its verdict, and memory may run out at any
+abbrev pub MayBecome : State → Asking → Outcome → Type 0
+MayBecome state asking (finished judgement) = IsVerdict state asking judgement
+MayBecome state asking out_of_memory = Unit {0}
+
+-- a call comes where nothing is due at its moment, and becomes what it may
+pub record MayCall (state : State) (asking : Asking) (outcome : Outcome) : Type 0 where
   pub at_work : state.halted ≡ false
   pub told : asking.moment ≤ LAST_TOLD_MOMENT
   pub nothing_due : is_due state.contents (moment_of state.contents asking) ≡ false
+  pub became : MayBecome state asking outcome
 
 -- the entry may come in this state
 abbrev pub lawful : State → Entry → Type 0
 lawful state (tick moment) = MayTick state moment
-lawful state (call asking outcome) = MayCall state asking
+lawful state (call asking outcome) = MayCall state asking outcome
 
 -- the state after a call that became this
 abbrev pub after_call : State → Asking → Outcome → State
-after_call state asking finished =
-    record state { contents = applied state.contents (moment_of state.contents asking) (verdict state asking).change }
+after_call state asking (finished judgement) =
+    record state { contents = applied state.contents (moment_of state.contents asking) judgement.change }
 after_call state asking out_of_memory =
     record state { contents = reached state.contents (moment_of state.contents asking) }
 
@@ -54,23 +61,23 @@ after state (tick moment) = record state { contents = advance state.contents mom
 after state (call asking outcome) = after_call state asking outcome
 
 -- the reply to a call that became this
-abbrev pub reply_to : State → Asking → Outcome → Reply
-reply_to state asking finished = Answered (verdict state asking).answer
-reply_to state asking out_of_memory = OutOfMemory
+abbrev pub reply_to : Outcome → Reply
+reply_to (finished judgement) = Answered judgement.answer
+reply_to out_of_memory = OutOfMemory
 
 -- the reply to an entry, where it is a call
 abbrev pub reply : State → Entry → Option Reply
 reply state (tick moment) = None
-reply state (call asking outcome) = Some (reply_to state asking outcome)
+reply state (call asking outcome) = Some (reply_to outcome)
 
 -- what an entry asked
 abbrev pub asked : Entry → Option Asking
 asked (tick moment) = None
 asked (call asking outcome) = Some asking
 
--- what became of a call, as its reply tells
+-- what became of a call, as its reply tells; no call changes the tasks yet
 abbrev pub outcome_of : Reply → Outcome
-outcome_of (Answered answer) = finished
+outcome_of (Answered answer) = finished (only_answer answer)
 outcome_of OutOfMemory = out_of_memory
 
 -- the tick before a call, where its answer tells of one

@@ -1,7 +1,7 @@
 //! The answers of calls: statuses of HTTP (RFC 9110), and bodies as JSON (RFC 8259).
 
 ghost use Rattle.std.specs.Prelude.{◌≡◌, IfOk};
-ghost use Rattle.farm_machine.specs.Replies.{alive, not_found, bad_parameter, not_authentic, error_text};
+ghost use Rattle.farm_machine.specs.Replies.{alive, not_found, bad_parameter, not_authentic, expansion_limit, error_text};
 ghost use Rattle.farm_text.specs.Entries.{held};
 
 use crate::reply::Answer;
@@ -57,6 +57,22 @@ pub(crate) fn not_authentic(alloc: Global, reason: &str) -> Result<Answer, Alloc
             "AuthenticationFailed",
             details,
             "the caller is not who it says",
+        )?,
+    })
+}
+
+/// More scopes are derivable for the caller than a closure may have.
+pub(crate) fn expansion_limit(alloc: Global) -> Result<Answer, AllocError>
+    ensures { IfOk result (λ a. a ≡ expansion_limit) }
+{
+    let details = Entries::new(alloc).with(alloc, "limit", Doc::Int(10_000))?;
+    Ok(Answer {
+        status: StatusCode::FORBIDDEN,
+        body: error_text(
+            alloc,
+            "ExpansionLimit",
+            details,
+            "too many scopes are derivable",
         )?,
     })
 }

@@ -3,7 +3,8 @@
 ghost use Rattle.std.specs.Prelude.{◌≡◌};
 ghost use Rattle.farm_machine.specs.Entry.{Asking};
 ghost use Rattle.farm_machine.specs.State.{State};
-ghost use Rattle.farm_machine.specs.Verdict.{verdict, answers_in_order, IsFirst};
+ghost use Rattle.farm_machine.specs.Judgement.{Judgement};
+ghost use Rattle.farm_machine.specs.Verdict.{IsVerdict, answers_in_order, IsFirst};
 ghost use Rattle.farm_machine.specs.declared.reply.Answer.{Answer as Told};
 
 use crate::question::Question;
@@ -69,9 +70,12 @@ impl Machine for Farm {
     ghost start = { opened };
 }
 
-/// The verdict of a call is one: it is the first answer that strikes in the order of refusals, and no other is.
+/// The verdict of a call is one: the first answer that strikes in the order of refusals, and no other is the first.
 pub fn verdict_is_one()
-    ensures first { (state : State) (asking : Asking) → IsFirst (answers_in_order state asking) (verdict state asking).answer }
-    ensures only { (state : State) (asking : Asking) (answer : Told) → IsFirst (answers_in_order state asking) answer
-        → answer ≡ (verdict state asking).answer }
+    ensures one { (state : State) (asking : Asking) (judgement other : Judgement)
+        → IsVerdict state asking judgement → IsVerdict state asking other → judgement ≡ other }
+    ensures first { (state : State) (asking : Asking) (judgement : Judgement)
+        → IsVerdict state asking judgement → IsFirst (answers_in_order state asking) judgement.answer }
+    ensures only { (state : State) (asking : Asking) (answer other : Told)
+        → IsFirst (answers_in_order state asking) answer → IsFirst (answers_in_order state asking) other → answer ≡ other }
 {}

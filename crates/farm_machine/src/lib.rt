@@ -4,6 +4,7 @@
 //! What is due at a moment is resolved before, by `tick`.
 #![tactic(auto)]
 
+mod access;
 mod answers;
 pub mod config;
 pub mod law;

@@ -13,7 +13,7 @@ impl Model for Plan {
     ghost use Rattle.std.specs.Prelude.{◌≤◌};
     ghost use Rattle.farm_text.specs.declared.moment.TheConstants.{LAST_TOLD_MOMENT};
     ghost use Rattle.farm_machine.specs.Planned.{Planned};
-    ghost use Rattle.farm_machine.specs.Verdict.{only_answer};
+    ghost use Rattle.farm_machine.specs.Judgement.{only_answer};
 
     ghost Value = { Planned };
 

@@ -2,13 +2,15 @@
 
 ghost use Rattle.std.specs.Prelude.{◌≡◌, ◌≤◌, false, IfOk, codes};
 ghost use Rattle.farm_machine.specs.Due.{is_due};
-ghost use Rattle.farm_machine.specs.Planned.{planned, IsPlanOn};
+ghost use Rattle.farm_machine.specs.Judgement.{only_answer};
+ghost use Rattle.farm_machine.specs.Planned.{IsPlanOf, IsPlanOn};
 ghost use Rattle.farm_machine.specs.Replies.{not_found};
 ghost use Rattle.farm_machine.specs.State.{State};
 ghost use Rattle.farm_machine.specs.Step.{moment_of, applied};
-ghost use Rattle.farm_machine.specs.Verdict.{judgement_of, only_answer};
+ghost use Rattle.farm_machine.specs.Verdict.{IsJudgement};
 ghost use Rattle.farm_text.specs.Slug.{slug_text};
 
+use crate::access::{Access, access_of};
 use crate::answers;
 use crate::config::Config;
 use crate::plan::Plan;
@@ -16,7 +18,7 @@ use crate::question::{Call, Caller, Parameter, Question};
 use crate::reply::{Answer, Reply};
 use crate::tables::Tables;
 use farm_text::{Moment, SlugId};
-use http::StatusCode;
+use role_expand::RoleSet;
 use std::alloc::{AllocError, Global};
 
 /// Judges a call and takes all the memory that it needs. The tables stay as they were.
@@ -27,29 +29,29 @@ pub fn plan(
     question: Question,
 ) -> Result<Plan, AllocError>
     requires { is_due tables.old (moment_of tables.old question) ≡ false }
-    ensures planned { IfOk result (λ p. p ≡ planned config.now tables.old question) }
+    ensures planned { IfOk result (IsPlanOf config.now tables.old question) }
     ensures same { tables.new ≡ tables.old }
 {
     let moment = question.moment().max(tables.last());
     let caller = question.caller();
-    let answer = judge(alloc, caller, question.into_call())?;
+    let answer = judge(alloc, &config.roles, caller, question.into_call())?;
     Ok(Plan { moment, answer })
 }
 
-/// The answer to a call.
-fn judge(alloc: Global, caller: Caller, call: Call) -> Result<Answer, AllocError>
-    ensures { IfOk result (λ a. (state : State) → judgement_of call caller state ≡ only_answer a) }
+/// The answer to a call over these roles.
+fn judge(alloc: Global, roles: &RoleSet, caller: Caller, call: Call) -> Result<Answer, AllocError>
+    ensures { IfOk result (λ a. (state : State) → state.config.roles ≡ roles.now → IsJudgement call caller state (only_answer a)) }
 {
     match call {
         Call::NoRoute(name) => answers::not_found(alloc, "route", name.as_str()),
         Call::BadParameter(Parameter::TaskId) => answers::bad_parameter(alloc, "taskId"),
-        Call::Ping => match caller {
-            Caller::Anonymous => answers::alive(alloc),
-            Caller::BadHeader => answers::not_authentic(alloc, "BadHeader"),
+        Call::Ping => match access_of(alloc, roles, caller)? {
+            Access::Has(_) => answers::alive(alloc),
+            Access::Refused(answer) => Ok(answer),
         },
-        Call::Status(id) => match caller {
-            Caller::Anonymous => no_task(alloc, id),
-            Caller::BadHeader => answers::not_authentic(alloc, "BadHeader"),
+        Call::Status(id) => match access_of(alloc, roles, caller)? {
+            Access::Has(_) => no_task(alloc, id),
+            Access::Refused(answer) => Ok(answer),
         },
     }
 }

@@ -4,7 +4,8 @@ use crate::reply::Reply;
 use crate::step::{apply, plan};
 use crate::tables::{Tables, due, tick};
 use farm_text::{Moment, SlugId, Text};
-use role_expand::RoleSet;
+use role_expand::{Role, RoleSet};
+use scope_sets::Scope;
 use std::alloc::Global;
 use std::test::Fail;
 
@@ -13,11 +14,9 @@ fn first_task(rt: &impl std::process::Abort) -> SlugId {
     SlugId::of_uuid([0, 0, 0, 0, 0, 0, 0x40, 0, 0x80, 0, 0, 0, 0, 0, 0, 0]).expect(rt, "version 4")
 }
 
-/// A configuration without roles.
-fn config(alloc: Global) -> Result<Config, Fail> {
-    let roles = RoleSet::build(alloc, Vec::new(alloc))
-        .ok()
-        .ok_or("no roles")?;
+/// A configuration with these roles.
+fn config(alloc: Global, roles: Vec<Role>) -> Result<Config, Fail> {
+    let roles = RoleSet::build(alloc, roles).ok().ok_or("roles")?;
     Ok(Config {
         host: Text::from_str(alloc, "localhost")?,
         port: 8080,
@@ -27,18 +26,42 @@ fn config(alloc: Global) -> Result<Config, Fail> {
     })
 }
 
-/// The reply of a farm without tasks.
+/// The reply of a farm of this configuration, without tasks.
 #[tactic(auto, using(crate::proofs::DueLemmas::nothing_due))]
-fn ask(alloc: Global, caller: Caller, drawn: SlugId, call: Call) -> Result<Reply, Fail> {
-    let config = config(alloc)?;
+fn ask_of(
+    alloc: Global,
+    config: &Config,
+    caller: Caller,
+    drawn: SlugId,
+    call: Call,
+) -> Result<Reply, Fail> {
     let mut tables = Tables::new();
     let planned = plan(
         alloc,
         &mut tables,
-        &config,
+        config,
         Question::new(Moment::FIRST, drawn, caller, call),
     )?;
     Ok(apply(&mut tables, planned))
+}
+
+/// The reply of a farm without roles and tasks.
+fn ask(alloc: Global, caller: Caller, drawn: SlugId, call: Call) -> Result<Reply, Fail> {
+    ask_of(alloc, &config(alloc, Vec::new(alloc))?, caller, drawn, call)
+}
+
+/// The role `anonymous` with so many scopes.
+fn anonymous(alloc: Global, count: usize) -> Result<Vec<Role>, Fail> {
+    let mut scopes = Vec::new(alloc);
+    for place in 0..count {
+        let scope = Scope::new(format!(in alloc; "s{place}")?).ok_or("a scope")?;
+        scopes.push(scope)?;
+    }
+    let role = Role {
+        id: String::from_str(alloc, "anonymous")?,
+        scopes,
+    };
+    Ok(vec![in alloc; role]?)
 }
 
 #[test]
@@ -90,13 +113,36 @@ fn replies_are_those_of_the_reference(rt: HostRuntime) -> Result<(), Fail> {
     Ok(())
 }
 
+/// The answer where more than ten thousand scopes are derivable.
+const TOO_MANY: &str =
+    "{\"code\":\"ExpansionLimit\",\"details\":{\"limit\":10000},\"message\":\"too many scopes are derivable\"}";
+
+#[test]
+fn too_many_scopes_are_refused_after_the_credentials(rt: HostRuntime) -> Result<(), Fail> {
+    let alloc = rt.alloc();
+    let id = first_task(&rt);
+    let most = config(alloc, anonymous(alloc, 9_999)?)?;
+    let reply = ask_of(alloc, &most, Caller::Anonymous, id, Call::Ping)?;
+    assert_eq!(rt; reply.status().as_u16(), 200);
+    let more = config(alloc, anonymous(alloc, 10_000)?)?;
+    let reply = ask_of(alloc, &more, Caller::Anonymous, id, Call::Status(id))?;
+    assert_eq!(rt; reply.status().as_u16(), 403);
+    assert_eq!(rt; reply.body(), TOO_MANY);
+    let reply = ask_of(alloc, &more, Caller::BadHeader, id, Call::Ping)?;
+    assert_eq!(rt; reply.status().as_u16(), 401);
+    let call = Call::BadParameter(Parameter::TaskId);
+    let reply = ask_of(alloc, &more, Caller::Anonymous, id, call)?;
+    assert_eq!(rt; reply.status().as_u16(), 400);
+    Ok(())
+}
+
 #[test]
 fn a_configuration_counts_its_rows(rt: HostRuntime) -> Result<(), Fail> {
-    let counts = config(rt.alloc())?.counts();
+    let counts = config(rt.alloc(), anonymous(rt.alloc(), 2)?)?.counts();
     assert_eq!(rt;
         counts,
         ConfigCounts {
-            roles: 0,
+            roles: 1,
             clients: 0,
             hooks: 0
         }

@@ -20,7 +20,7 @@ IsResolved-nothing_due old moment ticked new asking resolved at =
 ask_alone : (config : Config) (old new : Contents) (asking : Asking) (reply : Reply) → asking.moment ≤ LAST_TOLD_MOMENT → is_due old (moment_of old asking) ≡ false → IsPerformed config old asking reply new → IsAsk farm_rules (working config old) asking (record { reply = reply; ticked = false }) (working config new)
 unfolding farm_rules
 ask_alone config old new asking reply told none performed = record {
-  legal = (record { at_work = refl; told = told; nothing_due = none }, tt);
+  legal = (record { at_work = refl; told = told; nothing_due = none; became = performed.became }, tt);
   leads = performed.leads;
   quiet = λ place. refl;
   asked = refl;
@@ -31,7 +31,7 @@ ask_alone config old new asking reply told none performed = record {
 ask_after_tick : (config : Config) (old new : Contents) (asking : Asking) (reply : Reply) → asking.moment ≤ LAST_TOLD_MOMENT → moment_of old asking ≤ LAST_TOLD_MOMENT → is_due old (moment_of old asking) ≡ true → is_due (advance old (moment_of old asking)) (moment_of (advance old (moment_of old asking)) asking) ≡ false → IsPerformed config (advance old (moment_of old asking)) asking reply new → IsAsk farm_rules (working config old) asking (record { reply = reply; ticked = true }) (working config new)
 unfolding farm_rules
 ask_after_tick config old new asking reply told within due none performed = record {
-  legal = (record { at_work = refl; not_before = omega arith; told = within; due = due }, (record { at_work = refl; told = told; nothing_due = none }, tt));
+  legal = (record { at_work = refl; not_before = omega arith; told = within; due = due }, (record { at_work = refl; told = told; nothing_due = none; became = performed.became }, tt));
   leads = performed.leads;
   quiet = λ place. refl;
   asked = refl;

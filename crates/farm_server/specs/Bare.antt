@@ -5,14 +5,15 @@ use Rattle.farm_machine.specs.declared.reply.Reply.{Reply}
 use Rattle.farm_machine.specs.Due.{is_due, advance}
 use Rattle.farm_machine.specs.Entry.{Asking}
 use Rattle.farm_machine.specs.State.{Contents, working}
-use Rattle.farm_machine.specs.Step.{after_call, reply_to, outcome_of}
+use Rattle.farm_machine.specs.Step.{MayBecome, after_call, reply_to, outcome_of}
 
 -- what was due at the moment was resolved, and `ticked` says whether anything was
 pub record IsResolved (old : Contents) (moment : ℕ) (ticked : Bool) (new : Contents) : Type 0 where
   pub tells : ticked ≡ is_due old moment
   pub leads : new ≡ (if ticked then advance old moment else old)
 
--- the call was performed, and became what its reply tells
+-- the call was performed, and became what its reply tells, as it may
 pub record IsPerformed (config : Config) (old : Contents) (asking : Asking) (reply : Reply) (new : Contents) : Type 0 where
+  pub became : MayBecome (working config old) asking (outcome_of reply)
   pub leads : working config new ≡ after_call (working config old) asking (outcome_of reply)
-  pub told : reply ≡ reply_to (working config old) asking (outcome_of reply)
+  pub told : reply ≡ reply_to (outcome_of reply)

@@ -1,0 +1,22 @@
+-- What a caller may do is one.
+use Rattle.std.proofs.Common.{◌≡◌, List, ℕ, sym, ap, ◌∙◌}
+use Rattle.role_expand.specs.Roles.{RoleData}
+use Rattle.role_expand.specs.declared.expansion.TheConstants.{MOST_SCOPES}
+use Rattle.role_expand.proofs.SetLemmas.{closure_is_one, closure_or_more}
+use Rattle.farm_machine.specs.Access.{Expands, HasAccess, anonymous_scopes}
+use Rattle.farm_machine.specs.declared.access.Access.{Access}
+use Rattle.farm_machine.specs.declared.access.Access.TheVariants.{Has, Refused}
+use Rattle.farm_machine.specs.declared.question.Caller.{Caller}
+use Rattle.farm_machine.specs.declared.question.Caller.TheVariants.{Anonymous, BadHeader}
+
+-- a start list expands in one way
+expands_once : (roles : List RoleData) (start : List (List ℕ)) (a b : Access) → Expands roles start a → Expands roles start b → a ≡ b
+expands_once roles start (Has s) (Has t) p q = ap Has (closure_is_one MOST_SCOPES roles start s t p q)
+expands_once roles start (Has s) (Refused b) p q = absurd (closure_or_more MOST_SCOPES roles start s p q.0)
+expands_once roles start (Refused a) (Has t) p q = absurd (closure_or_more MOST_SCOPES roles start t q p.0)
+expands_once roles start (Refused a) (Refused b) p q = ap Refused (p.1 ∙ sym q.1)
+
+-- what a caller may do is one
+pub HasAccess-one : (roles : List RoleData) (caller : Caller) (a b : Access) → HasAccess roles caller a → HasAccess roles caller b → a ≡ b
+HasAccess-one roles Anonymous a b p q = expands_once roles anonymous_scopes a b p q
+HasAccess-one roles BadHeader a b p q = p ∙ sym q
