@@ -152,12 +152,7 @@ fn scopes_are_expanded(rt: HostRuntime) -> Result<(), Fail> {
 }
 
 /// So many scopes, each a number between these texts.
-fn numbered(
-    alloc: Global,
-    count: usize,
-    before: &str,
-    after: &str,
-) -> Result<String, AllocError> {
+fn numbered(alloc: Global, count: usize, before: &str, after: &str) -> Result<String, AllocError> {
     let mut text = String::new(alloc);
     for number in 0..count {
         text.push_str(&format!(in alloc; "{before}{number}{after}")?)?;
