@@ -11,8 +11,9 @@ use Rattle.http_wire.specs.declared.message.Wire.TheVariants as wire
 use Rattle.http_wire.specs.Stream.{Ending, stopped, closed, full, Messages}
 use Rattle.http_wire.proofs.StreamLaws.{messages_unique}
 use Rattle.farm_machine.specs.declared.config.Config.{Config}
+use Rattle.farm_machine.specs.declared.reply.Reply.{Reply}
 use Rattle.farm_server.specs.ReplyText.{wire_text}
-use Rattle.farm_server.specs.Served.{Outside, messages_of, reply_texts, is_refused, EndsAs, Writes, IsCaused}
+use Rattle.farm_server.specs.Served.{Outside, Ask, messages_of, reply_texts, is_refused, EndsAs, Writes, IsCaused}
 use Rattle.farm_server.specs.declared.served.Served.{Served}
 use Rattle.farm_server.specs.declared.served.Served.TheVariants as served
 use Rattle.farm_server.specs.declared.served.TheConstants.{REQUESTS}
@@ -73,23 +74,23 @@ finished_by_refusal bytes asked messages reason ending before after text list li
       written = subst (λ (e : Ending). Appends before after (text ++ own_text e)) one.1 appends;
     }
 
-finished : (bytes : List ℕ) (asked messages : List Message) (ending : Ending) (text : List ℕ) (before after : Outside) (served : Served)
-    → EndsAs REQUESTS bytes asked served → Messages REQUESTS bytes messages ending → Writes REQUESTS before after asked text served → IsCaused before after served
+finished : (bytes : List ℕ) (asks : List Ask) (replies : List Reply) (messages : List Message) (ending : Ending) (before after : Outside) (served : Served)
+    → EndsAs REQUESTS bytes (messages_of asks) served → Messages REQUESTS bytes messages ending → Writes REQUESTS before after asks replies served → IsCaused before after served
     → ¬ (Rose before.read_faults after.read_faults) → ¬ (Rose before.write_faults after.write_faults)
-    → (status_of served ≡ NoMemory) ⊎ Finished before.written after.written asked messages ending text (status_of served)
-finished bytes asked messages ending text before after served.Closed (inl list) list' writes cause reads_well writes_well =
-    inr (finished_by bytes asked messages closed ending before.written after.written text Done list list' refl refl writes)
-finished bytes asked messages ending text before after served.Closed (inr list) list' writes cause reads_well writes_well =
-    inr (finished_by bytes asked messages (stopped wire.End) ending before.written after.written text Done list list' refl refl writes)
-finished bytes asked messages ending text before after served.Full list list' writes cause reads_well writes_well =
-    inr (finished_by bytes asked messages full ending before.written after.written text Done list list' refl refl writes)
-finished bytes asked messages ending text before after served.EndedInside list list' writes cause reads_well writes_well =
-    inr (finished_by bytes asked messages (stopped wire.EndedInside) ending before.written after.written text Wire list list' refl refl writes)
-finished bytes asked messages ending text before after (served.WireFault reason) list list' writes cause reads_well writes_well =
-    inr (finished_by_refusal bytes asked messages reason ending before.written after.written text list list' writes.0 writes.1)
-finished bytes asked messages ending text before after served.ReadFault list list' writes cause reads_well writes_well = absurd (reads_well cause.0)
-finished bytes asked messages ending text before after served.WriteFault list list' writes cause reads_well writes_well = absurd (writes_well cause.0)
-finished bytes asked messages ending text before after served.NoMemory list list' writes cause reads_well writes_well = inl refl
+    → (status_of served ≡ NoMemory) ⊎ Finished before.written after.written (messages_of asks) messages ending (reply_texts REQUESTS asks replies) (status_of served)
+finished bytes asks replies messages ending before after served.Closed (inl list) list' writes cause reads_well writes_well =
+    inr (finished_by bytes (messages_of asks) messages closed ending before.written after.written (reply_texts REQUESTS asks replies) Done list list' refl refl writes.written)
+finished bytes asks replies messages ending before after served.Closed (inr list) list' writes cause reads_well writes_well =
+    inr (finished_by bytes (messages_of asks) messages (stopped wire.End) ending before.written after.written (reply_texts REQUESTS asks replies) Done list list' refl refl writes.written)
+finished bytes asks replies messages ending before after served.Full list list' writes cause reads_well writes_well =
+    inr (finished_by bytes (messages_of asks) messages full ending before.written after.written (reply_texts REQUESTS asks replies) Done list list' refl refl writes.written)
+finished bytes asks replies messages ending before after served.EndedInside list list' writes cause reads_well writes_well =
+    inr (finished_by bytes (messages_of asks) messages (stopped wire.EndedInside) ending before.written after.written (reply_texts REQUESTS asks replies) Wire list list' refl refl writes.written)
+finished bytes asks replies messages ending before after (served.WireFault reason) list list' writes cause reads_well writes_well =
+    inr (finished_by_refusal bytes (messages_of asks) messages reason ending before.written after.written (reply_texts REQUESTS asks replies) list list' writes.0 writes.1.written)
+finished bytes asks replies messages ending before after served.ReadFault list list' writes cause reads_well writes_well = absurd (reads_well cause.0)
+finished bytes asks replies messages ending before after served.WriteFault list list' writes cause reads_well writes_well = absurd (writes_well cause.0)
+finished bytes asks replies messages ending before after served.NoMemory list list' writes cause reads_well writes_well = inl refl
 
 -- ---- a command over a console that is there, and does not fail
 
@@ -103,7 +104,7 @@ answers_all {C} views old new config status console bytes messages ending ran re
     let taken = rw (given, known) at ran.spoke.taken in
     let reads_well = subst (λ (x : C). ¬ (Rose (views.console_read_faults x) (views.console_read_faults ran.console_back))) (sym given) (well.reads ran.console_back came_back) in
     let writes_well = subst (λ (x : C). ¬ (Rose (views.console_write_faults x) (views.console_write_faults ran.console_back))) (sym given) (well.writes ran.console_back came_back) in
-    elim (finished bytes (messages_of ran.asks) messages ending (reply_texts REQUESTS ran.asks ran.replies) (outside_of views ran.console_given ran.clock_given ran.draws_given) (outside_of views ran.console_back ran.clock_back ran.draws_back) ran.served taken list ran.spoke.written ran.spoke.cause reads_well writes_well) [
+    elim (finished bytes ran.asks ran.replies messages ending (outside_of views ran.console_given ran.clock_given ran.draws_given) (outside_of views ran.console_back ran.clock_back ran.draws_back) ran.served taken list ran.spoke.written ran.spoke.cause reads_well writes_well) [
       | inl none ↦ inl (ran.status_is ∙ none)
       | inr done ↦ inr (record {
         status_is = ran.status_is ∙ done.status_is;

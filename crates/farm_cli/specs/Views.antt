@@ -1,5 +1,5 @@
 -- What the objects of a house tell of themselves.
-use Rattle.std.specs.Prelude.{ℕ, List, Option}
+use Rattle.std.specs.Prelude.{ℕ, List, Option, None}
 use Rattle.farm_server.specs.Served.{Outside}
 
 -- what is left of the farm file, and how many of its reads failed; the same of the console, and what was written there; what notes
@@ -16,7 +16,7 @@ pub record Views (F C N T I : Type 0) : Type 0 where
   pub clock_told : T → Option (List ℕ)
   pub draws_told : I → Option (List (List ℕ))
 
--- what console, clock and draws tell at one moment
+-- what console, clock and draws tell at one moment; the program's gate keeps nothing
 abbrev pub outside_of : {F C N T I : Type 0} → Views F C N T I → C → T → I → Outside
 outside_of views console clock draws =
     record {
@@ -24,6 +24,7 @@ outside_of views console clock draws =
       written = views.console_written console;
       moments = views.clock_told clock;
       ids = views.draws_told draws;
+      gate = None;
       read_faults = views.console_read_faults console;
       write_faults = views.console_write_faults console;
     }

@@ -12,16 +12,18 @@ use Rattle.http_wire.specs.declared.message.Wire.{Wire}
 use Rattle.http_wire.specs.declared.message.Wire.TheVariants as wire
 use Rattle.http_wire.specs.Reading.{KeepsUnlessFailed}
 use Rattle.http_wire.specs.Stream.{whole, Gives, Ending, Messages, TakesOne, Stops, is_of_stream, stopped, closed, full}
-use Rattle.http_wire.specs.Whole.{IsFrontOf}
 use Rattle.farm_machine.specs.declared.reply.Reply.{Reply}
 use Rattle.farm_machine.specs.Law.{opened}
 use Rattle.farm_machine.specs.Step.{farm_rules}
 use Rattle.farm_server.specs.ReplyText.{reply_text, wire_text}
 use Rattle.farm_server.specs.Routes.{question_of}
-use Rattle.farm_server.specs.Served.{Outside, Ask, messages_of, questions_of, reply_texts, IsFront, is_refused, EndsAs, IsOwnReply, Writes, but_last, BreaksOff, IsCaused, IsCount, Standing, ServesWithin}
+use Rattle.farm_server.specs.Served.{Outside, Ask, messages_of, questions_of, reply_texts, IsFront, is_refused, EndsAs, told_of, but_last, WritesAndTells, BreaksReply, BreaksOwnReply, Writes, IsCaused, IsCount, Standing, ServesWithin}
 use Rattle.farm_server.specs.Turn.{Telling, AsksOnce, Ends, Refuses, Goes, Turns}
+use Rattle.farm_server.specs.declared.gate.When.{When}
+use Rattle.farm_server.specs.declared.gate.When.TheVariants.{Asked, Answered}
 use Rattle.farm_server.specs.declared.served.Served.{Served}
 use Rattle.farm_server.specs.declared.served.Served.TheVariants.{Closed, EndedInside, WireFault, ReadFault, WriteFault, Full, NoMemory}
+use Rattle.farm_server.specs.declared.served.TheConstants.{REQUESTS}
 
 -- without room there is no message
 Messages-no_room : (bytes : List ℕ) (ms : List Message) (e : Ending) → Messages 0 bytes ms e → (ms ≡ []) × (e ≡ full)
@@ -87,16 +89,12 @@ taken-more room (Some bytes) None m ms served some takes goes_on others = absurd
 taken-more room (Some bytes) (Some rest) m ms served some takes goes_on others =
     EndsAs-more room bytes rest m ms served some takes goes_on others
 
-IsOwnReply-more : (room : ℕ) (left next : Option (List ℕ)) (m : Message) (ms : List Message) (own : List ℕ) → 0 < room → TakesOne left m next → (m.closes ≡ false) ⊎ (room ≡ 1) → IsOwnReply (room - 1) next ms own → IsOwnReply room left (m ∷ ms) own
-IsOwnReply-more room left next m ms own some takes goes_on (inl none) = inl none
-IsOwnReply-more room left next m ms own some takes goes_on (inr refused) =
-    inr (refused.0, refused.1, refused.2, known left next takes refused.3)
-  where
-    known : (left next : Option (List ℕ)) → TakesOne left m next → IfSome next (λ bytes. Messages (room - 1) bytes ms (stopped refused.0)) → IfSome left (λ bytes. Messages room bytes (m ∷ ms) (stopped refused.0))
-    known None next takes others = tt
-    known (Some bytes) None takes others = absurd takes
-    known (Some bytes) (Some rest) takes others =
-        Messages-more room bytes rest m ms (stopped refused.0) m.closes some refl takes goes_on others
+-- the same of a list that ends with a refusal
+refused-more : (room : ℕ) (left next : Option (List ℕ)) (m : Message) (ms : List Message) (reason : Wire) → 0 < room → TakesOne left m next → (m.closes ≡ false) ⊎ (room ≡ 1) → IfSome next (λ bytes. Messages (room - 1) bytes ms (stopped reason)) → IfSome left (λ bytes. Messages room bytes (m ∷ ms) (stopped reason))
+refused-more room None next m ms reason some takes goes_on others = tt
+refused-more room (Some bytes) None m ms reason some takes goes_on others = absurd takes
+refused-more room (Some bytes) (Some rest) m ms reason some takes goes_on others =
+    Messages-more room bytes rest m ms (stopped reason) m.closes some refl takes goes_on others
 
 IsCount-more : (room count : ℕ) (served : Served) → 0 < room → IsCount (room - 1) count served → IsCount room (suc count) served
 IsCount-more room count Closed some counted = omega arith
@@ -116,50 +114,71 @@ IsCaused-more before between after ReadFault reads writes caused = rw (reads, wr
 IsCaused-more before between after WriteFault reads writes caused = rw (reads, writes) at caused
 IsCaused-more before between after NoMemory reads writes caused = rw (reads, writes) at caused
 
-Writes-more : (room : ℕ) (before between after : Outside) (m : Message) (ms : List Message) (text texts : List ℕ) (served : Served) → 0 < room → TakesOne before.left m between.left → (m.closes ≡ false) ⊎ (room ≡ 1) → Appends before.written between.written text → Writes (room - 1) between after ms texts served → Writes room before after (m ∷ ms) (text ++ texts) served
-Writes-more room before between after m ms text texts Closed some takes goes_on first others =
-    Appends-trans before.written between.written after.written text texts first others
-Writes-more room before between after m ms text texts Full some takes goes_on first others =
-    Appends-trans before.written between.written after.written text texts first others
-Writes-more room before between after m ms text texts EndedInside some takes goes_on first others =
-    Appends-trans before.written between.written after.written text texts first others
-Writes-more room before between after m ms text texts ReadFault some takes goes_on first others =
-    Appends-trans before.written between.written after.written text texts first others
-Writes-more room before between after m ms text texts NoMemory some takes goes_on first others =
-    Appends-trans before.written between.written after.written text texts first others
-Writes-more room before between after m ms text texts (WireFault reason) some takes goes_on first others =
-    (others.0, rw (append_assoc text texts (wire_text reason)) (Appends-trans before.written between.written after.written text (texts ++ wire_text reason) first others.1))
-Writes-more room before between after m ms text texts WriteFault some takes goes_on first others =
-    let own = others.0 in
-    let wrote = others.1 in
-    let begins = others.3 in
-    (own, text ++ wrote, IsOwnReply-more room before.left between.left m ms own some takes goes_on others.2, (begins.0, append_assoc text texts own ∙ (ap (λ xs. text ++ xs) begins.1 ∙ sym (append_assoc text wrote begins.0))), Appends-trans before.written between.written after.written text wrote first others.4)
+-- one text after another
+WritesAndTells-then : (before between after : Outside) (text texts : List ℕ) (told tolds : List When) → WritesAndTells before between text told → WritesAndTells between after texts tolds → WritesAndTells before after (text ++ texts) (told ++ tolds)
+WritesAndTells-then before between after text texts told tolds first others = record {
+  written = Appends-trans before.written between.written after.written text texts first.written others.written;
+  gate = LogGrows-then before.gate between.gate after.gate told tolds first.gate others.gate;
+}
 
--- of one message at most no reply but the last is there
-BreaksOff-front : (room : ℕ) (before after : Outside) (ms : List Message) (texts : List ℕ) (asks : List Ask) (replies : List Reply) (served : Served) → but_last asks ≡ [] → Writes room before after ms texts served → BreaksOff room before after asks replies served
-BreaksOff-front room before after ms texts asks replies WriteFault none writes =
-    (writes.1, rw none writes.4)
-BreaksOff-front room before after ms texts asks replies Closed none writes = tt
-BreaksOff-front room before after ms texts asks replies Full none writes = tt
-BreaksOff-front room before after ms texts asks replies EndedInside none writes = tt
-BreaksOff-front room before after ms texts asks replies (WireFault reason) none writes = tt
-BreaksOff-front room before after ms texts asks replies ReadFault none writes = tt
-BreaksOff-front room before after ms texts asks replies NoMemory none writes = tt
+-- the same where the second text has two parts
+WritesAndTells-parts : (before between after : Outside) (text texts front : List ℕ) (told tolds : List When) → WritesAndTells before between text told → WritesAndTells between after (texts ++ front) tolds → WritesAndTells before after ((text ++ texts) ++ front) (told ++ tolds)
+WritesAndTells-parts before between after text texts front told tolds first others =
+    rw (append_assoc text texts front) (WritesAndTells-then before between after text (texts ++ front) told tolds first others)
 
--- a reply that was written whole, and then others
-BreaksOff-more : (room : ℕ) (before between after : Outside) (ask : Ask) (reply : Reply) (ms : List Message) (texts : List ℕ) (asks : List Ask) (replies : List Reply) (served : Served) → Appends before.written between.written (reply_text reply (ask.message.closes || eqb room 1)) → Writes room before after ms texts served → BreaksOff (room - 1) between after asks replies served → BreaksOff room before after (ask ∷ asks) (reply ∷ replies) served
-BreaksOff-more room before between after ask reply ms texts [] replies served first writes others =
-    BreaksOff-front room before after ms texts (ask ∷ []) (reply ∷ replies) served refl writes
-BreaksOff-more room before between after ask reply ms texts (next ∷ asks) replies WriteFault first writes others =
+-- what is written and told of a message that is answered, with room for so many
+abbrev AnswersOne : ℕ → Outside → Outside → Ask → Reply → Type 0
+AnswersOne room before after ask reply =
+    WritesAndTells before after (reply_text reply (ask.message.closes || eqb room 1)) (Asked (REQUESTS - room) ∷ Answered (REQUESTS - room) ∷ [])
+
+-- a reply that was written whole, and then one that was not
+BreaksReply-more : (room : ℕ) (before between after : Outside) (ask : Ask) (reply : Reply) (asks : List Ask) (replies : List Reply) → AnswersOne room before between ask reply → BreaksReply (room - 1) between after asks replies → BreaksReply room before after (ask ∷ asks) (reply ∷ replies)
+BreaksReply-more room before between after ask reply [] replies first others = absurd (others.some refl)
+BreaksReply-more room before between after ask reply (next ∷ asks) replies first others =
     let text = reply_text reply (ask.message.closes || eqb room 1) in
-    let more = reply_texts (room - 1) (but_last (next ∷ asks)) replies in
-    (others.0, rw (append_assoc text more others.0) (Appends-trans before.written between.written after.written text (more ++ others.0) first others.1))
-BreaksOff-more room before between after ask reply ms texts (next ∷ asks) replies Closed first writes others = tt
-BreaksOff-more room before between after ask reply ms texts (next ∷ asks) replies Full first writes others = tt
-BreaksOff-more room before between after ask reply ms texts (next ∷ asks) replies EndedInside first writes others = tt
-BreaksOff-more room before between after ask reply ms texts (next ∷ asks) replies (WireFault reason) first writes others = tt
-BreaksOff-more room before between after ask reply ms texts (next ∷ asks) replies ReadFault first writes others = tt
-BreaksOff-more room before between after ask reply ms texts (next ∷ asks) replies NoMemory first writes others = tt
+    let texts = reply_texts (room - 1) (but_last (next ∷ asks)) replies in
+    let told : List When = Asked (REQUESTS - room) ∷ Answered (REQUESTS - room) ∷ [] in
+    record {
+      some = λ none. cc;
+      last = others.last;
+      is_last = ap (λ xs. text ++ xs) others.is_last ∙ sym (append_assoc text texts others.last);
+      front = others.front;
+      begins = others.begins;
+      says = WritesAndTells-parts before between after text texts others.front told (but_last (told_of (room - 1) (next ∷ asks))) first others.says;
+    }
+
+-- a reply that was written whole, and then others before the wire's own
+BreaksOwnReply-more : (room : ℕ) (before between after : Outside) (ask : Ask) (reply : Reply) (asks : List Ask) (replies : List Reply) → 0 < room → TakesOne before.left ask.message between.left → (ask.message.closes ≡ false) ⊎ (room ≡ 1) → AnswersOne room before between ask reply → BreaksOwnReply (room - 1) between after asks replies → BreaksOwnReply room before after (ask ∷ asks) (reply ∷ replies)
+BreaksOwnReply-more room before between after ask reply asks replies some takes goes_on first others =
+    let text = reply_text reply (ask.message.closes || eqb room 1) in
+    let told : List When = Asked (REQUESTS - room) ∷ Answered (REQUESTS - room) ∷ [] in
+    record {
+      reason = others.reason;
+      refused = others.refused;
+      ends = refused-more room before.left between.left ask.message (messages_of asks) others.reason some takes goes_on others.ends;
+      front = others.front;
+      begins = others.begins;
+      says = WritesAndTells-parts before between after text (reply_texts (room - 1) asks replies) others.front told (told_of (room - 1) asks) first others.says;
+    }
+
+-- one message that was answered, and then what follows it
+Writes-more : (room : ℕ) (before between after : Outside) (ask : Ask) (reply : Reply) (asks : List Ask) (replies : List Reply) (served : Served) → 0 < room → TakesOne before.left ask.message between.left → (ask.message.closes ≡ false) ⊎ (room ≡ 1) → AnswersOne room before between ask reply → Writes (room - 1) between after asks replies served → Writes room before after (ask ∷ asks) (reply ∷ replies) served
+Writes-more room before between after ask reply asks replies Closed some takes goes_on first others =
+    WritesAndTells-then before between after (reply_text reply (ask.message.closes || eqb room 1)) (reply_texts (room - 1) asks replies) (Asked (REQUESTS - room) ∷ Answered (REQUESTS - room) ∷ []) (told_of (room - 1) asks) first others
+Writes-more room before between after ask reply asks replies Full some takes goes_on first others =
+    WritesAndTells-then before between after (reply_text reply (ask.message.closes || eqb room 1)) (reply_texts (room - 1) asks replies) (Asked (REQUESTS - room) ∷ Answered (REQUESTS - room) ∷ []) (told_of (room - 1) asks) first others
+Writes-more room before between after ask reply asks replies EndedInside some takes goes_on first others =
+    WritesAndTells-then before between after (reply_text reply (ask.message.closes || eqb room 1)) (reply_texts (room - 1) asks replies) (Asked (REQUESTS - room) ∷ Answered (REQUESTS - room) ∷ []) (told_of (room - 1) asks) first others
+Writes-more room before between after ask reply asks replies ReadFault some takes goes_on first others =
+    WritesAndTells-then before between after (reply_text reply (ask.message.closes || eqb room 1)) (reply_texts (room - 1) asks replies) (Asked (REQUESTS - room) ∷ Answered (REQUESTS - room) ∷ []) (told_of (room - 1) asks) first others
+Writes-more room before between after ask reply asks replies NoMemory some takes goes_on first others =
+    WritesAndTells-then before between after (reply_text reply (ask.message.closes || eqb room 1)) (reply_texts (room - 1) asks replies) (Asked (REQUESTS - room) ∷ Answered (REQUESTS - room) ∷ []) (told_of (room - 1) asks) first others
+Writes-more room before between after ask reply asks replies (WireFault reason) some takes goes_on first others =
+    (others.0, WritesAndTells-parts before between after (reply_text reply (ask.message.closes || eqb room 1)) (reply_texts (room - 1) asks replies) (wire_text reason) (Asked (REQUESTS - room) ∷ Answered (REQUESTS - room) ∷ []) (told_of (room - 1) asks) first others.1)
+Writes-more room before between after ask reply asks replies WriteFault some takes goes_on first (inl others) =
+    inl (BreaksReply-more room before between after ask reply asks replies first others)
+Writes-more room before between after ask reply asks replies WriteFault some takes goes_on first (inr others) =
+    inr (BreaksOwnReply-more room before between after ask reply asks replies some takes goes_on first others)
 
 -- one message, and then what follows it
 pub ServesWithin-more : (room : ℕ) (old middle new : Standing) (before between after : Outside) (left : Option (List ℕ)) (served : Served) → 0 < room → Goes room old middle before between left → ServesWithin (room - 1) middle new (record between { left = left }) after served → ServesWithin room old new before after served
@@ -168,7 +187,6 @@ ServesWithin-more room old middle new before between after left served some goes
     let from : Outside = record between { left = left } in
     let others = rest.spoke in
     let ask : Ask = record { message = m; moment = goes.once.moment; id = goes.once.id } in
-    let all = Writes-more room before from after m (messages_of rest.asks) (reply_text goes.reply (m.closes || eqb room 1)) (reply_texts (room - 1) rest.asks rest.replies) served some goes.taken goes.goes_on goes.written others.written in
     record {
       asks = ask ∷ rest.asks;
       replies = goes.reply ∷ rest.replies;
@@ -178,8 +196,7 @@ ServesWithin-more room old middle new before between after left served some goes
         taken = taken-more room before.left left m (messages_of rest.asks) served some goes.taken goes.goes_on others.taken;
         moments = LogGrows-then before.moments between.moments after.moments (goes.once.moment ∷ []) (map (λ (ask : Ask). ask.moment) rest.asks) goes.once.moments others.moments;
         ids = LogGrows-then before.ids between.ids after.ids (goes.once.id ∷ []) (map (λ (ask : Ask). ask.id) rest.asks) goes.once.ids others.ids;
-        written = all;
-        breaks_off = BreaksOff-more room before from after ask goes.reply (m ∷ messages_of rest.asks) (reply_text goes.reply (m.closes || eqb room 1) ++ reply_texts (room - 1) rest.asks rest.replies) rest.asks rest.replies served goes.written all others.breaks_off;
+        written = Writes-more room before from after ask goes.reply rest.asks rest.replies served some goes.taken goes.goes_on (record { written = goes.written; gate = goes.gate }) others.written;
         cause = IsCaused-more before from after served goes.reads_kept goes.writes_kept others.cause;
         reads_later = omega (arith, goes.reads_kept, others.reads_later);
         writes_later = omega (arith, goes.writes_kept, others.writes_later);
@@ -195,6 +212,7 @@ outside left telling reads = record {
   written = telling.written;
   moments = telling.moments;
   ids = telling.ids;
+  gate = telling.gate;
   read_faults = reads;
   write_faults = telling.write_faults;
 }
@@ -211,7 +229,6 @@ ServesWithin-none room old new before after served asked same_spare same_moments
     moments = rw same_moments (LogGrows-none after.moments);
     ids = rw same_ids (LogGrows-none after.ids);
     written = written;
-    breaks_off = BreaksOff-front room before after [] [] [] [] served refl written;
     cause = cause;
     reads_later = reads;
     writes_later = writes;
@@ -221,7 +238,7 @@ ServesWithin-none room old new before after served asked same_spare same_moments
 }
 
 -- one message was asked, and it ended so
-ServesWithin-one : (room : ℕ) (old new : Standing) (before after : Outside) (m : Message) (reply : Reply) (served : Served) → AsksOnce old new before.moments after.moments before.ids after.ids m reply → IsCount room 1 served → IfSome before.left (λ bytes. EndsAs room bytes (m ∷ []) served) → Writes room before after (m ∷ []) (reply_text reply (m.closes || eqb room 1) ++ []) served → IsCaused before after served → before.read_faults ≤ after.read_faults → before.write_faults ≤ after.write_faults → ServesWithin room old new before after served
+ServesWithin-one : (room : ℕ) (old new : Standing) (before after : Outside) (m : Message) (reply : Reply) (served : Served) (once : AsksOnce old new before.moments after.moments before.ids after.ids m reply) → IsCount room 1 served → IfSome before.left (λ bytes. EndsAs room bytes (m ∷ []) served) → Writes room before after (record { message = m; moment = once.moment; id = once.id } ∷ []) (reply ∷ []) served → IsCaused before after served → before.read_faults ≤ after.read_faults → before.write_faults ≤ after.write_faults → ServesWithin room old new before after served
 ServesWithin-one room old new before after m reply served once count taken written cause reads writes = record {
   asks = record { message = m; moment = once.moment; id = once.id } ∷ [];
   replies = reply ∷ [];
@@ -232,7 +249,6 @@ ServesWithin-one room old new before after m reply served once count taken writt
     moments = once.moments;
     ids = once.ids;
     written = written;
-    breaks_off = BreaksOff-front room before after (m ∷ []) (reply_text reply (m.closes || eqb room 1) ++ []) (record { message = m; moment = once.moment; id = once.id } ∷ []) (reply ∷ []) served refl written;
     cause = cause;
     reads_later = reads;
     writes_later = writes;
@@ -268,9 +284,9 @@ no_front : (room : ℕ) (left : Option (List ℕ)) → IfSome left (λ bytes. En
 no_front room None = tt
 no_front room (Some bytes) = tt
 
--- a front of a text is a front of it and of nothing more
-front_alone : (front text : List ℕ) → IsFrontOf front text → IsFrontOf front ((text ++ []) ++ [])
-front_alone front text begins = rw (append-nil text, append-nil text) begins
+-- nothing was written and the gate was told nothing
+nothing_said : (before after : Outside) → Appends before.written after.written [] → before.gate ≡ after.gate → WritesAndTells before after [] []
+nothing_said before after written gate = record { written = written; gate = rw gate (LogGrows-none after.gate) }
 
 -- what one message does to a connection
 pub Turns-from_ends : (room : ℕ) (old new : Standing) (stream left_now rest : Option (List ℕ)) (reads now : ℕ) (before after : Telling) (m : Message) (result : Option Served) → 0 < room → TakesOne stream m rest → now ≡ reads → Ends room old new before after m result → Turns room old new (outside stream before reads) (outside left_now after now) rest result
@@ -282,18 +298,29 @@ Turns-from_ends room old new stream left_now rest reads now before after m None 
       taken = takes;
       once = said.once;
       written = said.written;
+      gate = said.gate;
       goes_on = ends.1;
       reads_kept = kept;
       writes_kept = said.kept;
     }
 Turns-from_ends room old new stream left_now rest reads now before after m (Some Closed) some takes kept ends =
     let said = ends.0 in
-    ServesWithin-one room old new (outside stream before reads) (outside left_now after now) m said.reply Closed said.once (omega arith) (taken_closed room stream rest m some takes ends.1 ends.2) (rw append-nil said.written) (kept, said.kept) (omega (arith, kept)) (omega (arith, said.kept))
+    ServesWithin-one room old new (outside stream before reads) (outside left_now after now) m said.reply Closed said.once (omega arith) (taken_closed room stream rest m some takes ends.1 ends.2) (record { written = rw append-nil said.written; gate = said.gate }) (kept, said.kept) (omega (arith, kept)) (omega (arith, said.kept))
 Turns-from_ends room old new stream left_now rest reads now before after m (Some WriteFault) some takes kept ends =
-    ServesWithin-one room old new (outside stream before reads) (outside left_now after now) m ends.reply WriteFault ends.once (omega arith) (taken_front room stream rest m some takes) ([], ends.written.0, inl refl, front_alone ends.written.0 (reply_text ends.reply (m.closes || eqb room 1)) ends.written.1, ends.written.2) (ends.rose, kept) (omega (arith, kept)) ends.later
+    let text = reply_text ends.reply (m.closes || eqb room 1) in
+    let ask : Ask = record { message = m; moment = ends.once.moment; id = ends.once.id } in
+    let broke : BreaksReply room (outside stream before reads) (outside left_now after now) (ask ∷ []) (ends.reply ∷ []) = record {
+      some = λ none. cc;
+      last = text;
+      is_last = append-nil text;
+      front = ends.written.0;
+      begins = ends.written.1;
+      says = record { written = ends.written.2; gate = ends.gate };
+    } in
+    ServesWithin-one room old new (outside stream before reads) (outside left_now after now) m ends.reply WriteFault ends.once (omega arith) (taken_front room stream rest m some takes) (inl broke) (ends.rose, kept) (omega (arith, kept)) ends.later
 Turns-from_ends room old new stream left_now rest reads now before after m (Some NoMemory) some takes kept ends =
     let P : Telling → Type 0 = λ t. ServesWithin room old new (outside stream before reads) (outside left_now t now) NoMemory in
-    subst P (sym ends.0) (ServesWithin-none room old new (outside stream before reads) (outside left_now before now) NoMemory ends.1 ends.2 refl refl (omega arith) (no_front room stream) (Appends-nil before.written) (kept, refl) (omega (arith, kept)) (omega arith))
+    subst P (sym ends.0) (ServesWithin-none room old new (outside stream before reads) (outside left_now before now) NoMemory ends.1 ends.2 refl refl (omega arith) (no_front room stream) (nothing_said (outside stream before reads) (outside left_now before now) (Appends-nil before.written) refl) (kept, refl) (omega (arith, kept)) (omega arith))
 Turns-from_ends room old new stream left_now rest reads now before after m (Some Full) some takes kept ends =
     absurd ends
 Turns-from_ends room old new stream left_now rest reads now before after m (Some EndedInside) some takes kept ends =
@@ -309,8 +336,8 @@ Turns-answered room old new stream left_now rest reads now before between after 
     let P : Telling → Type 0 = λ t. Ends room old new t after m result in
     Turns-from_ends room old new stream left_now rest reads now before after m result some takes kept (subst P same ends)
 
-pub telling_same : (written written_now moments : Option (List ℕ)) (ids : Option (List (List ℕ))) (faults faults_now : ℕ) → written_now ≡ written → faults_now ≡ faults → ◌≡◌ {A = Telling} (record { written = written_now; moments = moments; ids = ids; write_faults = faults_now }) (record { written = written; moments = moments; ids = ids; write_faults = faults })
-telling_same written written_now moments ids faults faults_now w f = rw (w, f) refl
+pub telling_same : (written written_now moments : Option (List ℕ)) (ids : Option (List (List ℕ))) (gate : Option (List When)) (faults faults_now : ℕ) → written_now ≡ written → faults_now ≡ faults → ◌≡◌ {A = Telling} (record { written = written_now; moments = moments; ids = ids; gate = gate; write_faults = faults_now }) (record { written = written; moments = moments; ids = ids; gate = gate; write_faults = faults })
+telling_same written written_now moments ids gate faults faults_now w f = rw (w, f) refl
 
 -- a stream that gives no message for a reason of its own
 stopped_here : (room : ℕ) (stream : Option (List ℕ)) (reason : Wire) → 0 < room → is_of_stream reason ≡ true → Stops stream reason → IfSome stream (λ bytes. Messages room bytes [] (stopped reason))
@@ -341,47 +368,54 @@ kept_refused before now wire.ReadFault refused kept = cc
 kept_refused before now wire.NoMemory refused kept = kept
 
 -- no message came, and the connection ends so
-pub Turns-refused : (room : ℕ) (old : Standing) (stream left_now : Option (List ℕ)) (reads now : ℕ) (before after : Telling) (reason : Wire) (served : Served) → 0 < room → Stops stream reason → (reason ≡ wire.ReadFault → Rose reads now) → KeepsUnlessFailed reads now reason → reads ≤ now → before.moments ≡ after.moments → before.ids ≡ after.ids → before.write_faults ≤ after.write_faults → Refuses before.written after.written before.write_faults after.write_faults reason served → ServesWithin room old old (outside stream before reads) (outside left_now after now) served
-Turns-refused room old stream left_now reads now before after reason Closed some halts fault keeps later moments ids writes refuses =
+pub Turns-refused : (room : ℕ) (old : Standing) (stream left_now : Option (List ℕ)) (reads now : ℕ) (before after : Telling) (reason : Wire) (served : Served) → 0 < room → Stops stream reason → (reason ≡ wire.ReadFault → Rose reads now) → KeepsUnlessFailed reads now reason → reads ≤ now → before.moments ≡ after.moments → before.ids ≡ after.ids → before.gate ≡ after.gate → before.write_faults ≤ after.write_faults → Refuses before.written after.written before.write_faults after.write_faults reason served → ServesWithin room old old (outside stream before reads) (outside left_now after now) served
+Turns-refused room old stream left_now reads now before after reason Closed some halts fault keeps later moments ids gate writes refuses =
     let Q : Wire → Type 0 = λ r. KeepsUnlessFailed reads now r in
     let P : Wire → Type 0 = λ r. Stops stream r in
-    ServesWithin-none room old old (outside stream before reads) (outside left_now after now) Closed (AsksInTurn-none farm_rules opened old.stands) refl moments ids (omega arith) (closes_there stream (subst P refuses.0 halts)) refuses.1 (subst Q refuses.0 keeps, refuses.2) later writes
+    ServesWithin-none room old old (outside stream before reads) (outside left_now after now) Closed (AsksInTurn-none farm_rules opened old.stands) refl moments ids (omega arith) (closes_there stream (subst P refuses.0 halts)) (nothing_said (outside stream before reads) (outside left_now after now) refuses.1 gate) (subst Q refuses.0 keeps, refuses.2) later writes
   where
     closes_there : (stream : Option (List ℕ)) → Stops stream wire.End → IfSome stream (λ bytes. EndsAs room bytes [] Closed)
     closes_there None halts = tt
     closes_there (Some bytes) halts = inr (stopped_here room (Some bytes) wire.End some refl halts)
-Turns-refused room old stream left_now reads now before after reason EndedInside some halts fault keeps later moments ids writes refuses =
+Turns-refused room old stream left_now reads now before after reason EndedInside some halts fault keeps later moments ids gate writes refuses =
     let Q : Wire → Type 0 = λ r. KeepsUnlessFailed reads now r in
     let P : Wire → Type 0 = λ r. Stops stream r in
-    ServesWithin-none room old old (outside stream before reads) (outside left_now after now) EndedInside (AsksInTurn-none farm_rules opened old.stands) refl moments ids (omega arith) (stopped_here room stream wire.EndedInside some refl (subst P refuses.0 halts)) refuses.1 (subst Q refuses.0 keeps, refuses.2) later writes
-Turns-refused room old stream left_now reads now before after reason ReadFault some halts fault keeps later moments ids writes refuses =
-    ServesWithin-none room old old (outside stream before reads) (outside left_now after now) ReadFault (AsksInTurn-none farm_rules opened old.stands) refl moments ids (omega arith) (no_read stream) refuses.1 (fault refuses.0, refuses.2) later writes
+    ServesWithin-none room old old (outside stream before reads) (outside left_now after now) EndedInside (AsksInTurn-none farm_rules opened old.stands) refl moments ids (omega arith) (stopped_here room stream wire.EndedInside some refl (subst P refuses.0 halts)) (nothing_said (outside stream before reads) (outside left_now after now) refuses.1 gate) (subst Q refuses.0 keeps, refuses.2) later writes
+Turns-refused room old stream left_now reads now before after reason ReadFault some halts fault keeps later moments ids gate writes refuses =
+    ServesWithin-none room old old (outside stream before reads) (outside left_now after now) ReadFault (AsksInTurn-none farm_rules opened old.stands) refl moments ids (omega arith) (no_read stream) (nothing_said (outside stream before reads) (outside left_now after now) refuses.1 gate) (fault refuses.0, refuses.2) later writes
   where
     no_read : (stream : Option (List ℕ)) → IfSome stream (λ bytes. EndsAs room bytes [] ReadFault)
     no_read None = tt
     no_read (Some bytes) = tt
-Turns-refused room old stream left_now reads now before after reason NoMemory some halts fault keeps later moments ids writes refuses =
+Turns-refused room old stream left_now reads now before after reason NoMemory some halts fault keeps later moments ids gate writes refuses =
     let Q : Wire → Type 0 = λ r. KeepsUnlessFailed reads now r in
-    ServesWithin-none room old old (outside stream before reads) (outside left_now after now) NoMemory (AsksInTurn-none farm_rules opened old.stands) refl moments ids (omega arith) (no_front room stream) refuses.1 (subst Q refuses.0 keeps, refuses.2) later writes
-Turns-refused room old stream left_now reads now before after reason (WireFault told) some halts fault keeps later moments ids writes refuses =
+    ServesWithin-none room old old (outside stream before reads) (outside left_now after now) NoMemory (AsksInTurn-none farm_rules opened old.stands) refl moments ids (omega arith) (no_front room stream) (nothing_said (outside stream before reads) (outside left_now after now) refuses.1 gate) (subst Q refuses.0 keeps, refuses.2) later writes
+Turns-refused room old stream left_now reads now before after reason (WireFault told) some halts fault keeps later moments ids gate writes refuses =
     let P : Wire → Type 0 = λ r. Stops stream r in
     let refused : is_refused told ≡ true = rw refuses.0 refuses.1 in
-    ServesWithin-none room old old (outside stream before reads) (outside left_now after now) (WireFault told) (AsksInTurn-none farm_rules opened old.stands) refl moments ids (omega arith) (stopped_here room stream told some (refused-of_stream told refused) (subst P (sym refuses.0) halts)) (refused, rw refuses.0 refuses.2) (kept_refused reads now reason refuses.1 keeps, refuses.3) later writes
-Turns-refused room old stream left_now reads now before after reason WriteFault some halts fault keeps later moments ids writes refuses =
+    ServesWithin-none room old old (outside stream before reads) (outside left_now after now) (WireFault told) (AsksInTurn-none farm_rules opened old.stands) refl moments ids (omega arith) (stopped_here room stream told some (refused-of_stream told refused) (subst P (sym refuses.0) halts)) (refused, record { written = rw refuses.0 refuses.2; gate = rw gate (LogGrows-none after.gate) }) (kept_refused reads now reason refuses.1 keeps, refuses.3) later writes
+Turns-refused room old stream left_now reads now before after reason WriteFault some halts fault keeps later moments ids gate writes refuses =
     let there = stopped_here room stream reason some (refused-of_stream reason refuses.0) halts in
-    let front = refuses.1 in
-    ServesWithin-none room old old (outside stream before reads) (outside left_now after now) WriteFault (AsksInTurn-none farm_rules opened old.stands) refl moments ids (omega arith) (no_write stream) (wire_text reason, front.0, inr (reason, refuses.0, refl, there), front.1, front.2) (refuses.2, kept_refused reads now reason refuses.0 keeps) later writes
+    let broke : BreaksOwnReply room (outside stream before reads) (outside left_now after now) [] [] = record {
+      reason = reason;
+      refused = refuses.0;
+      ends = there;
+      front = refuses.1.0;
+      begins = refuses.1.1;
+      says = record { written = refuses.1.2; gate = rw gate (LogGrows-none after.gate) };
+    } in
+    ServesWithin-none room old old (outside stream before reads) (outside left_now after now) WriteFault (AsksInTurn-none farm_rules opened old.stands) refl moments ids (omega arith) (no_write stream) (inr broke) (refuses.2, kept_refused reads now reason refuses.0 keeps) later writes
   where
     no_write : (stream : Option (List ℕ)) → IfSome stream (λ bytes. EndsAs room bytes [] WriteFault)
     no_write None = tt
     no_write (Some bytes) = tt
-Turns-refused room old stream left_now reads now before after reason Full some halts fault keeps later moments ids writes refuses =
+Turns-refused room old stream left_now reads now before after reason Full some halts fault keeps later moments ids gate writes refuses =
     absurd refuses
 
 -- the room is used up
 pub ServesWithin-full : (room : ℕ) (old : Standing) (stream left_now : Option (List ℕ)) (reads : ℕ) (before : Telling) → room ≡ 0 → ServesWithin room old old (outside stream before reads) (outside left_now before reads) Full
 ServesWithin-full room old stream left_now reads before none =
-    ServesWithin-none room old old (outside stream before reads) (outside left_now before reads) Full (AsksInTurn-none farm_rules opened old.stands) refl refl refl (sym none) (all_taken stream) (Appends-nil before.written) (refl, refl) (omega arith) (omega arith)
+    ServesWithin-none room old old (outside stream before reads) (outside left_now before reads) Full (AsksInTurn-none farm_rules opened old.stands) refl refl refl (sym none) (all_taken stream) (nothing_said (outside stream before reads) (outside left_now before reads) (Appends-nil before.written) refl) (refl, refl) (omega arith) (omega arith)
   where
     all_taken : (stream : Option (List ℕ)) → IfSome stream (λ bytes. EndsAs room bytes [] Full)
     all_taken None = tt
@@ -390,7 +424,7 @@ ServesWithin-full room old stream left_now reads before none =
 -- want of memory before the first message
 pub ServesWithin-no_memory : (room : ℕ) (old : Standing) (before : Outside) → ServesWithin room old old before before NoMemory
 ServesWithin-no_memory room old before =
-    ServesWithin-none room old old before before NoMemory (AsksInTurn-none farm_rules opened old.stands) refl refl refl (omega arith) (no_front room before.left) (Appends-nil before.written) (refl, refl) (omega arith) (omega arith)
+    ServesWithin-none room old old before before NoMemory (AsksInTurn-none farm_rules opened old.stands) refl refl refl (omega arith) (no_front room before.left) (nothing_said before before (Appends-nil before.written) refl) (refl, refl) (omega arith) (omega arith)
 
 -- one message, and then what follows it with the room that is left then
 pub ServesWithin-next : (room next : ℕ) (old middle new : Standing) (before between after : Outside) (left : Option (List ℕ)) (served : Served) → next ≡ room - 1 → 0 < room → Goes room old middle before between left → ServesWithin next middle new (record between { left = left }) after served → ServesWithin room old new before after served

@@ -1,5 +1,5 @@
--- What one connection did: which messages were asked, with which moments and ids, what was written, and why it ended.
-use Rattle.std.specs.Prelude.{◌≡◌, ℕ, ◌+◌, ◌-◌, ◌<◌, ◌≤◌, ◌⊎◌, List, [], ◌∷◌, ◌++◌, length, map, Bool, true, false, ◌||◌, ◌==◌, Option, IfSome}
+-- What one connection did: which messages were asked, with which moments and ids, what was written, what the gate was told, and why it ended.
+use Rattle.std.specs.Prelude.{◌≡◌, ◌≢◌, ℕ, ◌+◌, ◌-◌, ◌<◌, ◌≤◌, ◌⊎◌, List, [], ◌∷◌, ◌++◌, length, map, Bool, true, false, ◌||◌, ◌==◌, Option, IfSome}
 use Rattle.std.specs.Bool.{MatchBool}
 use Rattle.std.specs.Io.KnownBytes.{Appends}
 use Rattle.causes.specs.Causes.{Rose}
@@ -16,16 +16,19 @@ use Rattle.farm_machine.specs.Law.{Opening, opened}
 use Rattle.farm_machine.specs.Step.{farm_rules}
 use Rattle.farm_server.specs.ReplyText.{reply_text, wire_text}
 use Rattle.farm_server.specs.Routes.{question_of}
+use Rattle.farm_server.specs.declared.gate.When.{When}
+use Rattle.farm_server.specs.declared.gate.When.TheVariants.{Asked, Answered}
 use Rattle.farm_server.specs.declared.served.Served.{Served}
 use Rattle.farm_server.specs.declared.served.Served.TheVariants.{Closed, EndedInside, WireFault, ReadFault, WriteFault, Full, NoMemory}
 use Rattle.farm_server.specs.declared.served.TheConstants.{REQUESTS}
 
--- what the outside tells at one moment: what is left to read, what was written, which moments and ids were told, and both counts of faults
+-- what the outside tells at one moment: what is left to read, what was written, which moments and ids were told, what the gate was told, and both counts of faults
 pub record Outside : Type 0 where
   pub left : Option (List ℕ)
   pub written : Option (List ℕ)
   pub moments : Option (List ℕ)
   pub ids : Option (List (List ℕ))
+  pub gate : Option (List When)
   pub read_faults : ℕ
   pub write_faults : ℕ
 
@@ -74,19 +77,10 @@ EndsAs room bytes messages ReadFault = IsFront room bytes messages
 EndsAs room bytes messages WriteFault = IsFront room bytes messages
 EndsAs room bytes messages NoMemory = IsFront room bytes messages
 
--- The wire's own reply, which follows the last message of a list that ends with a refusal; or there is none.
-abbrev pub IsOwnReply : ℕ → Option (List ℕ) → List Message → List ℕ → Type 0
-IsOwnReply room left messages own =
-    (own ≡ []) ⊎ ((reason : Wire) × (is_refused reason ≡ true) × (own ≡ wire_text reason)
-    × IfSome left (λ bytes. Messages room bytes messages (stopped reason)))
-
--- What was written: the texts of the replies, and then the wire's own reply where it refuses; after a failed write a front of that.
-abbrev pub Writes : ℕ → Outside → Outside → List Message → List ℕ → Served → Type 0
-Writes room before after messages texts (WireFault reason) =
-    (is_refused reason ≡ true) × Appends before.written after.written (texts ++ wire_text reason)
-Writes room before after messages texts WriteFault =
-    (own wrote : List ℕ) × IsOwnReply room before.left messages own × IsFrontOf wrote (texts ++ own) × Appends before.written after.written wrote
-Writes room before after messages texts served = Appends before.written after.written texts
+-- What a gate is told of asks, with room for so many messages: of each in turn that it is asked, and then that it is answered. The place of one is how many a connection had before it.
+abbrev pub told_of : ℕ → List Ask → List When
+told_of room [] = []
+told_of room (ask ∷ asks) = Asked (REQUESTS - room) ∷ Answered (REQUESTS - room) ∷ told_of (room - 1) asks
 
 -- all but the last
 abbrev pub but_last : {A : Type 0} → List A → List A
@@ -94,11 +88,35 @@ but_last [] = []
 but_last (x ∷ []) = []
 but_last (x ∷ y ∷ ys) = x ∷ but_last (y ∷ ys)
 
--- no message was asked after a failed write: what was written has the texts of all replies but the last one
-abbrev pub BreaksOff : ℕ → Outside → Outside → List Ask → List Reply → Served → Type 0
-BreaksOff room before after asks replies WriteFault =
-    (front : List ℕ) × Appends before.written after.written (reply_texts room (but_last asks) replies ++ front)
-BreaksOff room before after asks replies served = Unit {0}
+-- this text was written, and the gate was told this
+pub record WritesAndTells (before after : Outside) (text : List ℕ) (told : List When) : Type 0 where
+  pub written : Appends before.written after.written text
+  pub gate : LogGrows before.gate after.gate told
+
+-- A write of a reply failed: the replies to all asks but the last were written, then a front of the last reply, and the gate was not told that the last ask is answered.
+pub record BreaksReply (room : ℕ) (before after : Outside) (asks : List Ask) (replies : List Reply) : Type 0 where
+  pub some : asks ≢ []
+  pub last : List ℕ
+  pub is_last : reply_texts room asks replies ≡ reply_texts room (but_last asks) replies ++ last
+  pub front : List ℕ
+  pub begins : IsFrontOf front last
+  pub says : WritesAndTells before after (reply_texts room (but_last asks) replies ++ front) (but_last (told_of room asks))
+
+-- A write of the wire's own reply failed: the list of messages ends with this refusal, all replies were written, then a front of the wire's own, and the gate was told of all asks.
+pub record BreaksOwnReply (room : ℕ) (before after : Outside) (asks : List Ask) (replies : List Reply) : Type 0 where
+  pub reason : Wire
+  pub refused : is_refused reason ≡ true
+  pub ends : IfSome before.left (λ bytes. Messages room bytes (messages_of asks) (stopped reason))
+  pub front : List ℕ
+  pub begins : IsFrontOf front (wire_text reason)
+  pub says : WritesAndTells before after (reply_texts room asks replies ++ front) (told_of room asks)
+
+-- What was written, and what the gate was told: the texts of the replies, and then the wire's own reply where it refuses; or the write of one of them failed.
+abbrev pub Writes : ℕ → Outside → Outside → List Ask → List Reply → Served → Type 0
+Writes room before after asks replies (WireFault reason) =
+    (is_refused reason ≡ true) × WritesAndTells before after (reply_texts room asks replies ++ wire_text reason) (told_of room asks)
+Writes room before after asks replies WriteFault = BreaksReply room before after asks replies ⊎ BreaksOwnReply room before after asks replies
+Writes room before after asks replies served = WritesAndTells before after (reply_texts room asks replies) (told_of room asks)
 
 -- a failed read and a failed write have their counts as cause; a count of what did not fail is as it was
 abbrev pub IsCaused : Outside → Outside → Served → Type 0
@@ -118,8 +136,7 @@ pub record SpokeWithin (room : ℕ) (before after : Outside) (asks : List Ask) (
   pub taken : IfSome before.left (λ bytes. EndsAs room bytes (messages_of asks) served)
   pub moments : LogGrows before.moments after.moments (map (λ ask. ask.moment) asks)
   pub ids : LogGrows before.ids after.ids (map (λ ask. ask.id) asks)
-  pub written : Writes room before after (messages_of asks) (reply_texts room asks replies) served
-  pub breaks_off : BreaksOff room before after asks replies served
+  pub written : Writes room before after asks replies served
   pub cause : IsCaused before after served
   pub reads_later : before.read_faults ≤ after.read_faults
   pub writes_later : before.write_faults ≤ after.write_faults

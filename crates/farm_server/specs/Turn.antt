@@ -1,5 +1,5 @@
 -- What one step of a connection does.
-use Rattle.std.specs.Prelude.{◌≡◌, ◌≢◌, ℕ, ◌+◌, ◌≤◌, ◌⊎◌, List, [], ◌∷◌, true, false, ◌||◌, ◌==◌, Option, Some, None}
+use Rattle.std.specs.Prelude.{◌≡◌, ◌≢◌, ℕ, ◌+◌, ◌-◌, ◌≤◌, ◌⊎◌, List, [], ◌∷◌, true, false, ◌||◌, ◌==◌, Option, Some, None}
 use Rattle.std.specs.Io.KnownBytes.{Appends}
 use Rattle.causes.specs.Causes.{Rose}
 use Rattle.causes.specs.Logs.{LogGrows}
@@ -15,14 +15,18 @@ use Rattle.farm_machine.specs.Step.{farm_rules}
 use Rattle.farm_server.specs.ReplyText.{reply_text, wire_text}
 use Rattle.farm_server.specs.Routes.{question_of}
 use Rattle.farm_server.specs.Served.{Outside, is_refused, Standing, ServesWithin}
+use Rattle.farm_server.specs.declared.gate.When.{When}
+use Rattle.farm_server.specs.declared.gate.When.TheVariants.{Asked, Answered}
 use Rattle.farm_server.specs.declared.served.Served.{Served}
 use Rattle.farm_server.specs.declared.served.Served.TheVariants.{Closed, EndedInside, WireFault, ReadFault, WriteFault, Full, NoMemory}
+use Rattle.farm_server.specs.declared.served.TheConstants.{REQUESTS}
 
--- what the outside tells of answers: what was written, which moments and ids were told, and how many writes failed
+-- what the outside tells of answers: what was written, which moments and ids were told, what the gate was told, and how many writes failed
 pub record Telling : Type 0 where
   pub written : Option (List ℕ)
   pub moments : Option (List ℕ)
   pub ids : Option (List (List ℕ))
+  pub gate : Option (List When)
   pub write_faults : ℕ
 
 -- One message was asked: one moment and one id were told for it, and the desk was asked once.
@@ -34,18 +38,20 @@ pub record AsksOnce (old new : Standing) (moments_before moments_after : Option 
   pub asked : AsksInTurn farm_rules opened old.stands new.stands (question_of message moment id ∷ []) (reply ∷ [])
   pub spent : old.spare ≡ new.spare + 1
 
--- One message was asked, and its reply was written.
+-- One message was asked, and its reply was written; the gate was told both.
 pub record Answers (room : ℕ) (old new : Standing) (before after : Telling) (message : Message) : Type 0 where
   pub reply : Reply
   pub once : AsksOnce old new before.moments after.moments before.ids after.ids message reply
   pub written : Appends before.written after.written (reply_text reply (message.closes || (room == 1)))
+  pub gate : LogGrows before.gate after.gate (Asked (REQUESTS - room) ∷ Answered (REQUESTS - room) ∷ [])
   pub kept : after.write_faults ≡ before.write_faults
 
--- One message was asked, and a write of its reply failed.
+-- One message was asked, which the gate was told, and a write of its reply failed.
 pub record Breaks (room : ℕ) (old new : Standing) (before after : Telling) (message : Message) : Type 0 where
   pub reply : Reply
   pub once : AsksOnce old new before.moments after.moments before.ids after.ids message reply
   pub written : AppendsFront before.written after.written (reply_text reply (message.closes || (room == 1)))
+  pub gate : LogGrows before.gate after.gate (Asked (REQUESTS - room) ∷ [])
   pub rose : Rose before.write_faults after.write_faults
   pub later : before.write_faults ≤ after.write_faults
 
@@ -78,6 +84,7 @@ pub record Goes (room : ℕ) (old new : Standing) (before after : Outside) (rest
   pub taken : TakesOne before.left message rest
   pub once : AsksOnce old new before.moments after.moments before.ids after.ids message reply
   pub written : Appends before.written after.written (reply_text reply (message.closes || (room == 1)))
+  pub gate : LogGrows before.gate after.gate (Asked (REQUESTS - room) ∷ Answered (REQUESTS - room) ∷ [])
   pub goes_on : (message.closes ≡ false) ⊎ (room ≡ 1)
   pub reads_kept : after.read_faults ≡ before.read_faults
   pub writes_kept : after.write_faults ≡ before.write_faults

@@ -24,8 +24,10 @@ use std::alloc::Global;
 /// order, until the stream ends, a request closes it (section 9.6), or a thousand were answered.
 ///
 /// For each request the clock is read once, one id is drawn and the desk is asked once, so a desk that has a thousand asks
-/// left is needed. The gate is told before each ask and after each reply. Of the answers but `NoMemory` each has its cause
-/// in the bytes that were read or in a count of the link.
+/// left is needed. The gate is told of each request in turn, before the desk is asked and after the reply is written, but
+/// of no reply whose write failed. That it is told before the desk is asked, no clause says: the logs of two objects have
+/// no order between them. Of the answers but `NoMemory` each has its cause in the bytes that were read or in a count of the
+/// link.
 pub fn serve_connection<
     L: Link,
     K: Desk<Question = Question, Answer = Asked, Law = Farm>,
@@ -43,6 +45,7 @@ pub fn serve_connection<
           written = L.written link.old;
           moments = C.told clock.old;
           ids = R.told draws.old;
+          gate = G.told gate.old;
           read_faults = L.read_faults link.old;
           write_faults = L.write_faults link.old;
         })
@@ -51,6 +54,7 @@ pub fn serve_connection<
           written = L.written link.new;
           moments = C.told clock.new;
           ids = R.told draws.new;
+          gate = G.told gate.new;
           read_faults = L.read_faults link.new;
           write_faults = L.write_faults link.new;
         })
@@ -97,6 +101,7 @@ fn turn<
           written = L.written link.old;
           moments = C.told clock.old;
           ids = R.told draws.old;
+          gate = G.told gate.old;
           read_faults = L.read_faults link.old;
           write_faults = L.write_faults link.old;
         })
@@ -105,6 +110,7 @@ fn turn<
           written = L.written link.new;
           moments = C.told clock.new;
           ids = R.told draws.new;
+          gate = G.told gate.new;
           read_faults = L.read_faults link.new;
           write_faults = L.write_faults link.new;
         })
@@ -143,12 +149,14 @@ fn answer<
           written = L.written link.old;
           moments = C.told clock.old;
           ids = R.told draws.old;
+          gate = G.told gate.old;
           write_faults = L.write_faults link.old;
         })
         (record {
           written = L.written link.new;
           moments = C.told clock.new;
           ids = R.told draws.new;
+          gate = G.told gate.new;
           write_faults = L.write_faults link.new;
         })
         message.now result }

@@ -1,3 +1,7 @@
+ghost use Rattle.std.specs.Prelude.{List, [], ◌∷◌, Option, None};
+ghost use Rattle.causes.specs.Logs.{LogGrows};
+ghost use Rattle.farm_server.specs.declared.gate.When.{When};
+
 /// Where a connection stands with the n-th of its requests, from 0.
 #[derive(Clone, Copy, Debug, PartialEq, Eq)]
 pub enum When {
@@ -9,7 +13,11 @@ pub enum When {
 
 /// Is told where a connection stands, so that a test can hold it there.
 pub trait Gate {
-    fn at(&mut self, when: When);
+    /// What the gate was told so far, where it is kept.
+    ghost told: { Self → Option (List When) };
+
+    fn at(&mut self, when: When)
+        ensures { LogGrows (told self.old) (told self.new) (when ∷ []) };
 }
 
 /// Does nothing.
@@ -17,5 +25,7 @@ pub trait Gate {
 pub struct NoGate;
 
 impl Gate for NoGate {
+    ghost told = { λ _. None };
+
     fn at(&mut self, _when: When) {}
 }

@@ -13,7 +13,7 @@ returns-in-Ok-clause-turns g c =
     let some : 0 < REQUESTS - c.args.place = omega arith in
     let takes : TakesOne (prepend_known c.args.reader.now (g.L.Link.left c.args.link.now)) c.in-Ok.message (prepend_known c.next_request.new.self (g.L.Link.left c.answer.new.link)) = rw c.answer.ensures.left c.in-Ok.ensures.message in
     let kept : g.L.Link.read_faults c.answer.new.link ≡ g.L.Link.read_faults c.args.link.now = c.answer.ensures.read_faults ∙ c.in-Ok.ensures.same_reads in
-    Turns-answered (REQUESTS - c.args.place) _ _ _ _ _ _ _ _ _ _ c.in-Ok.message c.answer.result some takes kept (telling_same _ _ _ _ _ _ c.in-Ok.ensures.written c.in-Ok.ensures.write_faults) c.answer.ensures.ends
+    Turns-answered (REQUESTS - c.args.place) _ _ _ _ _ _ _ _ _ _ c.in-Ok.message c.answer.result some takes kept (telling_same _ _ _ _ _ _ _ c.in-Ok.ensures.written c.in-Ok.ensures.write_faults) c.answer.ensures.ends
 
 pub returns-in-Err-clause-turns : goal.returns-in-Err-clause-turns
 returns-in-Err-clause-turns g c =
@@ -22,4 +22,4 @@ returns-in-Err-clause-turns g c =
     let fault : c.in-Err.reason ≡ ReadFault → Rose (g.L.Link.read_faults c.args.link.now) (g.L.Link.read_faults c.refuse.new.link) = λ is. rw c.refuse.ensures.read_faults (c.in-Err.ensures.fault (ap Err is)) in
     let writes : g.L.Link.write_faults c.args.link.now ≤ g.L.Link.write_faults c.refuse.new.link = omega (arith, c.in-Err.ensures.write_faults, c.refuse.ensures.later) in
     let refuses : Refuses (g.L.Link.written c.args.link.now) (g.L.Link.written c.refuse.new.link) (g.L.Link.write_faults c.args.link.now) (g.L.Link.write_faults c.refuse.new.link) c.in-Err.reason c.refuse.result = rw (← c.in-Err.ensures.written, ← c.in-Err.ensures.write_faults) c.refuse.ensures.refuses in
-    Turns-refused (REQUESTS - c.args.place) _ _ _ _ _ _ _ c.in-Err.reason c.refuse.result some c.in-Err.ensures.stops fault (rw c.refuse.ensures.read_faults c.in-Err.ensures.same_reads) later refl refl writes refuses
+    Turns-refused (REQUESTS - c.args.place) _ _ _ _ _ _ _ c.in-Err.reason c.refuse.result some c.in-Err.ensures.stops fault (rw c.refuse.ensures.read_faults c.in-Err.ensures.same_reads) later refl refl refl writes refuses
