@@ -1,5 +1,5 @@
 //! Connections over links in memory, with what the queue service's reference and HTTP/1.1 say of them.
-ghost use Rattle.std.specs.Prelude.{◌≤◌, ◌^◌};
+ghost use Rattle.std.specs.Prelude.{◌≤◌, ◌^◌, Option, Some, None, if◌then◌else◌};
 ghost use Rattle.history.specs.Histories.{Leads};
 ghost use Rattle.farm_desk.specs.Home.{nowhere};
 ghost use Rattle.farm_machine.specs.Law.{opened};
@@ -53,11 +53,12 @@ struct Output {
     written: Vec<u8>,
 }
 
-/// Serves the input over this desk.
-fn serve_over<K: Desk<Question = Question, Answer = Asked, Law = Farm>>(
+/// Serves the input over this desk, and tells this gate.
+fn serve_over<K: Desk<Question = Question, Answer = Asked, Law = Farm>, G: Gate>(
     alloc: Global,
     input: &Input,
     desk: &mut K,
+    gate: &mut G,
 ) -> Result<Output, AllocError>
     requires { REQUESTS ≤ K.spare desk.old }
 {
@@ -73,7 +74,7 @@ fn serve_over<K: Desk<Question = Question, Answer = Asked, Law = Farm>>(
     };
     let mut clock = ListClock::new(Vec::new(alloc));
     let mut draws = ListDraws::new(Vec::new(alloc));
-    let served = serve_connection(alloc, &mut link, desk, &mut clock, &mut draws, &mut NoGate);
+    let served = serve_connection(alloc, &mut link, desk, &mut clock, &mut draws, gate);
     let written = Vec::from_slice(alloc, link.sink.written())?;
     Ok(Output { served, written })
 }
@@ -95,7 +96,7 @@ fn config(alloc: Global) -> Result<Config, Fail> {
 /// Serves the input over an empty farm.
 fn serve(alloc: Global, input: &Input) -> Result<Output, Fail> {
     let mut desk = Solo::new(Bare::new(alloc, config(alloc)?));
-    Ok(serve_over(alloc, input, &mut desk)?)
+    Ok(serve_over(alloc, input, &mut desk, &mut NoGate)?)
 }
 
 fn both(alloc: Global, first: &[u8], second: &[u8]) -> Result<Vec<u8>, AllocError> {
@@ -269,9 +270,69 @@ fn others_may_ask_between(rt: HostRuntime) -> Result<(), Fail> {
         others,
         left: 1_000,
     };
-    let output = serve_over(alloc, &Input::of(PING), &mut desk)?;
+    let output = serve_over(alloc, &Input::of(PING), &mut desk, &mut NoGate)?;
     assert_eq!(rt; output.served, Served::Closed);
     assert_eq!(rt; output.written.as_slice(), ALIVE);
     assert_eq!(rt; desk.left(), 999);
+    Ok(())
+}
+
+/// A gate that keeps what it is told, until memory runs out.
+#[derive(Drop)]
+struct Notebook {
+    kept: Vec<When>,
+    is_lost: bool,
+}
+
+impl Gate for Notebook {
+    ghost told = { λ gate. (if gate.is_lost then None else Some gate.kept.items) };
+
+    fn at(&mut self, when: When) {
+        if self.kept.push(when).is_err() {
+            self.is_lost = true;
+        }
+    }
+}
+
+/// What the gate is told where this input is served.
+fn told_of(alloc: Global, input: &Input) -> Result<Vec<When>, Fail> {
+    let mut desk = Solo::new(Bare::new(alloc, config(alloc)?));
+    let mut gate = Notebook {
+        kept: Vec::new(alloc),
+        is_lost: false,
+    };
+    let _ = serve_over(alloc, input, &mut desk, &mut gate)?;
+    if gate.is_lost {
+        return Err(Fail::from("memory ran out"));
+    }
+    Ok(gate.kept)
+}
+
+#[test]
+fn the_gate_is_told_of_each_ask_and_reply(rt: HostRuntime) -> Result<(), Fail> {
+    let alloc = rt.alloc();
+    let pings = both(alloc, PING, PING)?;
+    let told = told_of(alloc, &Input::of(&pings))?;
+    let wanted = [
+        When::Asked(0),
+        When::Answered(0),
+        When::Asked(1),
+        When::Answered(1),
+    ];
+    assert_eq!(rt; told.as_slice(), wanted.as_slice());
+    Ok(())
+}
+
+#[test]
+fn the_gate_is_not_told_of_a_reply_that_failed(rt: HostRuntime) -> Result<(), Fail> {
+    let alloc = rt.alloc();
+    let pings = both(alloc, PING, PING)?;
+    let input = Input {
+        bytes: &pings,
+        failing_reads: &[],
+        failing_writes: &[0],
+    };
+    let told = told_of(alloc, &input)?;
+    assert_eq!(rt; told.as_slice(), [When::Asked(0)].as_slice());
     Ok(())
 }
