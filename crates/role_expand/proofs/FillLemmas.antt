@@ -52,7 +52,7 @@ FillsHole-one parameter scope s t form (inr h) (inr k) = h.1 ∙ sym k.1
 same_head : (x y : ℕ) (xs ys : List ℕ) → x ∷ xs ≡ y ∷ ys → x ≡ y
 same_head x y xs ys e = cc
 
-same_tail : (x y : ℕ) (xs ys : List ℕ) → x ∷ xs ≡ y ∷ ys → xs ≡ ys
+pub same_tail : (x y : ℕ) (xs ys : List ℕ) → x ∷ xs ≡ y ∷ ys → xs ≡ ys
 same_tail x y xs ys e = cc
 
 -- another place of `<..>` comes before the one that is cut out, is it, or stands in the rest

@@ -9,3 +9,5 @@ pub mod SetLemmas
 pub mod StarLemmas
 pub mod LengthLemmas
 pub mod RefusalLemmas
+pub mod DecisionLemmas
+pub mod ExistenceLemmas

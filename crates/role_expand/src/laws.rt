@@ -1,5 +1,5 @@
 //! What follows from the definitions. The functions do nothing: each contract is a law.
-ghost use Rattle.std.specs.Prelude.{◌≡◌, ℕ, ◌≤◌, List, Contains, length};
+ghost use Rattle.std.specs.Prelude.{◌≡◌, ℕ, ◌≤◌, ◌⊎◌, List, Contains, length};
 ghost use Rattle.scope_sets.specs.Scopes.{EndsWithTwoStars};
 ghost use Rattle.role_expand.specs.declared.expansion.TheConstants.{MOST_SCOPES};
 ghost use Rattle.role_expand.specs.Roles.{RoleData};
@@ -20,6 +20,12 @@ pub fn the_closure_is_one()
 pub fn a_closure_is_not_too_many()
     ensures { (most : ℕ) (roles : List RoleData) (start set : List (List ℕ))
         → IsClosure most roles start set → ¬ HasMoreDerivable most roles start }
+{}
+
+/// Each start list has a closure over an accepted set of roles, or more scopes are derivable than a closure may have.
+pub fn a_start_list_has_a_closure_or_too_many()
+    ensures { (most longest : ℕ) (roles : List RoleData) (start : List (List ℕ)) → IsAccepted longest roles
+        → ((set : List (List ℕ)) × IsClosure most roles start set) ⊎ HasMoreDerivable most roles start }
 {}
 
 /// No derivable scope of an accepted set ends with `**` where no start scope does.
