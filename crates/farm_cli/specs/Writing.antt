@@ -2,17 +2,15 @@
 use Rattle.std.specs.Prelude.{◌≡◌, ℕ, ◌⊎◌, List, Option}
 use Rattle.std.specs.Io.KnownBytes.{Appends}
 use Rattle.causes.specs.Causes.{Rose}
-use Rattle.http_wire.specs.Whole.{IsFrontOf, AppendsFront}
+use Rattle.http_wire.specs.Whole.{AppendsFront}
 use Rattle.farm_cli.specs.declared.status.Status.{Status}
 use Rattle.farm_cli.specs.declared.status.Status.TheVariants.{Done, Write}
 use Rattle.farm_cli.specs.Views.{Talk}
 
--- a front of a text was written: all of it, where no write failed
-pub record WritesFront (written_before written_after : Option (List ℕ)) (faults_before faults_after : ℕ) (text : List ℕ) : Type 0 where
-  pub front : List ℕ
-  pub is_front : IsFrontOf front text
-  pub appends : Appends written_before written_after front
-  pub whole : (front ≡ text) ⊎ Rose faults_before faults_after
+-- all of a text was written; or a write failed, and a front of it was
+abbrev pub WritesFront : Option (List ℕ) → Option (List ℕ) → ℕ → ℕ → List ℕ → Type 0
+WritesFront written_before written_after faults_before faults_after text =
+    Appends written_before written_after text ⊎ (AppendsFront written_before written_after text × Rose faults_before faults_after)
 
 -- the console was not read
 pub record SameReads (before after : Talk) : Type 0 where

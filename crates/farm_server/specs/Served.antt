@@ -9,7 +9,7 @@ use Rattle.http_wire.specs.declared.message.Message.{Message}
 use Rattle.http_wire.specs.declared.message.Wire.{Wire}
 use Rattle.http_wire.specs.declared.message.Wire.TheVariants as wire
 use Rattle.http_wire.specs.Stream.{whole, Gives, Messages, stopped, closed, full}
-use Rattle.http_wire.specs.Whole.{IsFrontOf}
+use Rattle.http_wire.specs.Whole.{IsProperFrontOf}
 use Rattle.farm_machine.specs.declared.reply.Reply.{Reply}
 use Rattle.farm_machine.specs.Entry.{Asking, Entry}
 use Rattle.farm_machine.specs.Law.{Opening, opened}
@@ -99,7 +99,7 @@ pub record BreaksReply (room : ℕ) (before after : Outside) (asks : List Ask) (
   pub last : List ℕ
   pub is_last : reply_texts room asks replies ≡ reply_texts room (but_last asks) replies ++ last
   pub front : List ℕ
-  pub begins : IsFrontOf front last
+  pub begins : IsProperFrontOf front last
   pub says : WritesAndTells before after (reply_texts room (but_last asks) replies ++ front) (but_last (told_of room asks))
 
 -- A write of the wire's own reply failed: the list of messages ends with this refusal, all replies were written, then a front of the wire's own, and the gate was told of all asks.
@@ -108,7 +108,7 @@ pub record BreaksOwnReply (room : ℕ) (before after : Outside) (asks : List Ask
   pub refused : is_refused reason ≡ true
   pub ends : IfSome before.left (λ bytes. Messages room bytes (messages_of asks) (stopped reason))
   pub front : List ℕ
-  pub begins : IsFrontOf front (wire_text reason)
+  pub begins : IsProperFrontOf front (wire_text reason)
   pub says : WritesAndTells before after (reply_texts room asks replies ++ front) (told_of room asks)
 
 -- What was written, and what the gate was told: the texts of the replies, and then the wire's own reply where it refuses; or the write of one of them failed.

@@ -52,9 +52,25 @@ fn write_joined<L: Link>(link: &mut L, head: &[u8], body: &[u8]) -> Result<(), F
     ensures read_faults { L.read_faults link.new ≡ L.read_faults link.old }
 {
     let mut piece = [0; PIECE];
-    let end = head.len() + body.len();
-    join(&mut piece[..end], head, body);
-    write_all(link, &piece[..end])
+    write_through(link, &mut piece[..head.len() + body.len()], head, body)
+}
+
+/// The same, put together in this piece, which it fills.
+fn write_through<L: Link>(
+    link: &mut L,
+    piece: &mut [u8],
+    head: &[u8],
+    body: &[u8],
+) -> Result<(), Failed>
+    requires { length piece.old ≡ length head.now + length body.now }
+    ensures ok { OnOk result (Appends (L.written link.old) (L.written link.new) (head.now ++ body.now)) }
+    ensures front { OnErr result (AppendsFront (L.written link.old) (L.written link.new) (head.now ++ body.now)) }
+    ensures cause { HasCause (L.write_faults link.old) (L.write_faults link.new) result }
+    ensures left { L.left link.new ≡ L.left link.old }
+    ensures read_faults { L.read_faults link.new ≡ L.read_faults link.old }
+{
+    join(piece, head, body);
+    write_all(link, piece)
 }
 
 /// Makes the piece the bytes of the one and then of the other.

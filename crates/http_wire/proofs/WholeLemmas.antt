@@ -1,5 +1,5 @@
 -- Bytes that are written or read piece by piece.
-use Rattle.std.proofs.Common.{◌≡◌, ℕ, ◌≤◌, List, [], ◌++◌, length, take, drop, Option, Some, None, refl, sym, ap, ◌∙◌, append_assoc, append-nil}
+use Rattle.std.proofs.Common.{◌≡◌, ℕ, ◌<◌, ◌≤◌, List, [], ◌++◌, length, take, drop, Option, Some, None, refl, sym, ap, ◌∙◌, append_assoc, append-nil}
 use Rattle.std.proofs.KnownBytes.{Appends-nil, Appends-trans, Appends-kept, Keeps-trans}
 use Rattle.std.proofs.lemmas.List.{take-append-drop}
 use Rattle.std.specs.Io.KnownBytes.{prepend_known, Appends, Consumes, Keeps}
@@ -25,9 +25,9 @@ pub HasWritten-all : (before now : Option (List ℕ)) (bytes rest : List ℕ) �
 HasWritten-all before now bytes rest so_far none =
     rw (so_far.is, none, append-nil so_far.done) so_far.appends
 
-pub HasWritten-front : (before between now : Option (List ℕ)) (bytes rest : List ℕ) → HasWritten before between bytes rest → Keeps between now → AppendsFront before now bytes
-HasWritten-front before between now bytes rest so_far kept =
-    (so_far.done, (rest, so_far.is), Appends-kept before between now so_far.done so_far.appends kept)
+pub HasWritten-front : (before between now : Option (List ℕ)) (bytes rest : List ℕ) → 0 < length rest → HasWritten before between bytes rest → Keeps between now → AppendsFront before now bytes
+HasWritten-front before between now bytes rest some so_far kept =
+    (so_far.done, (rest, some, so_far.is), Appends-kept before between now so_far.done so_far.appends kept)
 
 -- ---- what was read
 

@@ -1,17 +1,17 @@
 -- All bytes written to a link or read from one, by calls that each move some of them (as `write` and `read` of POSIX, IEEE 1003.1).
-use Rattle.std.specs.Prelude.{◌≡◌, ℕ, ◌≤◌, List, ◌++◌, length, Option}
+use Rattle.std.specs.Prelude.{◌≡◌, ℕ, ◌<◌, ◌≤◌, List, ◌++◌, length, Option}
 use Rattle.std.specs.Io.KnownBytes.{Appends, Consumes}
 use Rattle.causes.specs.Causes.{Rose}
 use Rattle.http_wire.specs.declared.whole.ReadAllFault.{ReadAllFault}
 use Rattle.http_wire.specs.declared.whole.ReadAllFault.TheVariants.{Failed, NoMemory}
 
--- front is how text begins
-abbrev pub IsFrontOf : List ℕ → List ℕ → Type 0
-IsFrontOf front text = (more : List ℕ) × (text ≡ front ++ more)
+-- front is how text begins, and more of the text follows
+abbrev pub IsProperFrontOf : List ℕ → List ℕ → Type 0
+IsProperFrontOf front text = (more : List ℕ) × (0 < length more) × (text ≡ front ++ more)
 
--- known bytes grow by a front of these
+-- known bytes grow by a front of these, and not by all of them
 abbrev pub AppendsFront : Option (List ℕ) → Option (List ℕ) → List ℕ → Type 0
-AppendsFront before after text = (front : List ℕ) × IsFrontOf front text × Appends before after front
+AppendsFront before after text = (front : List ℕ) × IsProperFrontOf front text × Appends before after front
 
 -- the most that one read takes
 abbrev pub piece_size : ℕ

@@ -10,7 +10,7 @@ use crate::message::Wire;
 use causes::Failed;
 use std::alloc::Global;
 
-/// Writes all of the bytes. Where a write fails, a front of them is written.
+/// Writes all of the bytes. Where a write fails, a front of them is written, and not all.
 pub fn write_all<L: Link>(link: &mut L, bytes: &[u8]) -> Result<(), Failed>
     ensures ok { OnOk result (Appends (L.written link.old) (L.written link.new) bytes.now) }
     ensures front { OnErr result (AppendsFront (L.written link.old) (L.written link.new) bytes.now) }
