@@ -1,9 +1,12 @@
--- What a caller may do is one.
-use Rattle.std.proofs.Common.{◌≡◌, List, ℕ, sym, ap, ◌∙◌}
+-- What a caller may do: it is one, and each caller has it.
+use Rattle.std.proofs.Common.{◌≡◌, inl, inr, List, ℕ, codes, refl, sym, ap, ◌∙◌}
+use Rattle.role_expand.specs.Cycles.{IsAccepted}
 use Rattle.role_expand.specs.Roles.{RoleData}
 use Rattle.role_expand.specs.declared.expansion.TheConstants.{MOST_SCOPES}
+use Rattle.role_expand.proofs.ExistenceLemmas.{closure_or_too_many}
 use Rattle.role_expand.proofs.SetLemmas.{closure_is_one, closure_or_more}
 use Rattle.farm_machine.specs.Access.{Expands, HasAccess, anonymous_scopes}
+use Rattle.farm_machine.specs.Replies.{not_authentic, expansion_limit}
 use Rattle.farm_machine.specs.declared.access.Access.{Access}
 use Rattle.farm_machine.specs.declared.access.Access.TheVariants.{Has, Refused}
 use Rattle.farm_machine.specs.declared.question.Caller.{Caller}
@@ -20,3 +23,12 @@ expands_once roles start (Refused a) (Refused b) p q = ap Refused (p.1 ∙ sym q
 pub HasAccess-one : (roles : List RoleData) (caller : Caller) (a b : Access) → HasAccess roles caller a → HasAccess roles caller b → a ≡ b
 HasAccess-one roles Anonymous a b p q = expands_once roles anonymous_scopes a b p q
 HasAccess-one roles BadHeader a b p q = p ∙ sym q
+
+-- each caller has some access, over accepted roles
+pub HasAccess-some : (longest : ℕ) (roles : List RoleData) (caller : Caller) → IsAccepted longest roles → (access : Access) × HasAccess roles caller access
+HasAccess-some longest roles BadHeader accepted = (Refused (not_authentic (codes "BadHeader")), refl)
+HasAccess-some longest roles Anonymous accepted =
+    elim (closure_or_too_many MOST_SCOPES longest roles anonymous_scopes accepted) [
+      | inl closure ↦ (Has closure.0, closure.1)
+      | inr more ↦ (Refused expansion_limit, (more, refl))
+    ]

@@ -1,5 +1,6 @@
 -- The verdict is one, and it is the first answer that strikes in the order of refusals, which is one too.
-use Rattle.std.proofs.Common.{◌≡◌, ℕ, inl, inr, List, [], ◌∷◌, Option, Some, None, refl, sym, ap, ◌∙◌}
+use Rattle.std.proofs.Common.{◌≡◌, ℕ, inl, inr, List, [], ◌∷◌, Option, Some, None, codes, refl, sym, ap, ◌∙◌}
+use Rattle.role_expand.specs.Cycles.{IsAccepted}
 use Rattle.role_expand.specs.Roles.{RoleData}
 use Rattle.farm_machine.specs.declared.access.Access.{Access}
 use Rattle.farm_machine.specs.declared.access.Access.TheVariants.{Has, Refused}
@@ -10,10 +11,10 @@ use Rattle.farm_machine.specs.declared.reply.Answer.{Answer}
 use Rattle.farm_machine.specs.Access.{HasAccess}
 use Rattle.farm_machine.specs.Entry.{Asking}
 use Rattle.farm_machine.specs.Judgement.{Judgement, only_answer}
-use Rattle.farm_machine.specs.Replies.{alive}
+use Rattle.farm_machine.specs.Replies.{alive, not_found, bad_parameter}
 use Rattle.farm_machine.specs.State.{Row, State, row_with}
-use Rattle.farm_machine.specs.Verdict.{with_access, status_of, IsAfterAccess, IsJudgement, IsVerdict, HasNoRoute, HasBadParameter, HasNoAccess, IsAbsent, IsNotThere, IsDone, IsFirst, answers_in_order}
-use Rattle.farm_machine.proofs.AccessLemmas.{HasAccess-one}
+use Rattle.farm_machine.specs.Verdict.{parameter_name, with_access, status_of, IsAfterAccess, IsJudgement, IsVerdict, HasNoRoute, HasBadParameter, HasNoAccess, IsAbsent, IsNotThere, IsDone, IsFirst, answers_in_order}
+use Rattle.farm_machine.proofs.AccessLemmas.{HasAccess-one, HasAccess-some}
 
 -- ---- the verdict is one
 
@@ -32,6 +33,23 @@ judged_once (Status id) caller state a b p q = after_access_once state.config.ro
 pub IsVerdict-one : (state : State) (asking : Asking) (a b : Judgement) → IsVerdict state asking a → IsVerdict state asking b → a ≡ b
 unfolding IsVerdict
 IsVerdict-one state asking a b p q = judged_once asking.call asking.caller state a b p q
+
+-- ---- each call has one
+
+after_access_some : (longest : ℕ) (roles : List RoleData) (caller : Caller) (allowed : Judgement) → IsAccepted longest roles → (judgement : Judgement) × IsAfterAccess roles caller allowed judgement
+after_access_some longest roles caller allowed accepted =
+    let has = HasAccess-some longest roles caller accepted in (with_access has.0 allowed, (has.0, has.1, refl))
+
+judged_some : (longest : ℕ) (call : Call) (caller : Caller) (state : State) → IsAccepted longest state.config.roles → (judgement : Judgement) × IsJudgement call caller state judgement
+judged_some longest (NoRoute name) caller state accepted = (only_answer (not_found (codes "route") name), refl)
+judged_some longest (BadParameter parameter) caller state accepted = (only_answer (bad_parameter (parameter_name parameter)), refl)
+judged_some longest Ping caller state accepted = after_access_some longest state.config.roles caller (only_answer alive) accepted
+judged_some longest (Status id) caller state accepted = after_access_some longest state.config.roles caller (status_of id (row_with id state.contents.rows)) accepted
+
+-- each call has a verdict, over accepted roles
+pub IsVerdict-some : (longest : ℕ) (state : State) (asking : Asking) → IsAccepted longest state.config.roles → (judgement : Judgement) × IsVerdict state asking judgement
+unfolding IsVerdict
+IsVerdict-some longest state asking accepted = judged_some longest asking.call asking.caller state accepted
 
 -- ---- it is the first answer that strikes
 

@@ -1,6 +1,7 @@
 //! The law of a farm: the marker that names it, and laws about it.
 
-ghost use Rattle.std.specs.Prelude.{◌≡◌};
+ghost use Rattle.std.specs.Prelude.{◌≡◌, ℕ};
+ghost use Rattle.role_expand.specs.Cycles.{IsAccepted};
 ghost use Rattle.farm_machine.specs.Entry.{Asking};
 ghost use Rattle.farm_machine.specs.State.{State};
 ghost use Rattle.farm_machine.specs.Judgement.{Judgement};
@@ -78,4 +79,10 @@ pub fn verdict_is_one()
         → IsVerdict state asking judgement → IsFirst (answers_in_order state asking) judgement.answer }
     ensures only { (state : State) (asking : Asking) (answer other : Told)
         → IsFirst (answers_in_order state asking) answer → IsFirst (answers_in_order state asking) other → answer ≡ other }
+{}
+
+/// Each call has a verdict, over each accepted set of roles.
+pub fn each_call_has_a_verdict()
+    ensures { (longest : ℕ) (state : State) (asking : Asking) → IsAccepted longest state.config.roles
+        → (judgement : Judgement) × IsVerdict state asking judgement }
 {}
