@@ -98,6 +98,10 @@ fn requests_are_answered(rt: HostRuntime) -> Result<(), Fail> {
         b"HTTP/1.1 200 OK\r\nContent-Length: 14\r\nContent-Type: application/json\r\n\r\n{\"alive\":true}HTTP/1.1 404 Not Found\r\nContent-Length: 119\r\nContent-Type: application/json\r\n\r\n{\"code\":\"ResourceNotFound\",\"details\":{\"kind\":\"task\",\"name\":\"AAAAAAAAQACAAAAAAAAAAA\"},\"message\":\"nothing has that name\"}";
     assert_eq!(rt; done.output.as_slice(), output);
     assert_eq!(rt; done.notes.len(), 0);
+
+    let empty = outcome_of(rt.alloc(), &Case::over(b"\r\n"))?;
+    assert_eq!(rt; empty.status, Status::Done);
+    assert_eq!(rt; empty.output.len(), 0);
     Ok(())
 }
 

@@ -9,7 +9,7 @@ ghost use Rattle.farm_files.specs.declared.roles.TheConstants.{MOST_ROLES};
 ghost use Rattle.farm_files.specs.declared.settings.TheConstants.{LONGEST_HOST};
 ghost use Rattle.farm_files.specs.declared.fault.Fault.{Fault as AnyFault};
 
-/// A file says one thing: a configuration, or one first fault, and never both.
+/// A file says at most one configuration and has at most one first fault, and never both.
 pub fn a_file_says_one_thing()
     ensures farm { (longest : ℕ) (bytes : List ℕ) (a b : AnyConfig) → Says longest bytes a → Says longest bytes b → a ≡ b }
     ensures fault { (longest : ℕ) (bytes : List ℕ) (f g : AnyFault) → IsFirst (Breaks longest bytes) f → IsFirst (Breaks longest bytes) g → f ≡ g }

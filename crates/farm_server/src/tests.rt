@@ -187,17 +187,40 @@ fn a_stream_may_end_at_each_byte(rt: HostRuntime) -> Result<(), Fail> {
 }
 
 #[test]
-fn what_is_not_read_is_refused(rt: HostRuntime) -> Result<(), Fail> {
-    let alloc = rt.alloc();
-    let output = serve(
-        alloc,
-        &Input::of(b"POST / HTTP/1.1\r\nContent-Length: 1048577\r\n\r\n"),
-    )?;
-    assert_eq!(rt; output.served, Served::WireFault(Wire::BodyTooLarge));
-    assert_eq!(rt;
-        output.written.as_slice(),
-        b"HTTP/1.1 413 Payload Too Large\r\nConnection: close\r\nContent-Length: 72\r\nContent-Type: application/json\r\n\r\n{\"code\":\"PayloadTooLarge\",\"details\":{},\"message\":\"the body is too long\"}".as_slice()
-    );
+fn each_stream_ends_as_it_has_to(rt: HostRuntime) -> Result<(), Fail> {
+    let rows: [(&[u8], Served, &[u8]); 6] = [
+        (
+            b"POST /api/queue/v1/task/x/cancel HTTP/1.1\r\nContent-Length: 1048577\r\n\r\n",
+            Served::WireFault(Wire::BodyTooLarge),
+            b"HTTP/1.1 413 Payload Too Large\r\nConnection: close\r\nContent-Length: 72\r\nContent-Type: application/json\r\n\r\n{\"code\":\"PayloadTooLarge\",\"details\":{},\"message\":\"the body is too long\"}",
+        ),
+        (
+            b"POST /api/queue/v1/task/x/cancel HTTP/1.1\r\nTransfer-Encoding: chunked\r\n\r\n",
+            Served::WireFault(Wire::NoLength),
+            b"HTTP/1.1 411 Length Required\r\nConnection: close\r\nContent-Length: 69\r\nContent-Type: application/json\r\n\r\n{\"code\":\"LengthRequired\",\"details\":{},\"message\":\"a length is needed\"}",
+        ),
+        (
+            b"GET\r\n\r\n",
+            Served::WireFault(Wire::HeadFault),
+            b"HTTP/1.1 400 Bad Request\r\nConnection: close\r\nContent-Length: 57\r\nContent-Type: application/json\r\n\r\n{\"code\":\"BadHead\",\"details\":{},\"message\":\"not a request\"}",
+        ),
+        (b"\r\n", Served::Closed, b""),
+        (
+            b"GET /api/queue/v1/task/AAAAAAAAQACAAAAAAAAAAQ/status HTTP/1.1\r\nConnection: close\r\n\r\nGET /api/queue/v1/ping HTTP/1.1\r\n\r\n",
+            Served::Closed,
+            b"HTTP/1.1 404 Not Found\r\nConnection: close\r\nContent-Length: 119\r\nContent-Type: application/json\r\n\r\n{\"code\":\"ResourceNotFound\",\"details\":{\"kind\":\"task\",\"name\":\"AAAAAAAAQACAAAAAAAAAAQ\"},\"message\":\"nothing has that name\"}",
+        ),
+        (
+            b"GET /api/queue/v1/ping HTTP/1.1\r\nAuthorization: x\r\n\r\n",
+            Served::Closed,
+            b"HTTP/1.1 401 Unauthorized\r\nContent-Length: 106\r\nContent-Type: application/json\r\n\r\n{\"code\":\"AuthenticationFailed\",\"details\":{\"reason\":\"BadHeader\"},\"message\":\"the caller is not who it says\"}",
+        ),
+    ];
+    for (input, served, written) in rows {
+        let output = serve(rt.alloc(), &Input::of(input))?;
+        assert_eq!(rt; output.served, served);
+        assert_eq!(rt; output.written.as_slice(), written);
+    }
     Ok(())
 }
 
