@@ -1,6 +1,7 @@
 pub mod Framing
 pub mod Front
 pub mod Head
+pub mod Host
 pub mod List
 pub mod Memory
 pub mod Message

@@ -1,5 +1,9 @@
-//! Sources, sinks and links of the host, which do not tell what passes through them.
-ghost use Rattle.std.specs.Prelude.{◌≡◌, None};
+//! Sources, sinks and links of the host. They tell as much of what passes through them as the reader or writer below does.
+ghost use Rattle.std.specs.Prelude.{◌≡◌, ◌<◌, length, IfOk};
+ghost use Rattle.std.specs.Io.{ReadsAtMost, WritesAtMost};
+ghost use Rattle.std.specs.Io.KnownBytes.{ReadConsumes, WriteAppends};
+ghost use Rattle.causes.specs.Causes.{HasCause};
+ghost use Rattle.http_wire.specs.Host.{untold};
 
 use crate::link::{Link, Sink, Source};
 use causes::{Failed, FaultCount};
@@ -13,9 +17,10 @@ pub struct HostSource<R> {
 }
 
 impl<R: Read> HostSource<R> {
-    /// No read has failed.
+    /// All that the reader has left is left, and no read has failed.
     pub fn new(inner: R) -> Self
-        ensures { ⟦<HostSource<R> as Source>⟧.faults result ≡ 0 }
+        ensures left { ⟦<HostSource<R> as Source>⟧.left result ≡ R.remaining inner }
+        ensures faults { ⟦<HostSource<R> as Source>⟧.faults result ≡ 0 }
     {
         HostSource {
             inner,
@@ -25,7 +30,7 @@ impl<R: Read> HostSource<R> {
 }
 
 impl<R: Read> Source for HostSource<R> {
-    ghost left = { λ _. None };
+    ghost left = { λ s. R.remaining s.inner };
 
     ghost faults = { λ s. s.faults };
 
@@ -48,9 +53,10 @@ pub struct HostSink<W> {
 }
 
 impl<W: Write> HostSink<W> {
-    /// No write has failed.
+    /// What the writer holds is written, and no write has failed.
     pub fn new(inner: W) -> Self
-        ensures { ⟦<HostSink<W> as Sink>⟧.faults result ≡ 0 }
+        ensures written { ⟦<HostSink<W> as Sink>⟧.written result ≡ W.contents inner }
+        ensures faults { ⟦<HostSink<W> as Sink>⟧.faults result ≡ 0 }
     {
         HostSink {
             inner,
@@ -60,7 +66,7 @@ impl<W: Write> HostSink<W> {
 }
 
 impl<W: Write> Sink for HostSink<W> {
-    ghost written = { λ _. None };
+    ghost written = { λ s. W.contents s.inner };
 
     ghost faults = { λ s. s.faults };
 
@@ -76,6 +82,9 @@ impl<W: Write> Sink for HostSink<W> {
 }
 
 /// A link over any stream, as a socket.
+///
+/// It tells nothing as a link, since a stream says of a read nothing about what is written, nor the other way; its `read` and `write`
+/// say of themselves what the stream does.
 #[derive(Drop)]
 pub struct StreamLink<S> {
     inner: S,
@@ -98,15 +107,24 @@ impl<S: Read + Write> StreamLink<S> {
 }
 
 impl<S: Read + Write> Link for StreamLink<S> {
-    ghost left = { λ _. None };
+    ghost left = { λ _. untold };
 
-    ghost written = { λ _. None };
+    ghost written = { λ _. untold };
 
     ghost read_faults = { λ s. s.read_faults };
 
     ghost write_faults = { λ s. s.write_faults };
 
-    fn read(&mut self, buf: &mut [u8]) -> Result<usize, Failed> {
+    fn read(&mut self, buf: &mut [u8]) -> Result<usize, Failed>
+        ensures bound { ReadsAtMost result buf.new }
+        ensures bytes { ReadConsumes untold untold result buf.new }
+        ensures cause { HasCause self.old.read_faults self.new.read_faults result }
+        ensures written { untold ≡ untold }
+        ensures write_faults { self.new.write_faults ≡ self.old.write_faults }
+
+        // It is a read of the stream below.
+        ensures below { ReadConsumes (S.remaining self.old.inner) (S.remaining self.new.inner) result buf.new }
+    {
         match self.inner.read(buf) {
             Ok(count) => Ok(count),
             Err(_) => {
@@ -116,7 +134,17 @@ impl<S: Read + Write> Link for StreamLink<S> {
         }
     }
 
-    fn write(&mut self, buf: &[u8]) -> Result<usize, Failed> {
+    fn write(&mut self, buf: &[u8]) -> Result<usize, Failed>
+        ensures bound { WritesAtMost result buf.now }
+        ensures some { IfOk result (λ n. 0 < length buf.now → 0 < n) }
+        ensures bytes { WriteAppends untold untold result buf.now }
+        ensures cause { HasCause self.old.write_faults self.new.write_faults result }
+        ensures left { untold ≡ untold }
+        ensures read_faults { self.new.read_faults ≡ self.old.read_faults }
+
+        // It is a write to the stream below.
+        ensures below { WriteAppends (S.contents self.old.inner) (S.contents self.new.inner) result buf.now }
+    {
         match self.inner.write(buf) {
             Ok(count) if count > 0 || buf.is_empty() => Ok(count),
             _ => {
