@@ -87,7 +87,7 @@ finished bytes asks replies messages ending before after served.Full list list' 
 finished bytes asks replies messages ending before after served.EndedInside list list' writes cause reads_well writes_well =
     inr (finished_by bytes (messages_of asks) messages (stopped wire.EndedInside) ending before.written after.written (reply_texts REQUESTS asks replies) Wire list list' refl refl writes.written)
 finished bytes asks replies messages ending before after (served.WireFault reason) list list' writes cause reads_well writes_well =
-    inr (finished_by_refusal bytes (messages_of asks) messages reason ending before.written after.written (reply_texts REQUESTS asks replies) list list' writes.0 writes.1.written)
+    inr (finished_by_refusal bytes (messages_of asks) messages reason ending before.written after.written (reply_texts REQUESTS asks replies) list.1 list' writes.0 writes.1.written)
 finished bytes asks replies messages ending before after served.ReadFault list list' writes cause reads_well writes_well = absurd (reads_well cause.0)
 finished bytes asks replies messages ending before after served.WriteFault list list' writes cause reads_well writes_well = absurd (writes_well cause.0)
 finished bytes asks replies messages ending before after served.NoMemory list list' writes cause reads_well writes_well = inl refl

@@ -17,7 +17,7 @@ use Rattle.farm_machine.specs.Law.{opened}
 use Rattle.farm_machine.specs.Step.{farm_rules}
 use Rattle.farm_server.specs.ReplyText.{reply_text, wire_text}
 use Rattle.farm_server.specs.Routes.{question_of}
-use Rattle.farm_server.specs.Served.{Outside, Ask, messages_of, questions_of, reply_texts, IsFront, is_refused, EndsAs, told_of, but_last, WritesAndTells, BreaksReply, BreaksOwnReply, Writes, IsCaused, IsCount, Standing, ServesWithin}
+use Rattle.farm_server.specs.Served.{Outside, Ask, messages_of, questions_of, reply_texts, IsFront, IsOpenFront, is_refused, EndsAs, told_of, but_last, WritesAndTells, BreaksReply, BreaksOwnReply, Writes, IsCaused, IsCount, Standing, ServesWithin}
 use Rattle.farm_server.specs.Turn.{Telling, AsksOnce, Ends, Refuses, Goes, Turns}
 use Rattle.farm_server.specs.declared.gate.When.{When}
 use Rattle.farm_server.specs.declared.gate.When.TheVariants.{Asked, Answered}
@@ -64,6 +64,16 @@ IsFront-more room bytes rest m ms true some is gives goes_on others =
     only_last (inl no_way) = cc
     only_last (inr last) = last
 
+-- a front that the list does not end with has room for one more
+IsOpenFront-room : (room : ℕ) (bytes : List ℕ) (ms : List Message) → IsOpenFront room bytes ms → 0 < room
+IsOpenFront-room room bytes [] front = front
+IsOpenFront-room room bytes (m ∷ ms) front = front.0
+
+IsOpenFront-more : (room : ℕ) (bytes rest : List ℕ) (m : Message) (ms : List Message) → 0 < room → Gives bytes (whole m rest) → (m.closes ≡ false) ⊎ (room ≡ 1) → IsOpenFront (room - 1) rest ms → IsOpenFront room bytes (m ∷ ms)
+IsOpenFront-more room bytes rest m ms some gives (inl goes_on) others = (some, (rest, gives, goes_on, others))
+IsOpenFront-more room bytes rest m ms some gives (inr last) others =
+    absurd (omega (arith, last, IsOpenFront-room (room - 1) rest ms others))
+
 EndsAs-more : (room : ℕ) (bytes rest : List ℕ) (m : Message) (ms : List Message) (served : Served) → 0 < room → Gives bytes (whole m rest) → (m.closes ≡ false) ⊎ (room ≡ 1) → EndsAs (room - 1) rest ms served → EndsAs room bytes (m ∷ ms) served
 EndsAs-more room bytes rest m ms Closed some gives goes_on (inl others) =
     inl (Messages-more room bytes rest m ms closed m.closes some refl gives goes_on others)
@@ -74,13 +84,13 @@ EndsAs-more room bytes rest m ms Full some gives goes_on others =
 EndsAs-more room bytes rest m ms EndedInside some gives goes_on others =
     Messages-more room bytes rest m ms (stopped wire.EndedInside) m.closes some refl gives goes_on others
 EndsAs-more room bytes rest m ms (WireFault reason) some gives goes_on others =
-    Messages-more room bytes rest m ms (stopped reason) m.closes some refl gives goes_on others
+    (others.0, Messages-more room bytes rest m ms (stopped reason) m.closes some refl gives goes_on others.1)
 EndsAs-more room bytes rest m ms ReadFault some gives goes_on others =
-    IsFront-more room bytes rest m ms m.closes some refl gives goes_on others
+    IsOpenFront-more room bytes rest m ms some gives goes_on others
 EndsAs-more room bytes rest m ms WriteFault some gives goes_on others =
     IsFront-more room bytes rest m ms m.closes some refl gives goes_on others
 EndsAs-more room bytes rest m ms NoMemory some gives goes_on others =
-    IsFront-more room bytes rest m ms m.closes some refl gives goes_on others
+    IsOpenFront-more room bytes rest m ms some gives goes_on others
 
 -- the same where it is not known whether the bytes are told
 taken-more : (room : ℕ) (left next : Option (List ℕ)) (m : Message) (ms : List Message) (served : Served) → 0 < room → TakesOne left m next → (m.closes ≡ false) ⊎ (room ≡ 1) → IfSome next (λ bytes. EndsAs (room - 1) bytes ms served) → IfSome left (λ bytes. EndsAs room bytes (m ∷ ms) served)
@@ -280,9 +290,13 @@ taken_front room (Some bytes) None m some takes = absurd takes
 taken_front room (Some bytes) (Some rest) m some takes =
     IsFront-one room bytes rest m m.closes some refl takes
 
-no_front : (room : ℕ) (left : Option (List ℕ)) → IfSome left (λ bytes. EndsAs room bytes [] NoMemory)
-no_front room None = tt
-no_front room (Some bytes) = tt
+no_front : (room : ℕ) (left : Option (List ℕ)) → 0 < room → IfSome left (λ bytes. EndsAs room bytes [] NoMemory)
+no_front room None some = tt
+no_front room (Some bytes) some = some
+
+refused_here : (room : ℕ) (left : Option (List ℕ)) (reason : Wire) → is_refused reason ≡ true → IfSome left (λ bytes. Messages room bytes [] (stopped reason)) → IfSome left (λ bytes. EndsAs room bytes [] (WireFault reason))
+refused_here room None reason refused there = tt
+refused_here room (Some bytes) reason refused there = (refused, there)
 
 -- nothing was written and the gate was told nothing
 nothing_said : (before after : Outside) → Appends before.written after.written [] → before.gate ≡ after.gate → WritesAndTells before after [] []
@@ -305,7 +319,7 @@ Turns-from_ends room old new stream left_now rest reads now before after m None 
     }
 Turns-from_ends room old new stream left_now rest reads now before after m (Some Closed) some takes kept ends =
     let said = ends.0 in
-    ServesWithin-one room old new (outside stream before reads) (outside left_now after now) m said.reply Closed said.once (omega arith) (taken_closed room stream rest m some takes ends.1 ends.2) (record { written = rw append-nil said.written; gate = said.gate }) (kept, said.kept) (omega (arith, kept)) (omega (arith, said.kept))
+    ServesWithin-one room old new (outside stream before reads) (outside left_now after now) m said.reply Closed said.once (omega (arith, some, ends.2)) (taken_closed room stream rest m some takes ends.1 ends.2) (record { written = rw append-nil said.written; gate = said.gate }) (kept, said.kept) (omega (arith, kept)) (omega (arith, said.kept))
 Turns-from_ends room old new stream left_now rest reads now before after m (Some WriteFault) some takes kept ends =
     let text = reply_text ends.reply (m.closes || eqb room 1) in
     let ask : Ask = record { message = m; moment = ends.once.moment; id = ends.once.id } in
@@ -320,7 +334,7 @@ Turns-from_ends room old new stream left_now rest reads now before after m (Some
     ServesWithin-one room old new (outside stream before reads) (outside left_now after now) m ends.reply WriteFault ends.once (omega arith) (taken_front room stream rest m some takes) (inl broke) (ends.rose, kept) (omega (arith, kept)) ends.later
 Turns-from_ends room old new stream left_now rest reads now before after m (Some NoMemory) some takes kept ends =
     let P : Telling → Type 0 = λ t. ServesWithin room old new (outside stream before reads) (outside left_now t now) NoMemory in
-    subst P (sym ends.0) (ServesWithin-none room old new (outside stream before reads) (outside left_now before now) NoMemory ends.1 ends.2 refl refl (omega arith) (no_front room stream) (nothing_said (outside stream before reads) (outside left_now before now) (Appends-nil before.written) refl) (kept, refl) (omega (arith, kept)) (omega arith))
+    subst P (sym ends.0) (ServesWithin-none room old new (outside stream before reads) (outside left_now before now) NoMemory ends.1 ends.2 refl refl (omega arith) (no_front room stream some) (nothing_said (outside stream before reads) (outside left_now before now) (Appends-nil before.written) refl) (kept, refl) (omega (arith, kept)) (omega arith))
 Turns-from_ends room old new stream left_now rest reads now before after m (Some Full) some takes kept ends =
     absurd ends
 Turns-from_ends room old new stream left_now rest reads now before after m (Some EndedInside) some takes kept ends =
@@ -386,14 +400,14 @@ Turns-refused room old stream left_now reads now before after reason ReadFault s
   where
     no_read : (stream : Option (List ℕ)) → IfSome stream (λ bytes. EndsAs room bytes [] ReadFault)
     no_read None = tt
-    no_read (Some bytes) = tt
+    no_read (Some bytes) = some
 Turns-refused room old stream left_now reads now before after reason NoMemory some halts fault keeps later moments ids gate writes refuses =
     let Q : Wire → Type 0 = λ r. KeepsUnlessFailed reads now r in
-    ServesWithin-none room old old (outside stream before reads) (outside left_now after now) NoMemory (AsksInTurn-none farm_rules opened old.stands) refl moments ids (omega arith) (no_front room stream) (nothing_said (outside stream before reads) (outside left_now after now) refuses.1 gate) (subst Q refuses.0 keeps, refuses.2) later writes
+    ServesWithin-none room old old (outside stream before reads) (outside left_now after now) NoMemory (AsksInTurn-none farm_rules opened old.stands) refl moments ids (omega arith) (no_front room stream some) (nothing_said (outside stream before reads) (outside left_now after now) refuses.1 gate) (subst Q refuses.0 keeps, refuses.2) later writes
 Turns-refused room old stream left_now reads now before after reason (WireFault told) some halts fault keeps later moments ids gate writes refuses =
     let P : Wire → Type 0 = λ r. Stops stream r in
     let refused : is_refused told ≡ true = rw refuses.0 refuses.1 in
-    ServesWithin-none room old old (outside stream before reads) (outside left_now after now) (WireFault told) (AsksInTurn-none farm_rules opened old.stands) refl moments ids (omega arith) (stopped_here room stream told some (refused-of_stream told refused) (subst P (sym refuses.0) halts)) (refused, record { written = rw refuses.0 refuses.2; gate = rw gate (LogGrows-none after.gate) }) (kept_refused reads now reason refuses.1 keeps, refuses.3) later writes
+    ServesWithin-none room old old (outside stream before reads) (outside left_now after now) (WireFault told) (AsksInTurn-none farm_rules opened old.stands) refl moments ids (omega arith) (refused_here room stream told refused (stopped_here room stream told some (refused-of_stream told refused) (subst P (sym refuses.0) halts))) (refused, record { written = rw refuses.0 refuses.2; gate = rw gate (LogGrows-none after.gate) }) (kept_refused reads now reason refuses.1 keeps, refuses.3) later writes
 Turns-refused room old stream left_now reads now before after reason WriteFault some halts fault keeps later moments ids gate writes refuses =
     let there = stopped_here room stream reason some (refused-of_stream reason refuses.0) halts in
     let broke : BreaksOwnReply room (outside stream before reads) (outside left_now after now) [] [] = record {
@@ -422,9 +436,9 @@ ServesWithin-full room old stream left_now reads before none =
     all_taken (Some bytes) = inl (none, refl)
 
 -- want of memory before the first message
-pub ServesWithin-no_memory : (room : ℕ) (old : Standing) (before : Outside) → ServesWithin room old old before before NoMemory
-ServesWithin-no_memory room old before =
-    ServesWithin-none room old old before before NoMemory (AsksInTurn-none farm_rules opened old.stands) refl refl refl (omega arith) (no_front room before.left) (nothing_said before before (Appends-nil before.written) refl) (refl, refl) (omega arith) (omega arith)
+pub ServesWithin-no_memory : (room : ℕ) (old : Standing) (before : Outside) → 0 < room → ServesWithin room old old before before NoMemory
+ServesWithin-no_memory room old before some =
+    ServesWithin-none room old old before before NoMemory (AsksInTurn-none farm_rules opened old.stands) refl refl refl (omega arith) (no_front room before.left some) (nothing_said before before (Appends-nil before.written) refl) (refl, refl) (omega arith) (omega arith)
 
 -- one message, and then what follows it with the room that is left then
 pub ServesWithin-next : (room next : ℕ) (old middle new : Standing) (before between after : Outside) (left : Option (List ℕ)) (served : Served) → next ≡ room - 1 → 0 < room → Goes room old middle before between left → ServesWithin next middle new (record between { left = left }) after served → ServesWithin room old new before after served

@@ -59,6 +59,12 @@ IsFront room bytes [] = Unit {0}
 IsFront room bytes (m ∷ ms) =
     (0 < room) × ((rest : List ℕ) × Gives bytes (whole m rest) × MatchBool m.closes (ms ≡ []) (IsFront (room - 1) rest ms))
 
+-- these are the first messages of the list of the bytes, which does not end with them: there is room for more, and none of them closes
+abbrev pub IsOpenFront : ℕ → List ℕ → List Message → Type 0
+IsOpenFront room bytes [] = 0 < room
+IsOpenFront room bytes (m ∷ ms) =
+    (0 < room) × ((rest : List ℕ) × Gives bytes (whole m rest) × (m.closes ≡ false) × IsOpenFront (room - 1) rest ms)
+
 -- the reasons for which the wire itself replies
 abbrev pub is_refused : Wire → Bool
 is_refused wire.HeadFault = true
@@ -72,10 +78,10 @@ abbrev pub EndsAs : ℕ → List ℕ → List Message → Served → Type 0
 EndsAs room bytes messages Closed = Messages room bytes messages closed ⊎ Messages room bytes messages (stopped wire.End)
 EndsAs room bytes messages Full = Messages room bytes messages full
 EndsAs room bytes messages EndedInside = Messages room bytes messages (stopped wire.EndedInside)
-EndsAs room bytes messages (WireFault reason) = Messages room bytes messages (stopped reason)
-EndsAs room bytes messages ReadFault = IsFront room bytes messages
+EndsAs room bytes messages (WireFault reason) = (is_refused reason ≡ true) × Messages room bytes messages (stopped reason)
+EndsAs room bytes messages ReadFault = IsOpenFront room bytes messages
 EndsAs room bytes messages WriteFault = IsFront room bytes messages
-EndsAs room bytes messages NoMemory = IsFront room bytes messages
+EndsAs room bytes messages NoMemory = IsOpenFront room bytes messages
 
 -- What a gate is told of asks, with room for so many messages: of each in turn that it is asked, and then that it is answered. The place of one is how many a connection had before it.
 abbrev pub told_of : ℕ → List Ask → List When
@@ -124,10 +130,11 @@ IsCaused before after ReadFault = Rose before.read_faults after.read_faults × (
 IsCaused before after WriteFault = Rose before.write_faults after.write_faults × (after.read_faults ≡ before.read_faults)
 IsCaused before after served = (after.read_faults ≡ before.read_faults) × (after.write_faults ≡ before.write_faults)
 
--- so many messages were asked: all that there is room for, or no more
+-- so many messages were asked: all that there is room for where it is full, fewer where it ended before, and no more where a write failed
 abbrev pub IsCount : ℕ → ℕ → Served → Type 0
 IsCount room count Full = count ≡ room
-IsCount room count served = count ≤ room
+IsCount room count WriteFault = count ≤ room
+IsCount room count served = count < room
 
 -- What was said where there was room for so many messages: these were asked, with these replies, and then it ended so.
 pub record SpokeWithin (room : ℕ) (before after : Outside) (asks : List Ask) (replies : List Reply) (served : Served) : Type 0 where

@@ -5,7 +5,7 @@ use Rattle.farm_server.proofs.ServesLemmas.{ServesWithin-next, ServesWithin-full
 use Rattle.farm_server.proofs.connection.serve_connection.Goals as goal
 
 pub returns-in-Err-clause-serves : goal.returns-in-Err-clause-serves
-returns-in-Err-clause-serves g c = ServesWithin-no_memory REQUESTS _ _
+returns-in-Err-clause-serves g c = ServesWithin-no_memory REQUESTS _ _ (omega arith)
 
 pub requests-preserved : goal.requests-preserved
 requests-preserved g c =
