@@ -1,10 +1,12 @@
 -- What the calls of a run leave together.
-use Rattle.std.proofs.Common.{◌≡◌, ℕ, List, [], Option, refl, sym, ◌∙◌, inl, inr}
+use Rattle.std.proofs.Common.{◌≡◌, ℕ, ◌+◌, List, [], Option, refl, sym, ◌∙◌, inl, inr}
 use Rattle.history.specs.Histories.{LeadsAlone}
 use Rattle.history.specs.Asks.{AsksInTurn}
 use Rattle.command_line.specs.Words.{farm_of}
 use Rattle.command_line.specs.declared.command.Command.{Command}
 use Rattle.command_line.specs.declared.command.Command.TheVariants.{Answer, Expand, Check}
+use Rattle.farm_files.specs.declared.reading.TheConstants.{LONGEST_FILE}
+use Rattle.http_wire.specs.Whole.{piece_size, LosesWithin}
 use Rattle.farm_machine.specs.declared.config.Config.{Config}
 use Rattle.farm_machine.specs.Entry.{Entry}
 use Rattle.farm_machine.specs.Law.{Opening, opened}
@@ -115,13 +117,14 @@ RanOverFile-same views old old' new new' command opened closed status before aft
 -- a file was opened, and a command was run over it
 pub RanCommand-opened : {F C N T I : Type 0} (views : Views F C N T I) (old between new : Lendings F C N T I) (before now : ℕ) (command : Command) (file closed : F) (status : Status)
     → now ≡ before → CanOpenAmong old.file (farm_of command) (Ok file) → between ≡ record old { file = after_opened old.file }
-    → new.file ≡ after_closing between.file closed → RanOverFile views between new command file closed status
+    → new.file ≡ after_closing between.file closed → LosesWithin (LONGEST_FILE + piece_size) (views.file_left file) (views.file_left closed) → RanOverFile views between new command file closed status
     → RanCommand views old new before now command status
-RanCommand-opened views old between new before now command file closed status openings could opens closes ran = inr (record {
+RanCommand-opened views old between new before now command file closed status openings could opens closes lost ran = inr (record {
   openings = openings;
   opened = file;
   closed = closed;
   file = record { could = could; returned = rw opens at closes };
+  lost = lost;
   ran = RanOverFile-same views between old new new command file closed status (record { console = rw opens refl; clock = rw opens refl; draws = rw opens refl }) (LeavesConsole-none new) ran;
 })
 
@@ -141,6 +144,7 @@ RanCommand-notes views old new new' before now command status file after (inr h)
   opened = h.opened;
   closed = h.closed;
   file = record { could = h.file.could; returned = file ∙ h.file.returned };
+  lost = h.lost;
   ran = RanOverFile-same views old old new new' command h.opened h.closed status (LeavesConsole-none old) after h.ran;
 })
 

@@ -1,7 +1,8 @@
 -- What `expand` does: scopes come one a line, and all that they give goes out one a line (the Taskcluster reference, "Roles").
-use Rattle.std.specs.Prelude.{◌≡◌, ℕ, ◌<◌, ◌≤◌, ◌⊎◌, List, length, IfSome}
+use Rattle.std.specs.Prelude.{◌≡◌, ℕ, ◌+◌, ◌<◌, ◌≤◌, ◌⊎◌, List, length, IfSome}
 use Rattle.std.specs.Io.KnownBytes.{IsAtEnd}
 use Rattle.causes.specs.Causes.{Rose}
+use Rattle.http_wire.specs.Whole.{piece_size, LosesWithin}
 use Rattle.scope_lines.specs.Lines.{lines_text, SaysScopes, RefusesLines}
 use Rattle.scope_lines.specs.declared.lines.LineFault.TheVariants.{BadLine}
 use Rattle.role_expand.specs.Roles.{RoleData}
@@ -42,11 +43,15 @@ pub record GivesTooMany (roles : List RoleData) (input : List ℕ) : Type 0 wher
 abbrev pub IsBadInput : List RoleData → List ℕ → Type 0
 IsBadInput roles input = (longest_input < length input) ⊎ (((line : ℕ) × RefusesLines input (BadLine line)) ⊎ GivesTooMany roles input)
 
+-- no more was read than one piece past the greatest length
+abbrev pub ReadsEnough : Talk → Talk → Type 0
+ReadsEnough before after = LosesWithin (longest_input + piece_size) before.left after.left
+
 -- What `expand` did with a console, by the status that it ended with: it read all that was to be read and wrote the expansion, or refused what it read.
 abbrev pub Expands : List RoleData → Talk → Talk → Status → Type 0
-Expands roles before after Input = IfSome before.left (IsBadInput roles) × (after.read_faults ≡ before.read_faults) × SameWrites before after
-Expands roles before after Read = Rose before.read_faults after.read_faults × SameWrites before after
-Expands roles before after NoMemory = (after.read_faults ≡ before.read_faults) × SameWrites before after
+Expands roles before after Input = IfSome before.left (IsBadInput roles) × (after.read_faults ≡ before.read_faults) × SameWrites before after × ReadsEnough before after
+Expands roles before after Read = Rose before.read_faults after.read_faults × SameWrites before after × ReadsEnough before after
+Expands roles before after NoMemory = (after.read_faults ≡ before.read_faults) × SameWrites before after × ReadsEnough before after
 Expands roles before after status =
     (text : List ℕ) × IfSome before.left (λ input. IsExpansion roles input text) × IsAtEnd after.left × (after.read_faults ≡ before.read_faults) × WritesText before after text status
 

@@ -1,10 +1,12 @@
 -- What a run did with what its house lent it.
-use Rattle.std.specs.Prelude.{◌≡◌, ℕ, ◌⊎◌, List, Option, Some, None, IfSome, Err}
+use Rattle.std.specs.Prelude.{◌≡◌, ℕ, ◌+◌, ◌⊎◌, List, Option, Some, None, IfSome, Err}
 use Rattle.causes.specs.Causes.{Rose}
 use Rattle.command_line.specs.Words.{farm_of}
 use Rattle.command_line.specs.declared.command.Command.{Command}
 use Rattle.command_line.specs.declared.command.Command.TheVariants.{Answer, Expand, Check}
+use Rattle.farm_files.specs.declared.reading.TheConstants.{LONGEST_FILE}
 use Rattle.farm_machine.specs.declared.config.Config.{Config}
+use Rattle.http_wire.specs.Whole.{piece_size, LosesWithin}
 use Rattle.farm_cli.specs.declared.status.Status.{Status}
 use Rattle.farm_cli.specs.declared.status.Status.TheVariants.{Usage, Opening, NoMemory}
 use Rattle.farm_cli.specs.Checking.{Checks}
@@ -49,12 +51,13 @@ pub record WasRefused {F C N T I : Type 0} (old new : Lendings F C N T I) (befor
   pub file : new.file ≡ old.file
   pub others : LeavesConsole old new
 
--- the farm file was opened, and came back after a run over it
+-- the farm file was opened, and came back after a run over it; no more was read of it than one piece past its greatest length
 pub record RanOver {F C N T I : Type 0} (views : Views F C N T I) (old new : Lendings F C N T I) (before now : ℕ) (command : Command) (status : Status) : Type 0 where
   pub openings : now ≡ before
   pub opened : F
   pub closed : F
   pub file : WasOpened old.file new.file (farm_of command) opened closed
+  pub lost : LosesWithin (LONGEST_FILE + piece_size) (views.file_left opened) (views.file_left closed)
   pub ran : RanOverFile views old new command opened closed status
 
 -- a command was run

@@ -1,5 +1,7 @@
 //! The farm file of a run.
-ghost use Rattle.std.specs.Prelude.{◌≡◌, MatchResult, IfSome};
+ghost use Rattle.std.specs.Prelude.{◌≡◌, ◌+◌, MatchResult, IfSome};
+ghost use Rattle.farm_files.specs.declared.reading.TheConstants.{LONGEST_FILE};
+ghost use Rattle.http_wire.specs.Whole.{piece_size, LosesWithin};
 ghost use Rattle.farm_cli.specs.FarmFile.{SetsUp, BytesRefused, FileRefused};
 
 use crate::ended::Ended;
@@ -11,9 +13,10 @@ use std::alloc::Global;
 
 /// What the farm file sets, or how a run over it ends.
 pub(crate) fn read_config<L: Link>(alloc: Global, file: &mut L) -> Result<Config, Ended>
-    ensures { MatchResult result
+    ensures taken { MatchResult result
         (λ config. IfSome (L.left file.old) (λ bytes. SetsUp bytes config) × (L.read_faults file.new ≡ L.read_faults file.old))
         (λ ended. FileRefused (L.left file.old) (L.read_faults file.old) (L.read_faults file.new) ended.status) }
+    ensures lost { LosesWithin (LONGEST_FILE + piece_size) (L.left file.old) (L.left file.new) }
 {
     match read_all(alloc, file, LONGEST_FILE) {
         Ok(Some(bytes)) => config_of(alloc, bytes.as_slice()),

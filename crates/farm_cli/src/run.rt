@@ -1,5 +1,7 @@
 //! The top call: a run over a house, by the words of a command line.
-ghost use Rattle.std.specs.Prelude.{◌≡◌, ◌≤◌, map, string_bytes};
+ghost use Rattle.std.specs.Prelude.{◌≡◌, ◌+◌, ◌≤◌, map, string_bytes};
+ghost use Rattle.farm_files.specs.declared.reading.TheConstants.{LONGEST_FILE};
+ghost use Rattle.http_wire.specs.Whole.{piece_size, LosesWithin};
 ghost use Rattle.command_line.specs.Words.{reading};
 ghost use Rattle.farm_cli.specs.Home.{AllHome};
 ghost use Rattle.farm_cli.specs.House.{after_closing};
@@ -114,6 +116,7 @@ fn run_over_file<H: House>(alloc: Global, command: &Command, file: H::File, hous
       draws_told = H.Ids.told;
     } in
         (closed : H.File) × ((H.lends house.new).file ≡ after_closing (H.lends house.old).file closed)
+        × LosesWithin (LONGEST_FILE + piece_size) (H.File.left file) (H.File.left closed)
         × RanOverFile views (H.lends house.old) (H.lends house.new) command.now file closed result.status }
     ensures notes { (H.lends house.new).notes ≡ (H.lends house.old).notes }
     ensures refusals { H.refusals house.new ≡ H.refusals house.old }

@@ -7,10 +7,11 @@ returns-in-Ok-clause-ran g c =
     let lends = c.back_farm_file.ensures.lends in (
       c.read_config-config.new.file.source,
       c.obey.ensures.file ∙ rw lends refl,
+      c.read_config-config.ensures.lost,
       inl (
         c.in-Ok.config,
-        c.in-Ok.ensures.0,
-        c.in-Ok.ensures.1,
+        c.in-Ok.ensures.taken.0,
+        c.in-Ok.ensures.taken.1,
         Obeyed-same _ (g.H.House.lends c.back_farm_file.new.self) _ _ _ _ _ _ (record { console = rw lends refl; clock = rw lends refl; draws = rw lends refl }) (record { console = refl; clock = refl; draws = refl }) c.obey.ensures.obeyed,
       ),
     )
