@@ -46,7 +46,8 @@ impl Ended {
 
     /// An input is refused by this line, counted from 0.
     pub fn by_line(alloc: Global, line: usize) -> Ended
-        ensures { result.status ≡ Status.Input }
+        ensures status { result.status ≡ Status.Input }
+        ensures note { IfSome result.note (λ note. note ≡ bad_line_text line) }
     {
         Ended {
             status: Status::Input,
