@@ -3,6 +3,7 @@ use Rattle.std.specs.Prelude.{◌≡◌, ℕ, ℤ, pos, ◌<◌, ◌≤◌, ◌�
 use Rattle.scope_sets.specs.Scopes.{IsPrintable}
 use Rattle.toml.specs.Data.{Data, table, Members, no_members, get_member}
 use Rattle.toml.specs.Parse.{parse_document}
+use Rattle.farm_files.specs.declared.settings.TheConstants.{LONGEST_HOST}
 use Rattle.farm_files.specs.declared.fault.Table.{Table}
 use Rattle.farm_files.specs.declared.fault.Table.TheVariants.{File, Farm, Role}
 use Rattle.farm_files.specs.declared.fault.Rule.{Rule}
@@ -50,7 +51,7 @@ pub record HasHostForm (longest : ℕ) (host : List ℕ) : Type 0 where
 
 -- each value of `[farm]` is of its form and in its range
 pub record HasFarmForms (ms : Members) : Type 0 where
-  pub host : HasHostForm 255 (host_in ms)
+  pub host : HasHostForm LONGEST_HOST (host_in ms)
   pub port : IsUpTo 65535 (port_in ms)
   pub claim_timeout : IsUpTo 86400 (claim_timeout_in ms)
   pub max_tasks : IsUpTo 1000000 (max_tasks_in ms)

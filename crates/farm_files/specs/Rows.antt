@@ -1,9 +1,11 @@
 -- What the rows of `[[role]]` say, and which rules they break (this project's own format, in TOML 1.1).
 use Rattle.std.specs.Prelude.{◌≡◌, ℕ, ◌<◌, ◌⊎◌, true, false, List, [], ◌∷◌, take, map, Option, Some, None, is_some, slice_get, All, Any, codes}
 use Rattle.scope_sets.specs.Scopes.{IsPrintable}
+use Rattle.scope_sets.specs.declared.scopes.TheConstants.{LONGEST_SCOPE}
 use Rattle.role_expand.specs.Roles.{RoleData, HasRoleForm}
 use Rattle.role_expand.specs.Cycles.{IsCycle}
 use Rattle.toml.specs.Data.{Data, array, table, Members, no_members, get_member}
+use Rattle.farm_files.specs.declared.roles.TheConstants.{MOST_ROLES}
 use Rattle.farm_files.specs.declared.fault.Rule.{Rule}
 use Rattle.farm_files.specs.declared.fault.Rule.TheVariants.{UnknownKey, MissingKey, WrongKind, OutOfForm, RepeatedId, ParameterCycle}
 use Rattle.farm_files.specs.Values.{list_of, has_only, is_text, are_texts, passes, text_or, texts_in}
@@ -33,9 +35,9 @@ pub record HasRoleKinds (ms : Members) : Type 0 where
 
 -- the row is one of those that a table may have, and what it says is of a role's form, in printable ASCII
 pub record HasRowForm (row : ℕ) (role : RoleData) : Type 0 where
-  pub within : row < 10000
+  pub within : row < MOST_ROLES
   pub printable : All (All IsPrintable) role.scopes
-  pub form : HasRoleForm 4096 role
+  pub form : HasRoleForm LONGEST_SCOPE role
 
 -- the rules that a row breaks behind rows that say these roles; where a key or its kind is amiss, that rule is the lesser one
 abbrev pub RowBreaks : List RoleData → ℕ → Data → Rule → Type 0

@@ -16,6 +16,12 @@ pub fn a_file_says_one_thing()
     ensures either { (longest : ℕ) (bytes : List ℕ) (a : AnyConfig) (f : AnyFault) → Says longest bytes a → ¬ IsFirst (Breaks longest bytes) f }
 {}
 
+/// No file is without either: it says a configuration or has a first fault.
+pub fn a_file_says_or_breaks()
+    ensures { (longest : ℕ) (bytes : List ℕ)
+        → ¬ (((config : AnyConfig) → ¬ Says longest bytes config) × ((f : AnyFault) → ¬ IsFirst (Breaks longest bytes) f)) }
+{}
+
 /// The limits of a farm file: its greatest number of bytes, of rows of `[[role]]`, and of bytes of a host. What the contracts say of
 /// the constants, they say of these numbers.
 pub fn the_limits()

@@ -1,11 +1,12 @@
 -- A stream has one outcome, and one list of messages.
-use Rattle.std.proofs.Common.{◌≡◌, ℕ, ◌+◌, ◌-◌, ◌<◌, inl, inr, Bool, true, false, List, [], ◌∷◌, ◌++◌, Option, Some, None, IfSome, length, drop, refl, sym, ap, ◌∙◌, subst, subst₂, arith, take-append-drop}
+use Rattle.std.proofs.Common.{◌≡◌, ℕ, zero, suc, ◌≤◌, ◌⊎◌, ◌+◌, ◌-◌, ◌<◌, inl, inr, Bool, true, false, List, [], ◌∷◌, ◌++◌, Option, Some, None, IfSome, length, drop, refl, sym, ap, ◌∙◌, subst, subst₂, arith, take-append-drop}
 use Rattle.std.specs.Bool.{MatchBool}
 use Rattle.httparse.specs.Grammar.{RequestHead, ReadsRequest}
 use Rattle.httparse.proofs.GrammarLemmas.{request_unique}
 use Rattle.http_wire.specs.declared.message.Message.{Message}
 use Rattle.http_wire.specs.declared.message.Wire.{Wire}
-use Rattle.http_wire.specs.Head.{HasHead, HasFault, Next, message, fault, too_large, ended, inside, Begins}
+use Rattle.http_wire.specs.Head.{head_limit, IsOpen, HasHead, HasFault, Next, message, fault, too_large, ended, inside, Begins}
+use Rattle.std.proofs.lemmas.Bool.{cases_lt}
 use Rattle.std.proofs.lemmas.Bool.Decides.{nat_tests}
 use Rattle.http_wire.specs.Stream.{Outcome, whole, stops, finish, Gives, Ending, stopped, closed, full, closing, Messages, TakesOne, is_of_stream, Stops}
 use Rattle.http_wire.proofs.Taken.{Takes, TakesKnown, NoneCloses}
@@ -76,6 +77,53 @@ messages_unique room bytes (m ∷ ms) (n ∷ ns) d e (some, (rest, gives, after)
     let later = subst₂ (λ (x : Message) (r : List ℕ). MatchBool x.closes ((ns ≡ []) × (e ≡ closing (room - 1))) (Messages (room - 1) r ns e)) (sym first) (sym remaining) after' in
     let both = after_unique m.closes (room - 1) ms ns d e _ _ (λ h k. messages_unique (room - 1) rest ms ns d e h k) after later in
     (ap (λ x. x ∷ ms) first ∙ ap (λ l. n ∷ l) both.0, both.1)
+
+-- ---- no stream is without an outcome, and none without a list
+
+pub some_outcome : (bytes : List ℕ) → ((outcome : Outcome) → ¬ Gives bytes outcome) → ⊥
+some_outcome bytes none = by_length (cases_lt (length bytes) head_limit)
+  where
+    no_next : (next : Next) → Begins bytes next → ⊥
+    no_next next begins = none (finish next) (next, begins, refl)
+
+    is_open : IsOpen bytes
+    is_open = record { no_head = λ h rest head. no_next (message h rest) head; no_fault = λ n fails. no_next fault (n, fails) }
+
+    by_length : (length bytes < head_limit) ⊎ (head_limit ≤ length bytes) → ⊥
+    by_length (inl short) = no_next inside (short, is_open, λ lines. no_next ended (short, is_open, lines))
+    by_length (inr large) = no_next too_large (large, is_open)
+
+-- one message, and where it does not close the messages after it
+one_message : (room : ℕ) (bytes : List ℕ) (m : Message) (rest : List ℕ) (b : Bool) → m.closes ≡ b → Gives bytes (whole m rest)
+    → (((ms : List Message) (e : Ending) → ¬ Messages room rest ms e) → ⊥) → ((ms : List Message) (e : Ending) → ¬ Messages (suc room) bytes ms e) → ⊥
+one_message room bytes m rest true closes_ gives more none =
+    none (m ∷ []) (closing (suc room - 1)) (
+      omega arith,
+      (
+        rest,
+        gives,
+        subst (λ b. MatchBool b ((◌≡◌ {A = List Message} [] []) × (closing (suc room - 1) ≡ closing (suc room - 1))) (Messages (suc room - 1) rest [] (closing (suc room - 1)))) (sym closes_) (refl, refl),
+      ),
+    )
+one_message room bytes m rest false open_ gives more none =
+    let left : suc room - 1 ≡ room = omega arith in
+    more (λ ms e later. none (m ∷ ms) e (
+      omega arith,
+      (
+        rest,
+        gives,
+        subst (λ b. MatchBool b ((ms ≡ []) × (e ≡ closing (suc room - 1))) (Messages (suc room - 1) rest ms e)) (sym open_) (subst (λ k. Messages k rest ms e) (sym left) later),
+      ),
+    ))
+
+by_outcome : (room : ℕ) (bytes : List ℕ) → ((rest : List ℕ) → ((ms : List Message) (e : Ending) → ¬ Messages room rest ms e) → ⊥)
+    → ((ms : List Message) (e : Ending) → ¬ Messages (suc room) bytes ms e) → (outcome : Outcome) → ¬ Gives bytes outcome
+by_outcome room bytes more none (stops wire) gives = none [] (stopped wire) (inr (omega arith, (wire, gives, refl)))
+by_outcome room bytes more none (whole m rest) gives = one_message room bytes m rest m.closes refl gives (more rest) none
+
+pub some_messages : (room : ℕ) (bytes : List ℕ) → ((ms : List Message) (e : Ending) → ¬ Messages room bytes ms e) → ⊥
+some_messages zero bytes none = none [] full (inl (refl, refl))
+some_messages (suc room) bytes none = some_outcome bytes (by_outcome room bytes (some_messages room) none)
 
 -- ---- a list of messages, one message at a time
 

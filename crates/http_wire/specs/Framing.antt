@@ -6,12 +6,13 @@ use Rattle.std.specs.Str.Parse.{digits_value}
 use Rattle.httparse.specs.Grammar.{RequestHead}
 use Rattle.httparse.specs.Spans.{name_and_value}
 use Rattle.http1.specs.Fields.{Header, values_named}
+use Rattle.http_wire.specs.declared.head.TheConstants.{BODY_LIMIT}
 use Rattle.http_wire.specs.declared.message.Wire.{Wire}
 use Rattle.http_wire.specs.declared.message.Wire.TheVariants.{HeadFault, NoLength, BodyTooLarge}
 
--- the greatest length of a body
+-- the greatest length of a body: 1,048,576 bytes, by a law
 abbrev pub body_limit : ℕ
-body_limit = 1048576
+body_limit = BODY_LIMIT
 
 -- the names and the values of a head's fields
 abbrev pub named_fields : RequestHead → List Header

@@ -3,10 +3,11 @@ use Rattle.std.specs.Prelude.{◌≡◌, ℕ, ◌-◌, ◌<◌, ◌≤◌, List,
 use Rattle.std.specs.List.{concat}
 use Rattle.httparse.specs.Ascii.{line_feed, carriage_return}
 use Rattle.httparse.specs.Grammar.{RequestHead, print_request, ReadsRequest, NeverHasRequest}
+use Rattle.http_wire.specs.declared.head.TheConstants.{HEAD_LIMIT}
 
--- the greatest length of a head, with the empty lines before it
+-- the greatest length of a head, with the empty lines before it: 16,384 bytes, by a law
 abbrev pub head_limit : ℕ
-head_limit = 16384
+head_limit = HEAD_LIMIT
 
 -- the bytes begin with the head h, which fits, and rest follows
 pub record HasHead (bytes : List ℕ) (h : RequestHead) (rest : List ℕ) : Type 0 where

@@ -1,3 +1,4 @@
+pub mod Calls
 pub mod Framing
 pub mod Front
 pub mod Head

@@ -2,6 +2,7 @@
 use Rattle.std.specs.Prelude.{◌≡◌, ℕ, ◌<◌, ◌≤◌, List, ◌++◌, length, Option}
 use Rattle.std.specs.Io.KnownBytes.{Appends, Consumes}
 use Rattle.causes.specs.Causes.{Rose}
+use Rattle.http_wire.specs.declared.body.TheConstants.{PIECE}
 use Rattle.http_wire.specs.declared.whole.ReadAllFault.{ReadAllFault}
 use Rattle.http_wire.specs.declared.whole.ReadAllFault.TheVariants.{Failed, NoMemory}
 
@@ -13,9 +14,9 @@ IsProperFrontOf front text = (more : List ℕ) × (0 < length more) × (text ≡
 abbrev pub AppendsFront : Option (List ℕ) → Option (List ℕ) → List ℕ → Type 0
 AppendsFront before after text = (front : List ℕ) × IsProperFrontOf front text × Appends before after front
 
--- the most that one read takes
+-- the most that one read takes: 8,192 bytes, by a law
 abbrev pub piece_size : ℕ
-piece_size = 8_192
+piece_size = PIECE
 
 -- the bytes that a link has left have lost some at their front, no more than so many
 abbrev pub LosesWithin : ℕ → Option (List ℕ) → Option (List ℕ) → Type 0

@@ -2,6 +2,7 @@
 ghost use Rattle.std.specs.Prelude.{◌≡◌, ℕ, ◌+◌, ◌<◌, ◌≤◌, List, ◌++◌, length, drop, vec_len, IfOk, IfErr, OnOk, OnErr, MatchResult};
 ghost use Rattle.std.specs.Io.KnownBytes.{prepend_known, Keeps, Consumes, IsAtEnd};
 ghost use Rattle.causes.specs.Causes.{Rose};
+ghost use Rattle.http_wire.specs.Calls.{state_of, OnlyReads};
 ghost use Rattle.http_wire.specs.Reading.{IsFillStop, IsReadStop, IsBodyStop, KeepsUnlessFailed, Ends, Leaves, Loses};
 
 use crate::link::Link;
@@ -21,11 +22,7 @@ pub(crate) fn fill<L: Link>(held: &mut Vec<u8>, link: &mut L) -> Result<usize, W
     ensures same { OnErr result (vec_len held.new ≡ vec_len held.old) }
     ensures stop { IfErr result (IsFillStop (L.read_faults link.old) (L.read_faults link.new)) }
     ensures kept { Keeps (prepend_known held.old.items (L.left link.old)) (prepend_known held.new.items (L.left link.new)) }
-    ensures later { L.read_faults link.old ≤ L.read_faults link.new }
-    ensures same_reads { MatchResult result (λ _. L.read_faults link.new ≡ L.read_faults link.old)
-        (KeepsUnlessFailed (L.read_faults link.old) (L.read_faults link.new)) }
-    ensures written { L.written link.new ≡ L.written link.old }
-    ensures write_faults { L.write_faults link.new ≡ L.write_faults link.old }
+    ensures only_reads { OnlyReads (state_of L.Link link.old) (state_of L.Link link.new) result }
 {
     let len = held.len();
     match held.resize(len + PIECE, 0) {
@@ -50,11 +47,7 @@ fn read_into<L: Link>(buf: &mut [u8], link: &mut L) -> Result<(), Wire>
     ensures stop { IfErr result (IsReadStop (length buf.old) (L.left link.old) (L.read_faults link.old) (L.read_faults link.new)) }
     ensures lost { Loses (L.left link.old) (L.left link.new) }
     ensures ended { IfErr result (Ends (L.left link.new)) }
-    ensures later { L.read_faults link.old ≤ L.read_faults link.new }
-    ensures same_reads { MatchResult result (λ _. L.read_faults link.new ≡ L.read_faults link.old)
-        (KeepsUnlessFailed (L.read_faults link.old) (L.read_faults link.new)) }
-    ensures written { L.written link.new ≡ L.written link.old }
-    ensures write_faults { L.write_faults link.new ≡ L.write_faults link.old }
+    ensures only_reads { OnlyReads (state_of L.Link link.old) (state_of L.Link link.new) result }
 {
     let mut filled = 0;
     while filled < buf.len() {
@@ -93,11 +86,7 @@ pub(crate) fn take_body<L: Link>(
     ensures leaves { IfErr result (Leaves (prepend_known held.old.items (L.left link.old)) (prepend_known held.new.items (L.left link.new))) }
     ensures ended { IfErr result (Ends (L.left link.new)) }
     ensures stop { IfErr result (IsBodyStop size (prepend_known (drop start held.old.items) (L.left link.old)) (L.read_faults link.old) (L.read_faults link.new)) }
-    ensures later { L.read_faults link.old ≤ L.read_faults link.new }
-    ensures same_reads { MatchResult result (λ _. L.read_faults link.new ≡ L.read_faults link.old)
-        (KeepsUnlessFailed (L.read_faults link.old) (L.read_faults link.new)) }
-    ensures written { L.written link.new ≡ L.written link.old }
-    ensures write_faults { L.write_faults link.new ≡ L.write_faults link.old }
+    ensures only_reads { OnlyReads (state_of L.Link link.old) (state_of L.Link link.new) result }
 {
     let have = (held.len() - start).min(size);
     let mut body = match Vec::from_slice(alloc, &held[start..start + have]) {

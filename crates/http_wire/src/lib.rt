@@ -21,7 +21,10 @@ mod whole;
 pub use head::{BODY_LIMIT, FIELD_LIMIT, HEAD_LIMIT};
 pub use host::{HostSink, HostSource, StreamLink};
 pub use joined::Joined;
-pub use laws::{messages_are_one, outcome_is_one, the_limits};
+pub use laws::{
+    each_stream_has_an_outcome, each_stream_has_messages, messages_are_one, outcome_is_one,
+    the_limits,
+};
 pub use link::{Link, Sink, Source};
 pub use list::{ListEnd, MessageList, read_messages};
 pub use memory::{MemoryLink, MemorySink, MemorySource};

@@ -2,6 +2,7 @@
 ghost use Rattle.std.specs.Prelude.{◌≡◌, ◌≤◌, IfOk, IfErr, IfSome, MatchResult, Err, false};
 ghost use Rattle.causes.specs.Causes.{Rose};
 ghost use Rattle.http_wire.specs.List.{ending_of};
+ghost use Rattle.http_wire.specs.Calls.{state_of, OnlyReads};
 ghost use Rattle.http_wire.specs.Reading.{KeepsUnlessFailed};
 ghost use Rattle.http_wire.specs.Stream.{Messages, is_of_stream};
 
@@ -33,12 +34,7 @@ pub fn read_messages<L: Link>(alloc: Global, link: &mut L, room: usize) -> Resul
     ensures all { IfOk result (λ list. IfSome (L.left link.old)
         (λ bytes. Messages room bytes list.messages.items (ending_of list.end))) }
     ensures other { IfErr result (λ wire. is_of_stream wire ≡ false) }
-    ensures fault { result ≡ Err Wire.ReadFault → Rose (L.read_faults link.old) (L.read_faults link.new) }
-    ensures later { L.read_faults link.old ≤ L.read_faults link.new }
-    ensures same_reads { MatchResult result (λ _. L.read_faults link.new ≡ L.read_faults link.old)
-        (KeepsUnlessFailed (L.read_faults link.old) (L.read_faults link.new)) }
-    ensures written { L.written link.new ≡ L.written link.old }
-    ensures write_faults { L.write_faults link.new ≡ L.write_faults link.old }
+    ensures only_reads { OnlyReads (state_of L.Link link.old) (state_of L.Link link.new) result }
 {
     let mut reader = match Reader::new(alloc) {
         Ok(reader) => reader,

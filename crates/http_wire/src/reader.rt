@@ -5,6 +5,7 @@ ghost use Rattle.causes.specs.Causes.{Rose};
 ghost use Rattle.http_wire.specs.declared.head.TheConstants.{FIELD_LIMIT, HEAD_LIMIT};
 ghost use Rattle.http_wire.specs.Head.{IsOpen};
 ghost use Rattle.http_wire.specs.Front.{IsHeadAt};
+ghost use Rattle.http_wire.specs.Calls.{state_of, OnlyReads};
 ghost use Rattle.http_wire.specs.Reading.{Ends, IsFillStop, KeepsUnlessFailed, Leaves};
 ghost use Rattle.http_wire.specs.Stream.{TakesOne, Stops};
 
@@ -26,11 +27,7 @@ fn await_line<L: Link>(held: &mut Vec<u8>, link: &mut L) -> Result<bool, Wire>
     ensures end { IfOk result (λ came. came ≡ false → (vec_len held.new < HEAD_LIMIT) × IsOpen held.new.items × IsAtEnd (L.left link.new)) }
     ensures stop { IfErr result (IsFillStop (L.read_faults link.old) (L.read_faults link.new)) }
     ensures kept { Keeps (prepend_known held.old.items (L.left link.old)) (prepend_known held.new.items (L.left link.new)) }
-    ensures later { L.read_faults link.old ≤ L.read_faults link.new }
-    ensures same_reads { MatchResult result (λ _. L.read_faults link.new ≡ L.read_faults link.old)
-        (KeepsUnlessFailed (L.read_faults link.old) (L.read_faults link.new)) }
-    ensures written { L.written link.new ≡ L.written link.old }
-    ensures write_faults { L.write_faults link.new ≡ L.write_faults link.old }
+    ensures only_reads { OnlyReads (state_of L.Link link.old) (state_of L.Link link.new) result }
 {
     'pieces: loop {
         let len = held.len();
@@ -56,12 +53,7 @@ fn read_head<L: Link>(
     ensures stops { IfErr result (Stops (prepend_known held.old.items (L.left link.old))) }
     ensures kept { Keeps (prepend_known held.old.items (L.left link.old)) (prepend_known held.new.items (L.left link.new)) }
     ensures ended { IfErr result (Ends (L.left link.new)) }
-    ensures fault { result ≡ Err Wire.ReadFault → Rose (L.read_faults link.old) (L.read_faults link.new) }
-    ensures later { L.read_faults link.old ≤ L.read_faults link.new }
-    ensures same_reads { MatchResult result (λ _. L.read_faults link.new ≡ L.read_faults link.old)
-        (KeepsUnlessFailed (L.read_faults link.old) (L.read_faults link.new)) }
-    ensures written { L.written link.new ≡ L.written link.old }
-    ensures write_faults { L.write_faults link.new ≡ L.write_faults link.old }
+    ensures only_reads { OnlyReads (state_of L.Link link.old) (state_of L.Link link.new) result }
 {
     loop {
         match look_at(held, spans) {
@@ -91,12 +83,7 @@ fn next_message<L: Link>(
     ensures stops { IfErr result (Stops (prepend_known held.old.items (L.left link.old))) }
     ensures leaves { IfErr result (Leaves (prepend_known held.old.items (L.left link.old)) (prepend_known held.new.items (L.left link.new))) }
     ensures ended { IfErr result (Ends (L.left link.new)) }
-    ensures fault { result ≡ Err Wire.ReadFault → Rose (L.read_faults link.old) (L.read_faults link.new) }
-    ensures later { L.read_faults link.old ≤ L.read_faults link.new }
-    ensures same_reads { MatchResult result (λ _. L.read_faults link.new ≡ L.read_faults link.old)
-        (KeepsUnlessFailed (L.read_faults link.old) (L.read_faults link.new)) }
-    ensures written { L.written link.new ≡ L.written link.old }
-    ensures write_faults { L.write_faults link.new ≡ L.write_faults link.old }
+    ensures only_reads { OnlyReads (state_of L.Link link.old) (state_of L.Link link.new) result }
 {
     let at = match read_head(held, spans, link) {
         Ok(at) => at,
@@ -157,12 +144,7 @@ impl Reader {
 
         // Where the input has ended, no byte is left. Only a read that fails gives ReadFault, and nothing is written.
         ensures ended { IfErr result (Ends (L.left link.new)) }
-        ensures fault { result ≡ Err Wire.ReadFault → Rose (L.read_faults link.old) (L.read_faults link.new) }
-        ensures later { L.read_faults link.old ≤ L.read_faults link.new }
-        ensures same_reads { MatchResult result (λ _. L.read_faults link.new ≡ L.read_faults link.old)
-            (KeepsUnlessFailed (L.read_faults link.old) (L.read_faults link.new)) }
-        ensures written { L.written link.new ≡ L.written link.old }
-        ensures write_faults { L.write_faults link.new ≡ L.write_faults link.old }
+        ensures only_reads { OnlyReads (state_of L.Link link.old) (state_of L.Link link.new) result }
     {
         next_message(&mut self.held, &mut self.spans, alloc, link)
     }

@@ -3,9 +3,9 @@ use Rattle.std.proofs.Common.{◌≡◌, ℕ, zero, suc, Bool, true, false, ◌&
 use Rattle.std.proofs.lemmas.Bool.{and_parts, and_from, or_cases, or_parts, or_left, or_right, false≢true}
 use Rattle.std.proofs.lemmas.Cmp.{nat_list_cmp_total}
 use Rattle.std.proofs.lemmas.List.{append_assoc, append-nil, same_from_push}
-use Rattle.std.proofs.lemmas.List.Elements.{All-nil, All-cons, All-head, All-tail}
+use Rattle.std.proofs.lemmas.List.Elements.{All-nil, All-cons, All-head, All-tail, All-append}
 use Rattle.scope_sets.specs.Scopes.{star, Satisfies, covers, EndsWithTwoStars, IsBefore, IsRising}
-use Rattle.scope_sets.specs.Expressions.{Expression, one, all_of, any_of, Members, no_members, member, members_of, holds, all_hold, some_holds, reduced, lacking, each_reduced, missing, HasNoEmptyAllOf, NoneHasEmptyAllOf}
+use Rattle.scope_sets.specs.Expressions.{Expression, one, all_of, any_of, Members, no_members, member, members_of, holds, all_hold, some_holds, reduced, lacking, each_reduced, missing, HasNoEmptyAllOf, NoneHasEmptyAllOf, scopes_in, scopes_in_each}
 use Rattle.scope_sets.proofs.OrderLemmas.{Equal-itself}
 use Rattle.scope_sets.proofs.SatisfyingLemmas.{Any-from_covers, covers_by}
 
@@ -212,3 +212,61 @@ module _ (set : List (List ℕ)) where
   missing_full e lack is =
       let parts = missing_gives (holds set e) (reduced set e) lack is in
       subst HasNoEmptyAllOf parts.1 (reduced_full e parts.0)
+
+-- ---- what is missing is not held
+
+All-front : {X : Type 0} (P : X → Type 0) (xs ys : List X) → All P (xs ++ ys) → All P xs
+All-front P [] ys all = All-nil P
+All-front P (x ∷ xs) ys all = All-cons P x xs (All-head P x (xs ++ ys) all) (All-front P xs ys (All-tail P x (xs ++ ys) all))
+
+All-back : {X : Type 0} (P : X → Type 0) (xs ys : List X) → All P (xs ++ ys) → All P ys
+All-back P [] ys all = all
+All-back P (x ∷ xs) ys all = All-back P xs ys (All-tail P x (xs ++ ys) all)
+
+module _ (set : List (List ℕ)) where
+  abbrev IsBare : List ℕ → Type 0
+  IsBare s = covers set s ≡ true → ⊥
+
+  lacking_bare_by : (b : Bool) (e : Expression) (es : Members) → holds set e ≡ b → (holds set e ≡ false → All IsBare (scopes_in (reduced set e)))
+      → All IsBare (scopes_in_each (lacking set es)) → All IsBare (scopes_in_each (cond b (lacking set es) (member (reduced set e) (lacking set es))))
+  lacking_bare_by true e es is first rest = rest
+  lacking_bare_by false e es is first rest = All-append IsBare _ _ (first is) rest
+
+  mutual
+    -- no scope in what is left of an expression that does not hold is covered
+    reduced_bare : (e : Expression) → holds set e ≡ false → All IsBare (scopes_in (reduced set e))
+    reduced_bare (one s) none = All-cons IsBare s [] (λ held. false≢true (sym none ∙ held)) (All-nil IsBare)
+    reduced_bare (all_of es) none = lacking_bare es
+    reduced_bare (any_of es) none = each_bare es none
+
+    lacking_bare : (es : Members) → All IsBare (scopes_in_each (lacking set es))
+    lacking_bare no_members = All-nil IsBare
+    lacking_bare (member e es) = lacking_bare_by (holds set e) e es refl (reduced_bare e) (lacking_bare es)
+
+    each_bare : (es : Members) → some_holds set es ≡ false → All IsBare (scopes_in_each (each_reduced set es))
+    each_bare no_members none = All-nil IsBare
+    each_bare (member e es) none = let lacks = or_parts _ _ none in All-append IsBare _ _ (reduced_bare e lacks.0) (each_bare es lacks.1)
+
+  pub missing_bare : (e lack : Expression) → missing set e ≡ Some lack → All IsBare (scopes_in lack)
+  missing_bare e lack is =
+      let parts = missing_gives (holds set e) (reduced set e) lack is in
+      subst (λ l. All IsBare (scopes_in l)) parts.1 (reduced_bare e parts.0)
+
+  mutual
+    -- what has no empty `AllOf` and no scope that is covered does not hold
+    bare_fails : (e : Expression) → HasNoEmptyAllOf e → All IsBare (scopes_in e) → holds set e ≡ true → ⊥
+    bare_fails (one s) full bare held = All-head IsBare s [] bare held
+    bare_fails (all_of no_members) full bare held = full
+    bare_fails (all_of (member e es)) full bare held = bare_fails e full.0 (All-front IsBare (scopes_in e) _ bare) ((and_parts _ _ held).0)
+    bare_fails (any_of es) full bare held = none_holds es full bare held
+
+    none_holds : (es : Members) → NoneHasEmptyAllOf es → All IsBare (scopes_in_each es) → some_holds set es ≡ true → ⊥
+    none_holds no_members full bare held = false≢true held
+    none_holds (member e es) full bare held =
+        elim (or_cases _ _ held) [
+          | inl here ↦ bare_fails e full.0 (All-front IsBare (scopes_in e) _ bare) here
+          | inr later ↦ none_holds es full.1 (All-back IsBare (scopes_in e) _ bare) later
+        ]
+
+pub missing_fails : (set : List (List ℕ)) (e lack : Expression) → missing set e ≡ Some lack → holds set lack ≡ true → ⊥
+missing_fails set e lack is = bare_fails set lack (missing_full set e lack is) (missing_bare set e lack is)

@@ -1,5 +1,5 @@
 -- Scope expressions, what they ask of a set, and what a set lacks of them (the Taskcluster reference, "Scope expressions").
-use Rattle.std.specs.Prelude.{ℕ, Bool, true, false, ◌&&◌, ◌||◌, cond, List, [], ◌∷◌, Option, Some, None}
+use Rattle.std.specs.Prelude.{ℕ, Bool, true, false, ◌&&◌, ◌||◌, cond, List, [], ◌∷◌, ◌++◌, Option, Some, None}
 use Rattle.scope_sets.specs.Scopes.{covers}
 use Rattle.scope_sets.specs.declared.expressions.Expr.{Expr, fold-Expr}
 use Rattle.scope_sets.specs.declared.expressions.Expr.TheOpen.{Expr-F}
@@ -76,3 +76,14 @@ abbrev mutual
   pub NoneHasEmptyAllOf : Members → Type 0
   NoneHasEmptyAllOf no_members = Unit {0}
   NoneHasEmptyAllOf (member e es) = HasNoEmptyAllOf e × NoneHasEmptyAllOf es
+
+abbrev mutual
+  -- the scopes that stand in an expression, in order
+  pub scopes_in : Expression → List (List ℕ)
+  scopes_in (one s) = s ∷ []
+  scopes_in (all_of es) = scopes_in_each es
+  scopes_in (any_of es) = scopes_in_each es
+
+  pub scopes_in_each : Members → List (List ℕ)
+  scopes_in_each no_members = []
+  scopes_in_each (member e es) = scopes_in e ++ scopes_in_each es

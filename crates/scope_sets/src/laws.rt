@@ -2,7 +2,7 @@
 ghost use Rattle.std.specs.Prelude.{◌≡◌, ℕ, ◌↔◌, List, Some, All, Any, Contains, IsTrue};
 ghost use Rattle.scope_sets.specs.Scopes.{Satisfies, satisfies, covers, EndsWithTwoStars, IsRising};
 ghost use Rattle.scope_sets.specs.declared.scopes.TheConstants.{LONGEST_SCOPE};
-ghost use Rattle.scope_sets.specs.Expressions.{Expression, one, all_of, any_of, members_of, holds, missing, HasNoEmptyAllOf};
+ghost use Rattle.scope_sets.specs.Expressions.{Expression, one, all_of, any_of, members_of, holds, missing, HasNoEmptyAllOf, scopes_in};
 
 /// The tests of satisfying and of covering are true exactly where what they test holds.
 pub fn tests_are_exact()
@@ -43,6 +43,13 @@ pub fn what_is_missing_suffices()
     ensures { (set more joined : List (List ℕ)) (e lack : Expression)
         → ((s : List ℕ) → Contains set s → Contains joined s) → ((s : List ℕ) → Contains more s → Contains joined s)
         → missing set e ≡ Some lack → IsTrue (holds more lack) → IsTrue (holds joined e) }
+{}
+
+/// What is missing is not held already: it does not hold as a whole, and no scope that stands in it, at any depth, is covered.
+pub fn what_is_missing_is_not_held()
+    ensures whole { (set : List (List ℕ)) (e lack : Expression) → missing set e ≡ Some lack → ¬ IsTrue (holds set lack) }
+    ensures scopes { (set : List (List ℕ)) (e lack : Expression) → missing set e ≡ Some lack
+        → All (λ s. ¬ IsTrue (covers set s)) (scopes_in lack) }
 {}
 
 /// No `AllOf` in what is missing is without members, at any depth.

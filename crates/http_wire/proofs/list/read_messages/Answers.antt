@@ -41,9 +41,9 @@ messages-preserved g c =
           (TakesKnown-push (g.L.Link.left c.args.link.now) (prepend_known c.messages.reader (g.L.Link.left c.messages.link)) (prepend_known c.next_request.new.self (g.L.Link.left c.next_request.new.link)) c.messages.messages.items c.in-Ok-next_request.message inv.took c.in-Ok-next_request.ensures.message);
       none = subst NoneCloses (sym c.in-Ok-push.ensures.items) (NoneCloses-push c.messages.messages.items c.in-Ok-next_request.message inv.none open_);
       fits = omega (arith, c.messages-test.true, c.len.ensures, c.in-Ok-push.ensures.len);
-      reads = c.in-Ok-next_request.ensures.same_reads ∙ inv.reads;
-      written = c.in-Ok-next_request.ensures.written ∙ inv.written;
-      write_faults = c.in-Ok-next_request.ensures.write_faults ∙ inv.write_faults;
+      reads = c.in-Ok-next_request.ensures.only_reads.reads ∙ inv.reads;
+      written = c.in-Ok-next_request.ensures.only_reads.written ∙ inv.written;
+      write_faults = c.in-Ok-next_request.ensures.only_reads.write_faults ∙ inv.write_faults;
     }
 
 pub returns-clause-all : goal.returns-clause-all

@@ -13,7 +13,7 @@ pieces-preserved g c =
       neither = IsOpen-piece c.pieces.held.items c.fill.new.held.items c.deref.result.now c.in-Ok.ensures.grown.0 c.len-len.result c.in-Ok.ensures.grown.1 size c.deref.ensures.value old.neither (λ m some. c.lines_end.ensures.last m (omega arith));
       longer = omega (arith, old.longer, c.in-Ok.ensures.count);
       kept = Keeps-trans _ _ _ old.kept c.in-Ok.ensures.kept;
-      reads = c.in-Ok.ensures.same_reads ∙ old.reads;
-      written = c.in-Ok.ensures.written ∙ old.written;
-      write_faults = c.in-Ok.ensures.write_faults ∙ old.write_faults;
+      reads = c.in-Ok.ensures.only_reads.reads ∙ old.reads;
+      written = c.in-Ok.ensures.only_reads.written ∙ old.written;
+      write_faults = c.in-Ok.ensures.only_reads.write_faults ∙ old.write_faults;
     }
