@@ -1,5 +1,10 @@
 -- What the objects of a house tell of themselves.
 use Rattle.std.specs.Prelude.{ℕ, List, Option, None}
+use Rattle.http_wire.specs.declared.link.Source as sources
+use Rattle.http_wire.specs.declared.link.Link as links
+use Rattle.http_wire.specs.declared.link.Sink as sinks
+use Rattle.farm_text.specs.declared.clock.Clock as clocks
+use Rattle.farm_text.specs.declared.draws.Draws as draws
 use Rattle.farm_server.specs.Served.{Outside}
 
 -- what is left of the farm file, and how many of its reads failed; the same of the console, and what was written there; what notes
@@ -15,6 +20,22 @@ pub record Views (F C N T I : Type 0) : Type 0 where
   pub notes_faults : N → ℕ
   pub clock_told : T → Option (List ℕ)
   pub draws_told : I → Option (List (List ℕ))
+
+-- the same, as the traits of these objects have it
+abbrev pub views_of : {F C N T I : Type 0} → sources.Ghosts F → links.Ghosts C → sinks.Ghosts N → clocks.Ghosts T → draws.Ghosts I → Views F C N T I
+views_of file console notes clock ids =
+    record {
+      file_left = file.left;
+      file_faults = file.faults;
+      console_left = console.left;
+      console_written = console.written;
+      console_read_faults = console.read_faults;
+      console_write_faults = console.write_faults;
+      notes_written = notes.written;
+      notes_faults = notes.faults;
+      clock_told = clock.told;
+      draws_told = ids.told;
+    }
 
 -- what console, clock and draws tell at one moment; the program's gate keeps nothing
 abbrev pub outside_of : {F C N T I : Type 0} → Views F C N T I → C → T → I → Outside

@@ -4,7 +4,7 @@ ghost use Rattle.farm_cli.specs.Checking.{Checks};
 ghost use Rattle.farm_cli.specs.Expanding.{Expands};
 ghost use Rattle.farm_cli.specs.Run.{Obeyed, UsedConsole};
 ghost use Rattle.farm_cli.specs.Serving.{Conversed, status_of as status_from};
-ghost use Rattle.farm_cli.specs.Views.{Views};
+ghost use Rattle.farm_cli.specs.Views.{views_of};
 
 use crate::checking::check;
 use crate::ended::Ended;
@@ -24,18 +24,7 @@ pub(crate) fn obey<H: House>(
     config: Config,
     house: &mut H,
 ) -> Ended
-    ensures obeyed { let views : Views H.File H.Console H.Notes H.Time H.Ids = record {
-      file_left = H.File.left;
-      file_faults = H.File.faults;
-      console_left = H.Console.left;
-      console_written = H.Console.written;
-      console_read_faults = H.Console.read_faults;
-      console_write_faults = H.Console.write_faults;
-      notes_written = H.Notes.written;
-      notes_faults = H.Notes.faults;
-      clock_told = H.Time.told;
-      draws_told = H.Ids.told;
-    } in
+    ensures obeyed { let views = views_of H.File.Source H.Console.Link H.Notes.Sink H.Time.Clock H.Ids.Draws in
         Obeyed views (H.lends house.old) (H.lends house.new) config command.now result.status }
     ensures file { (H.lends house.new).file ≡ (H.lends house.old).file }
     ensures notes { (H.lends house.new).notes ≡ (H.lends house.old).notes }
@@ -50,18 +39,7 @@ pub(crate) fn obey<H: House>(
 
 /// Serves the console over a farm without tasks.
 fn converse<H: House>(alloc: Global, config: Config, house: &mut H) -> Status
-    ensures conversed { let views : Views H.File H.Console H.Notes H.Time H.Ids = record {
-      file_left = H.File.left;
-      file_faults = H.File.faults;
-      console_left = H.Console.left;
-      console_written = H.Console.written;
-      console_read_faults = H.Console.read_faults;
-      console_write_faults = H.Console.write_faults;
-      notes_written = H.Notes.written;
-      notes_faults = H.Notes.faults;
-      clock_told = H.Time.told;
-      draws_told = H.Ids.told;
-    } in
+    ensures conversed { let views = views_of H.File.Source H.Console.Link H.Notes.Sink H.Time.Clock H.Ids.Draws in
         Conversed views (H.lends house.old) (H.lends house.new) config result }
     ensures file { (H.lends house.new).file ≡ (H.lends house.old).file }
     ensures notes { (H.lends house.new).notes ≡ (H.lends house.old).notes }
@@ -101,18 +79,7 @@ fn status_of(served: Served) -> Status
 
 /// Expands the console's scopes over the roles of a farm.
 fn expand_over<H: House>(alloc: Global, config: &Config, house: &mut H) -> Ended
-    ensures used { let views : Views H.File H.Console H.Notes H.Time H.Ids = record {
-      file_left = H.File.left;
-      file_faults = H.File.faults;
-      console_left = H.Console.left;
-      console_written = H.Console.written;
-      console_read_faults = H.Console.read_faults;
-      console_write_faults = H.Console.write_faults;
-      notes_written = H.Notes.written;
-      notes_faults = H.Notes.faults;
-      clock_told = H.Time.told;
-      draws_told = H.Ids.told;
-    } in
+    ensures used { let views = views_of H.File.Source H.Console.Link H.Notes.Sink H.Time.Clock H.Ids.Draws in
         UsedConsole views (H.lends house.old) (H.lends house.new) (λ before after. Expands config.now.roles before after result.status) }
     ensures file { (H.lends house.new).file ≡ (H.lends house.old).file }
     ensures notes { (H.lends house.new).notes ≡ (H.lends house.old).notes }
@@ -126,18 +93,7 @@ fn expand_over<H: House>(alloc: Global, config: &Config, house: &mut H) -> Ended
 
 /// Counts what a farm has, on the console.
 fn check_over<H: House>(alloc: Global, config: &Config, house: &mut H) -> Ended
-    ensures used { let views : Views H.File H.Console H.Notes H.Time H.Ids = record {
-      file_left = H.File.left;
-      file_faults = H.File.faults;
-      console_left = H.Console.left;
-      console_written = H.Console.written;
-      console_read_faults = H.Console.read_faults;
-      console_write_faults = H.Console.write_faults;
-      notes_written = H.Notes.written;
-      notes_faults = H.Notes.faults;
-      clock_told = H.Time.told;
-      draws_told = H.Ids.told;
-    } in
+    ensures used { let views = views_of H.File.Source H.Console.Link H.Notes.Sink H.Time.Clock H.Ids.Draws in
         UsedConsole views (H.lends house.old) (H.lends house.new) (λ before after. Checks config.now before after result.status) }
     ensures file { (H.lends house.new).file ≡ (H.lends house.old).file }
     ensures notes { (H.lends house.new).notes ≡ (H.lends house.old).notes }

@@ -8,7 +8,7 @@ ghost use Rattle.farm_cli.specs.House.{after_closing};
 ghost use Rattle.farm_cli.specs.Notes.{TellsStatus};
 ghost use Rattle.farm_cli.specs.Run.{Ran, RanCommand, RanOverFile};
 ghost use Rattle.farm_cli.specs.Runs.{Runs};
-ghost use Rattle.farm_cli.specs.Views.{Views};
+ghost use Rattle.farm_cli.specs.Views.{views_of};
 
 use crate::commands::obey;
 use crate::ended::Ended;
@@ -25,18 +25,7 @@ use std::alloc::Global;
 /// tasks, `expand FARM` writes all that the console's scopes give, `check FARM` counts what the farm file has. All that was asked for
 /// is given back, and the notes are told a line where the status is not `Done`.
 pub fn run<H: House>(alloc: Global, words: &[String], house: &mut H) -> Status
-    ensures runs { let views : Views H.File H.Console H.Notes H.Time H.Ids = record {
-      file_left = H.File.left;
-      file_faults = H.File.faults;
-      console_left = H.Console.left;
-      console_written = H.Console.written;
-      console_read_faults = H.Console.read_faults;
-      console_write_faults = H.Console.write_faults;
-      notes_written = H.Notes.written;
-      notes_faults = H.Notes.faults;
-      clock_told = H.Time.told;
-      draws_told = H.Ids.told;
-    } in
+    ensures runs { let views = views_of H.File.Source H.Console.Link H.Notes.Sink H.Time.Clock H.Ids.Draws in
         Runs views (H.lends house.old) (H.lends house.new) (H.refusals house.old) (H.refusals house.new)
         (reading (map string_bytes words.now)) result }
     ensures notes { TellsStatus H.Notes.written H.Notes.faults (H.lends house.old).notes (H.lends house.new).notes result }
@@ -50,18 +39,7 @@ pub fn run<H: House>(alloc: Global, words: &[String], house: &mut H) -> Status
 
 /// Runs what the words ask for, where they are taken.
 fn perform<H: House>(alloc: Global, words: &[String], house: &mut H) -> Ended
-    ensures ran { let views : Views H.File H.Console H.Notes H.Time H.Ids = record {
-      file_left = H.File.left;
-      file_faults = H.File.faults;
-      console_left = H.Console.left;
-      console_written = H.Console.written;
-      console_read_faults = H.Console.read_faults;
-      console_write_faults = H.Console.write_faults;
-      notes_written = H.Notes.written;
-      notes_faults = H.Notes.faults;
-      clock_told = H.Time.told;
-      draws_told = H.Ids.told;
-    } in
+    ensures ran { let views = views_of H.File.Source H.Console.Link H.Notes.Sink H.Time.Clock H.Ids.Draws in
         Ran views (H.lends house.old) (H.lends house.new) (H.refusals house.old) (H.refusals house.new)
         (reading (map string_bytes words.now)) result.status }
     ensures notes { (H.lends house.new).notes ≡ (H.lends house.old).notes }
@@ -79,18 +57,7 @@ fn perform<H: House>(alloc: Global, words: &[String], house: &mut H) -> Ended
 
 /// Runs a command, where its farm file can be opened.
 fn run_command<H: House>(alloc: Global, command: &Command, house: &mut H) -> Ended
-    ensures ran { let views : Views H.File H.Console H.Notes H.Time H.Ids = record {
-      file_left = H.File.left;
-      file_faults = H.File.faults;
-      console_left = H.Console.left;
-      console_written = H.Console.written;
-      console_read_faults = H.Console.read_faults;
-      console_write_faults = H.Console.write_faults;
-      notes_written = H.Notes.written;
-      notes_faults = H.Notes.faults;
-      clock_told = H.Time.told;
-      draws_told = H.Ids.told;
-    } in
+    ensures ran { let views = views_of H.File.Source H.Console.Link H.Notes.Sink H.Time.Clock H.Ids.Draws in
         RanCommand views (H.lends house.old) (H.lends house.new) (H.refusals house.old) (H.refusals house.new) command.now result.status }
     ensures notes { (H.lends house.new).notes ≡ (H.lends house.old).notes }
     ensures later { H.refusals house.old ≤ H.refusals house.new }
@@ -103,18 +70,7 @@ fn run_command<H: House>(alloc: Global, command: &Command, house: &mut H) -> End
 
 /// Runs a command over a farm file, which is given back before the command begins.
 fn run_over_file<H: House>(alloc: Global, command: &Command, file: H::File, house: &mut H) -> Ended
-    ensures ran { let views : Views H.File H.Console H.Notes H.Time H.Ids = record {
-      file_left = H.File.left;
-      file_faults = H.File.faults;
-      console_left = H.Console.left;
-      console_written = H.Console.written;
-      console_read_faults = H.Console.read_faults;
-      console_write_faults = H.Console.write_faults;
-      notes_written = H.Notes.written;
-      notes_faults = H.Notes.faults;
-      clock_told = H.Time.told;
-      draws_told = H.Ids.told;
-    } in
+    ensures ran { let views = views_of H.File.Source H.Console.Link H.Notes.Sink H.Time.Clock H.Ids.Draws in
         (closed : H.File) × ((H.lends house.new).file ≡ after_closing (H.lends house.old).file closed)
         × LosesWithin (LONGEST_FILE + piece_size) (H.File.left file) (H.File.left closed)
         × RanOverFile views (H.lends house.old) (H.lends house.new) command.now file closed result.status }

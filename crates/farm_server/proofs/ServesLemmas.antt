@@ -1,16 +1,15 @@
 -- How what a connection did goes together, message by message.
-use Rattle.std.proofs.Common.{◌≡◌, ◌≢◌, ℕ, suc, ◌-◌, ◌<◌, ◌≤◌, ◌⊎◌, inl, inr, Bool, true, false, ◌||◌, eqb, List, [], ◌∷◌, ◌++◌, length, map, Option, Some, None, IfSome, refl, sym, ◌∙◌, ap, subst, append_assoc, append-nil, arith}
+use Rattle.std.proofs.Common.{◌≡◌, Err, ◌≢◌, ℕ, suc, ◌-◌, ◌<◌, ◌≤◌, ◌⊎◌, inl, inr, Bool, true, false, ◌||◌, eqb, List, [], ◌∷◌, ◌++◌, length, map, Option, Some, None, IfSome, refl, sym, ◌∙◌, ap, subst, append_assoc, append-nil, arith}
 use Rattle.std.proofs.lemmas.Bool.{ne_eqb}
 use Rattle.std.specs.Io.KnownBytes.{Appends}
 use Rattle.std.proofs.KnownBytes.{Appends-nil, Appends-trans}
-use Rattle.causes.specs.Causes.{Rose}
 use Rattle.causes.proofs.LogsLemmas.{LogGrows-none, LogGrows-then}
 use Rattle.history.specs.Asks.{AsksInTurn}
 use Rattle.history.proofs.AsksLemmas.{AsksInTurn-none, AsksInTurn-then}
 use Rattle.http_wire.specs.declared.message.Message.{Message}
 use Rattle.http_wire.specs.declared.message.Wire.{Wire}
 use Rattle.http_wire.specs.declared.message.Wire.TheVariants as wire
-use Rattle.http_wire.specs.Reading.{KeepsUnlessFailed}
+use Rattle.http_wire.specs.Calls.{CountsReads}
 use Rattle.http_wire.specs.Stream.{whole, Gives, Ending, Messages, TakesOne, Stops, is_of_stream, stopped, closed, full}
 use Rattle.farm_machine.specs.declared.reply.Reply.{Reply}
 use Rattle.farm_machine.specs.Law.{opened}
@@ -371,7 +370,7 @@ refused-of_stream wire.ReadFault refused = cc
 refused-of_stream wire.NoMemory refused = cc
 
 -- a refusal of the wire is no failed read
-kept_refused : (before now : ℕ) (reason : Wire) → is_refused reason ≡ true → KeepsUnlessFailed before now reason → now ≡ before
+kept_refused : (before now : ℕ) (reason : Wire) → is_refused reason ≡ true → CountsReads {T = Message} before now (Err reason) → now ≡ before
 kept_refused before now wire.HeadFault refused kept = kept
 kept_refused before now wire.HeadTooLarge refused kept = kept
 kept_refused before now wire.NoLength refused kept = kept
@@ -382,33 +381,34 @@ kept_refused before now wire.ReadFault refused kept = cc
 kept_refused before now wire.NoMemory refused kept = kept
 
 -- no message came, and the connection ends so
-pub Turns-refused : (room : ℕ) (old : Standing) (stream left_now : Option (List ℕ)) (reads now : ℕ) (before after : Telling) (reason : Wire) (served : Served) → 0 < room → Stops stream reason → (reason ≡ wire.ReadFault → Rose reads now) → KeepsUnlessFailed reads now reason → reads ≤ now → before.moments ≡ after.moments → before.ids ≡ after.ids → before.gate ≡ after.gate → before.write_faults ≤ after.write_faults → Refuses before.written after.written before.write_faults after.write_faults reason served → ServesWithin room old old (outside stream before reads) (outside left_now after now) served
-Turns-refused room old stream left_now reads now before after reason Closed some halts fault keeps later moments ids gate writes refuses =
-    let Q : Wire → Type 0 = λ r. KeepsUnlessFailed reads now r in
+pub Turns-refused : (room : ℕ) (old : Standing) (stream left_now : Option (List ℕ)) (reads now : ℕ) (before after : Telling) (reason : Wire) (served : Served) → 0 < room → Stops stream reason → CountsReads {T = Message} reads now (Err reason) → reads ≤ now → before.moments ≡ after.moments → before.ids ≡ after.ids → before.gate ≡ after.gate → before.write_faults ≤ after.write_faults → Refuses before.written after.written before.write_faults after.write_faults reason served → ServesWithin room old old (outside stream before reads) (outside left_now after now) served
+Turns-refused room old stream left_now reads now before after reason Closed some halts keeps later moments ids gate writes refuses =
+    let Q : Wire → Type 0 = λ r. CountsReads {T = Message} reads now (Err r) in
     let P : Wire → Type 0 = λ r. Stops stream r in
     ServesWithin-none room old old (outside stream before reads) (outside left_now after now) Closed (AsksInTurn-none farm_rules opened old.stands) refl moments ids (omega arith) (closes_there stream (subst P refuses.0 halts)) (nothing_said (outside stream before reads) (outside left_now after now) refuses.1 gate) (subst Q refuses.0 keeps, refuses.2) later writes
   where
     closes_there : (stream : Option (List ℕ)) → Stops stream wire.End → IfSome stream (λ bytes. EndsAs room bytes [] Closed)
     closes_there None halts = tt
     closes_there (Some bytes) halts = inr (stopped_here room (Some bytes) wire.End some refl halts)
-Turns-refused room old stream left_now reads now before after reason EndedInside some halts fault keeps later moments ids gate writes refuses =
-    let Q : Wire → Type 0 = λ r. KeepsUnlessFailed reads now r in
+Turns-refused room old stream left_now reads now before after reason EndedInside some halts keeps later moments ids gate writes refuses =
+    let Q : Wire → Type 0 = λ r. CountsReads {T = Message} reads now (Err r) in
     let P : Wire → Type 0 = λ r. Stops stream r in
     ServesWithin-none room old old (outside stream before reads) (outside left_now after now) EndedInside (AsksInTurn-none farm_rules opened old.stands) refl moments ids (omega arith) (stopped_here room stream wire.EndedInside some refl (subst P refuses.0 halts)) (nothing_said (outside stream before reads) (outside left_now after now) refuses.1 gate) (subst Q refuses.0 keeps, refuses.2) later writes
-Turns-refused room old stream left_now reads now before after reason ReadFault some halts fault keeps later moments ids gate writes refuses =
-    ServesWithin-none room old old (outside stream before reads) (outside left_now after now) ReadFault (AsksInTurn-none farm_rules opened old.stands) refl moments ids (omega arith) (no_read stream) (nothing_said (outside stream before reads) (outside left_now after now) refuses.1 gate) (fault refuses.0, refuses.2) later writes
+Turns-refused room old stream left_now reads now before after reason ReadFault some halts keeps later moments ids gate writes refuses =
+    let Q : Wire → Type 0 = λ r. CountsReads {T = Message} reads now (Err r) in
+    ServesWithin-none room old old (outside stream before reads) (outside left_now after now) ReadFault (AsksInTurn-none farm_rules opened old.stands) refl moments ids (omega arith) (no_read stream) (nothing_said (outside stream before reads) (outside left_now after now) refuses.1 gate) (subst Q refuses.0 keeps, refuses.2) later writes
   where
     no_read : (stream : Option (List ℕ)) → IfSome stream (λ bytes. EndsAs room bytes [] ReadFault)
     no_read None = tt
     no_read (Some bytes) = some
-Turns-refused room old stream left_now reads now before after reason NoMemory some halts fault keeps later moments ids gate writes refuses =
-    let Q : Wire → Type 0 = λ r. KeepsUnlessFailed reads now r in
+Turns-refused room old stream left_now reads now before after reason NoMemory some halts keeps later moments ids gate writes refuses =
+    let Q : Wire → Type 0 = λ r. CountsReads {T = Message} reads now (Err r) in
     ServesWithin-none room old old (outside stream before reads) (outside left_now after now) NoMemory (AsksInTurn-none farm_rules opened old.stands) refl moments ids (omega arith) (no_front room stream some) (nothing_said (outside stream before reads) (outside left_now after now) refuses.1 gate) (subst Q refuses.0 keeps, refuses.2) later writes
-Turns-refused room old stream left_now reads now before after reason (WireFault told) some halts fault keeps later moments ids gate writes refuses =
+Turns-refused room old stream left_now reads now before after reason (WireFault told) some halts keeps later moments ids gate writes refuses =
     let P : Wire → Type 0 = λ r. Stops stream r in
     let refused : is_refused told ≡ true = rw refuses.0 refuses.1 in
     ServesWithin-none room old old (outside stream before reads) (outside left_now after now) (WireFault told) (AsksInTurn-none farm_rules opened old.stands) refl moments ids (omega arith) (refused_here room stream told refused (stopped_here room stream told some (refused-of_stream told refused) (subst P (sym refuses.0) halts))) (refused, record { written = rw refuses.0 refuses.2; gate = rw gate (LogGrows-none after.gate) }) (kept_refused reads now reason refuses.1 keeps, refuses.3) later writes
-Turns-refused room old stream left_now reads now before after reason WriteFault some halts fault keeps later moments ids gate writes refuses =
+Turns-refused room old stream left_now reads now before after reason WriteFault some halts keeps later moments ids gate writes refuses =
     let there = stopped_here room stream reason some (refused-of_stream reason refuses.0) halts in
     let broke : BreaksOwnReply room (outside stream before reads) (outside left_now after now) [] [] = record {
       reason = reason;
@@ -423,7 +423,7 @@ Turns-refused room old stream left_now reads now before after reason WriteFault 
     no_write : (stream : Option (List ℕ)) → IfSome stream (λ bytes. EndsAs room bytes [] WriteFault)
     no_write None = tt
     no_write (Some bytes) = tt
-Turns-refused room old stream left_now reads now before after reason Full some halts fault keeps later moments ids gate writes refuses =
+Turns-refused room old stream left_now reads now before after reason Full some halts keeps later moments ids gate writes refuses =
     absurd refuses
 
 -- the room is used up

@@ -5,6 +5,9 @@ use Rattle.std.specs.Io.KnownBytes.{Appends}
 use Rattle.causes.specs.Causes.{Rose}
 use Rattle.causes.specs.Logs.{LogGrows}
 use Rattle.history.specs.Asks.{AsksInTurn}
+use Rattle.farm_text.specs.declared.clock.Clock as clocks
+use Rattle.farm_text.specs.declared.draws.Draws as draws
+use Rattle.http_wire.specs.declared.link.Link as links
 use Rattle.http_wire.specs.declared.message.Message.{Message}
 use Rattle.http_wire.specs.declared.message.Wire.{Wire}
 use Rattle.http_wire.specs.declared.message.Wire.TheVariants as wire
@@ -16,6 +19,7 @@ use Rattle.farm_machine.specs.Law.{Opening, opened}
 use Rattle.farm_machine.specs.Step.{farm_rules}
 use Rattle.farm_server.specs.ReplyText.{reply_text, wire_text}
 use Rattle.farm_server.specs.Routes.{question_of}
+use Rattle.farm_server.specs.declared.gate.Gate as gates
 use Rattle.farm_server.specs.declared.gate.When.{When}
 use Rattle.farm_server.specs.declared.gate.When.TheVariants.{Asked, Answered}
 use Rattle.farm_server.specs.declared.served.Served.{Served}
@@ -31,6 +35,19 @@ pub record Outside : Type 0 where
   pub gate : Option (List When)
   pub read_faults : ℕ
   pub write_faults : ℕ
+
+-- the same, as the traits of a link, a clock, draws and a gate have it
+abbrev pub outside_of : {L C R G : Type 0} → links.Ghosts L → clocks.Ghosts C → draws.Ghosts R → gates.Ghosts G → L → C → R → G → Outside
+outside_of of_link of_clock of_draws of_gate link clock ids gate =
+    record {
+      left = of_link.left link;
+      written = of_link.written link;
+      moments = of_clock.told clock;
+      ids = of_draws.told ids;
+      gate = of_gate.told gate;
+      read_faults = of_link.read_faults link;
+      write_faults = of_link.write_faults link;
+    }
 
 -- a message that was asked, with the moment and the id told for it
 pub record Ask : Type 0 where

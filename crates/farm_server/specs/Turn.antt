@@ -29,6 +29,10 @@ pub record Telling : Type 0 where
   pub gate : Option (List When)
   pub write_faults : ℕ
 
+-- what the outside tells of answers, of all that it tells
+abbrev pub telling_of : Outside → Telling
+telling_of all = record { written = all.written; moments = all.moments; ids = all.ids; gate = all.gate; write_faults = all.write_faults }
+
 -- One message was asked: one moment and one id were told for it, and the desk was asked once.
 pub record AsksOnce (old new : Standing) (moments_before moments_after : Option (List ℕ)) (ids_before ids_after : Option (List (List ℕ))) (message : Message) (reply : Reply) : Type 0 where
   pub moment : ℕ

@@ -2,8 +2,8 @@
 ghost use Rattle.std.specs.Prelude.{◌≡◌, ◌-◌, ◌<◌, ◌≤◌};
 ghost use Rattle.std.specs.Io.KnownBytes.{prepend_known};
 ghost use Rattle.farm_server.specs.Routes.{call_of as call_made};
-ghost use Rattle.farm_server.specs.Served.{Serves};
-ghost use Rattle.farm_server.specs.Turn.{AsksOnce, Ends, Refuses, Turns};
+ghost use Rattle.farm_server.specs.Served.{outside_of, Serves};
+ghost use Rattle.farm_server.specs.Turn.{telling_of, AsksOnce, Ends, Refuses, Turns};
 ghost use Rattle.farm_server.specs.declared.served.TheConstants.{REQUESTS};
 
 use crate::gate::{Gate, When};
@@ -40,24 +40,8 @@ pub fn serve_connection<
     ensures serves { Serves
         (record { stands = K.stands desk.old; spare = K.spare desk.old })
         (record { stands = K.stands desk.new; spare = K.spare desk.new })
-        (record {
-          left = L.left link.old;
-          written = L.written link.old;
-          moments = C.told clock.old;
-          ids = R.told draws.old;
-          gate = G.told gate.old;
-          read_faults = L.read_faults link.old;
-          write_faults = L.write_faults link.old;
-        })
-        (record {
-          left = L.left link.new;
-          written = L.written link.new;
-          moments = C.told clock.new;
-          ids = R.told draws.new;
-          gate = G.told gate.new;
-          read_faults = L.read_faults link.new;
-          write_faults = L.write_faults link.new;
-        })
+        (outside_of L.Link C.Clock R.Draws G.Gate link.old clock.old draws.old gate.old)
+        (outside_of L.Link C.Clock R.Draws G.Gate link.new clock.new draws.new gate.new)
         result }
 {
     let mut reader = match Reader::new(alloc) {
@@ -96,24 +80,8 @@ fn turn<
     ensures turns { Turns (REQUESTS - place)
         (record { stands = K.stands desk.old; spare = K.spare desk.old })
         (record { stands = K.stands desk.new; spare = K.spare desk.new })
-        (record {
-          left = prepend_known reader.old (L.left link.old);
-          written = L.written link.old;
-          moments = C.told clock.old;
-          ids = R.told draws.old;
-          gate = G.told gate.old;
-          read_faults = L.read_faults link.old;
-          write_faults = L.write_faults link.old;
-        })
-        (record {
-          left = L.left link.new;
-          written = L.written link.new;
-          moments = C.told clock.new;
-          ids = R.told draws.new;
-          gate = G.told gate.new;
-          read_faults = L.read_faults link.new;
-          write_faults = L.write_faults link.new;
-        })
+        (record (outside_of L.Link C.Clock R.Draws G.Gate link.old clock.old draws.old gate.old) { left = prepend_known reader.old (L.left link.old) })
+        (outside_of L.Link C.Clock R.Draws G.Gate link.new clock.new draws.new gate.new)
         (prepend_known reader.new (L.left link.new)) result }
 {
     match reader.next_request(alloc, link) {
@@ -145,20 +113,8 @@ fn answer<
     ensures ends { Ends (REQUESTS - place)
         (record { stands = K.stands desk.old; spare = K.spare desk.old })
         (record { stands = K.stands desk.new; spare = K.spare desk.new })
-        (record {
-          written = L.written link.old;
-          moments = C.told clock.old;
-          ids = R.told draws.old;
-          gate = G.told gate.old;
-          write_faults = L.write_faults link.old;
-        })
-        (record {
-          written = L.written link.new;
-          moments = C.told clock.new;
-          ids = R.told draws.new;
-          gate = G.told gate.new;
-          write_faults = L.write_faults link.new;
-        })
+        (telling_of (outside_of L.Link C.Clock R.Draws G.Gate link.old clock.old draws.old gate.old))
+        (telling_of (outside_of L.Link C.Clock R.Draws G.Gate link.new clock.new draws.new gate.new))
         message.now result }
     ensures left { L.left link.new ≡ L.left link.old }
     ensures read_faults { L.read_faults link.new ≡ L.read_faults link.old }

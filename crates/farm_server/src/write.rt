@@ -2,7 +2,8 @@
 ghost use Rattle.std.specs.Prelude.{◌≡◌, ◌+◌, ◌≤◌, ◌++◌, length, OnOk, OnErr};
 ghost use Rattle.std.specs.Io.KnownBytes.{Appends};
 ghost use Rattle.causes.specs.Causes.{HasCause};
-ghost use Rattle.http_wire.specs.Whole.{AppendsFront};
+ghost use Rattle.http_wire.specs.Calls.{state_of};
+ghost use Rattle.http_wire.specs.Whole.{WritesAll};
 ghost use Rattle.farm_server.specs.ReplyText.{reply_text};
 
 use crate::head::reply_head;
@@ -15,11 +16,7 @@ const PIECE: usize = 1_024;
 
 /// Writes a reply, which says whether it closes the connection: in one write, where it is short.
 pub(crate) fn write_reply<L: Link>(link: &mut L, reply: &Reply, closes: bool) -> Result<(), Failed>
-    ensures ok { OnOk result (Appends (L.written link.old) (L.written link.new) (reply_text reply.now closes)) }
-    ensures front { OnErr result (AppendsFront (L.written link.old) (L.written link.new) (reply_text reply.now closes)) }
-    ensures cause { HasCause (L.write_faults link.old) (L.write_faults link.new) result }
-    ensures left { L.left link.new ≡ L.left link.old }
-    ensures read_faults { L.read_faults link.new ≡ L.read_faults link.old }
+    ensures { WritesAll (state_of L.Link link.old) (state_of L.Link link.new) (reply_text reply.now closes) result }
 {
     let head = reply_head(reply, closes);
     write_pair(link, head.as_slice(), reply.body().as_bytes())
@@ -27,11 +24,7 @@ pub(crate) fn write_reply<L: Link>(link: &mut L, reply: &Reply, closes: bool) ->
 
 /// Writes the bytes of the one and then of the other.
 fn write_pair<L: Link>(link: &mut L, head: &[u8], body: &[u8]) -> Result<(), Failed>
-    ensures ok { OnOk result (Appends (L.written link.old) (L.written link.new) (head.now ++ body.now)) }
-    ensures front { OnErr result (AppendsFront (L.written link.old) (L.written link.new) (head.now ++ body.now)) }
-    ensures cause { HasCause (L.write_faults link.old) (L.write_faults link.new) result }
-    ensures left { L.left link.new ≡ L.left link.old }
-    ensures read_faults { L.read_faults link.new ≡ L.read_faults link.old }
+    ensures { WritesAll (state_of L.Link link.old) (state_of L.Link link.new) (head.now ++ body.now) result }
 {
     if head.len() <= PIECE && body.len() <= PIECE - head.len() {
         return write_joined(link, head, body);
@@ -45,11 +38,7 @@ fn write_pair<L: Link>(link: &mut L, head: &[u8], body: &[u8]) -> Result<(), Fai
 /// The same, put together first.
 fn write_joined<L: Link>(link: &mut L, head: &[u8], body: &[u8]) -> Result<(), Failed>
     requires { length head.now + length body.now ≤ PIECE }
-    ensures ok { OnOk result (Appends (L.written link.old) (L.written link.new) (head.now ++ body.now)) }
-    ensures front { OnErr result (AppendsFront (L.written link.old) (L.written link.new) (head.now ++ body.now)) }
-    ensures cause { HasCause (L.write_faults link.old) (L.write_faults link.new) result }
-    ensures left { L.left link.new ≡ L.left link.old }
-    ensures read_faults { L.read_faults link.new ≡ L.read_faults link.old }
+    ensures { WritesAll (state_of L.Link link.old) (state_of L.Link link.new) (head.now ++ body.now) result }
 {
     let mut piece = [0; PIECE];
     write_through(link, &mut piece[..head.len() + body.len()], head, body)
@@ -63,11 +52,7 @@ fn write_through<L: Link>(
     body: &[u8],
 ) -> Result<(), Failed>
     requires { length piece.old ≡ length head.now + length body.now }
-    ensures ok { OnOk result (Appends (L.written link.old) (L.written link.new) (head.now ++ body.now)) }
-    ensures front { OnErr result (AppendsFront (L.written link.old) (L.written link.new) (head.now ++ body.now)) }
-    ensures cause { HasCause (L.write_faults link.old) (L.write_faults link.new) result }
-    ensures left { L.left link.new ≡ L.left link.old }
-    ensures read_faults { L.read_faults link.new ≡ L.read_faults link.old }
+    ensures { WritesAll (state_of L.Link link.old) (state_of L.Link link.new) (head.now ++ body.now) result }
 {
     join(piece, head, body);
     write_all(link, piece)

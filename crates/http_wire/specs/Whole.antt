@@ -1,7 +1,8 @@
 -- All bytes written to a link or read from one, by calls that each move some of them (as `write` and `read` of POSIX, IEEE 1003.1).
-use Rattle.std.specs.Prelude.{◌≡◌, ℕ, ◌<◌, ◌≤◌, List, ◌++◌, length, Option}
+use Rattle.std.specs.Prelude.{◌≡◌, ℕ, ◌<◌, ◌≤◌, List, ◌++◌, length, Option, Result, OnOk, OnErr}
 use Rattle.std.specs.Io.KnownBytes.{Appends, Consumes}
-use Rattle.causes.specs.Causes.{Rose}
+use Rattle.causes.specs.Causes.{Rose, HasCause}
+use Rattle.http_wire.specs.Calls.{LinkState}
 use Rattle.http_wire.specs.declared.body.TheConstants.{PIECE}
 use Rattle.http_wire.specs.declared.whole.ReadAllFault.{ReadAllFault}
 use Rattle.http_wire.specs.declared.whole.ReadAllFault.TheVariants.{Failed, NoMemory}
@@ -26,3 +27,11 @@ LosesWithin most before now = (gone : List ℕ) × Consumes before now gone × (
 abbrev pub FailsToReadAll : ℕ → ℕ → ReadAllFault → Type 0
 FailsToReadAll before now Failed = Rose before now
 FailsToReadAll before now NoMemory = now ≡ before
+
+-- All of the text was written, or after a failed write, for which the count of faults rose, a front of it and not all. Nothing was read.
+pub record WritesAll {T E : Type 0} (before now : LinkState) (text : List ℕ) (result : Result T E) : Type 0 where
+  pub ok : OnOk result (Appends before.written now.written text)
+  pub front : OnErr result (AppendsFront before.written now.written text)
+  pub cause : HasCause before.write_faults now.write_faults result
+  pub left : now.left ≡ before.left
+  pub read_faults : now.read_faults ≡ before.read_faults

@@ -2,7 +2,8 @@
 ghost use Rattle.std.specs.Prelude.{◌≡◌, ◌+◌, ◌<◌, ◌≤◌, length, vec_len, MatchOption, IfSome, IfOk, IfErr, OnOk, OnErr};
 ghost use Rattle.std.specs.Io.KnownBytes.{Appends, IsAtEnd};
 ghost use Rattle.causes.specs.Causes.{HasCause};
-ghost use Rattle.http_wire.specs.Whole.{AppendsFront, piece_size, LosesWithin, FailsToReadAll};
+ghost use Rattle.http_wire.specs.Calls.{state_of};
+ghost use Rattle.http_wire.specs.Whole.{WritesAll, piece_size, LosesWithin, FailsToReadAll};
 
 use crate::body::fill;
 use crate::link::Link;
@@ -12,11 +13,7 @@ use std::alloc::Global;
 
 /// Writes all of the bytes. Where a write fails, a front of them is written, and not all.
 pub fn write_all<L: Link>(link: &mut L, bytes: &[u8]) -> Result<(), Failed>
-    ensures ok { OnOk result (Appends (L.written link.old) (L.written link.new) bytes.now) }
-    ensures front { OnErr result (AppendsFront (L.written link.old) (L.written link.new) bytes.now) }
-    ensures cause { HasCause (L.write_faults link.old) (L.write_faults link.new) result }
-    ensures left { L.left link.new ≡ L.left link.old }
-    ensures read_faults { L.read_faults link.new ≡ L.read_faults link.old }
+    ensures { WritesAll (state_of L.Link link.old) (state_of L.Link link.new) bytes.now result }
 {
     let mut rest = bytes;
     while !rest.is_empty() {
