@@ -9,7 +9,7 @@ use Rattle.role_expand.specs.Roles.{RoleData}
 use Rattle.role_expand.specs.Closures.{IsClosure, HasMoreDerivable}
 use Rattle.role_expand.proofs.SetLemmas.{closure_is_one, closure_or_more}
 use Rattle.farm_cli.specs.Expanding.{most_scopes, HasScopes, IsExpansion, IsBadInput, Expands}
-use Rattle.farm_cli.specs.Views.{Talk}
+use Rattle.http_wire.specs.Calls.{LinkState}
 use Rattle.farm_cli.specs.Writing.{SameReads, SameWrites, WritesText}
 use Rattle.farm_cli.specs.declared.status.Status.{Status}
 use Rattle.farm_cli.specs.declared.status.Status.TheVariants.{Done, Usage, FarmFile, Input, Opening, Read, Write, NoMemory as OutOfMemory, Wire}
@@ -43,7 +43,7 @@ held_expansion None roles input text all is = tt
 held_expansion (Some bytes) roles input text all is = subst (λ i. IsExpansion roles i text) all is
 
 -- an input was read to its end, and then its expansion was written
-pub Expands-written : (roles : List RoleData) (before between after : Talk) (input text : List ℕ) (status : Status)
+pub Expands-written : (roles : List RoleData) (before between after : LinkState) (input text : List ℕ) (status : Status)
     → IfSome before.left (λ all. input ≡ all) → IsExpansion roles input text → IsAtEnd between.left
     → between.read_faults ≡ before.read_faults → SameWrites before between → SameReads between after
     → WritesText between after text status → Expands roles before after status

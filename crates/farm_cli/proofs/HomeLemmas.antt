@@ -12,7 +12,8 @@ use Rattle.farm_cli.specs.Home.{IsHome, AreHome, AllHome}
 use Rattle.farm_cli.specs.House.{after_giving, after_return, WasLent, Files, unopened, out, back, untold, after_opened, after_closing, WasOpened, Lendings}
 use Rattle.farm_cli.specs.Notes.{TellsLine, TellsStatus}
 use Rattle.farm_cli.specs.Run.{LeavesConsole, UsedConsole, Obeyed, RanOverFile, RanCommand, Ran}
-use Rattle.farm_cli.specs.Views.{Views, Talk}
+use Rattle.http_wire.specs.Calls.{LinkState}
+use Rattle.farm_cli.specs.Views.{Views}
 
 IsHome-same : {T : Type 0} (old new : Lending T) → new ≡ old → IsHome old new
 IsHome-same old new same = record { kept = λ x e. inl (same ∙ e); not_out = λ e. sym same ∙ e }
@@ -57,7 +58,7 @@ ConsoleHome-left old new left = record {
   draws = IsHome-same old.draws new.draws left.draws;
 }
 
-ConsoleHome-used : {F C N T I : Type 0} (views : Views F C N T I) (old new : Lendings F C N T I) (Did : Talk → Talk → Type 0) → UsedConsole views old new Did → ConsoleHome old new
+ConsoleHome-used : {F C N T I : Type 0} (views : Views F C N T I) (old new : Lendings F C N T I) (Did : LinkState → LinkState → Type 0) → UsedConsole views old new Did → ConsoleHome old new
 ConsoleHome-used views old new Did used = record {
   console = IsHome-lent old.console new.console used.given used.back used.console;
   clock = IsHome-same old.clock new.clock used.clock;

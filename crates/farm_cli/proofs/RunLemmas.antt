@@ -17,7 +17,8 @@ use Rattle.farm_server.specs.Served.{Ask, questions_of}
 use Rattle.farm_cli.specs.House.{CanGive, after_giving, after_return, WasLent, after_opened, after_closing, CanOpenAmong, Lendings}
 use Rattle.farm_cli.specs.Run.{LeavesConsole, UsedConsole, Obeyed, RanOverFile, RanCommand, Ran}
 use Rattle.farm_cli.specs.Serving.{IsHistoryOf, Conversed}
-use Rattle.farm_cli.specs.Views.{Views, Talk}
+use Rattle.http_wire.specs.Calls.{LinkState}
+use Rattle.farm_cli.specs.Views.{Views}
 use Rattle.farm_cli.specs.declared.status.Status.{Status}
 use Rattle.std.specs.Prelude.{Ok}
 
@@ -81,7 +82,7 @@ Conversed-same views old old' new new' config status before after h = record {
   status_is = h.status_is;
 }
 
-UsedConsole-same : {F C N T I : Type 0} (views : Views F C N T I) (old old' new new' : Lendings F C N T I) (Did : Talk → Talk → Type 0)
+UsedConsole-same : {F C N T I : Type 0} (views : Views F C N T I) (old old' new new' : Lendings F C N T I) (Did : LinkState → LinkState → Type 0)
     → LeavesConsole old old' → LeavesConsole new new' → UsedConsole views old new Did → UsedConsole views old' new' Did
 UsedConsole-same views old old' new new' Did before after h = record {
   given = h.given;

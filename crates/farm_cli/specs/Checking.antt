@@ -5,7 +5,7 @@ use Rattle.farm_machine.specs.declared.config.ConfigCounts.{ConfigCounts}
 use Rattle.farm_machine.specs.Config.{counts_of}
 use Rattle.farm_cli.specs.declared.status.Status.{Status}
 use Rattle.farm_cli.specs.declared.status.Status.TheVariants.{NoMemory}
-use Rattle.farm_cli.specs.Views.{Talk}
+use Rattle.http_wire.specs.Calls.{LinkState}
 use Rattle.farm_cli.specs.Writing.{SameReads, SameWrites, WritesText}
 
 -- the line of a farm file that breaks no rule and has these rows
@@ -18,6 +18,6 @@ abbrev pub check_text : Config → List ℕ
 check_text config = counts_text (counts_of config)
 
 -- what `check` did with a console, which it does not read, by the status that it ended with
-abbrev pub Checks : Config → Talk → Talk → Status → Type 0
+abbrev pub Checks : Config → LinkState → LinkState → Status → Type 0
 Checks config before after NoMemory = SameReads before after × SameWrites before after
 Checks config before after status = SameReads before after × WritesText before after (check_text config) status

@@ -9,12 +9,13 @@ use Rattle.role_expand.specs.Roles.{RoleData}
 use Rattle.role_expand.specs.Closures.{IsClosure, HasMoreDerivable}
 use Rattle.farm_cli.specs.declared.status.Status.{Status}
 use Rattle.farm_cli.specs.declared.status.Status.TheVariants.{Input, Read, NoMemory}
-use Rattle.farm_cli.specs.Views.{Talk}
+use Rattle.http_wire.specs.Calls.{LinkState}
+use Rattle.farm_cli.specs.declared.expanding.TheConstants.{LONGEST_INPUT}
 use Rattle.farm_cli.specs.Writing.{SameWrites, WritesText}
 
 -- the greatest number of bytes of an input
 abbrev pub longest_input : ℕ
-longest_input = 1048576
+longest_input = LONGEST_INPUT
 
 -- the greatest number of scopes that an input may give
 abbrev pub most_scopes : ℕ
@@ -44,11 +45,11 @@ abbrev pub IsBadInput : List RoleData → List ℕ → Type 0
 IsBadInput roles input = (longest_input < length input) ⊎ (((line : ℕ) × RefusesLines input (BadLine line)) ⊎ GivesTooMany roles input)
 
 -- no more was read than one piece past the greatest length
-abbrev pub ReadsEnough : Talk → Talk → Type 0
+abbrev pub ReadsEnough : LinkState → LinkState → Type 0
 ReadsEnough before after = LosesWithin (longest_input + piece_size) before.left after.left
 
 -- What `expand` did with a console, by the status that it ended with: it read all that was to be read and wrote the expansion, or refused what it read.
-abbrev pub Expands : List RoleData → Talk → Talk → Status → Type 0
+abbrev pub Expands : List RoleData → LinkState → LinkState → Status → Type 0
 Expands roles before after Input = IfSome before.left (IsBadInput roles) × (after.read_faults ≡ before.read_faults) × SameWrites before after × ReadsEnough before after
 Expands roles before after Read = Rose before.read_faults after.read_faults × SameWrites before after × ReadsEnough before after
 Expands roles before after NoMemory = (after.read_faults ≡ before.read_faults) × SameWrites before after × ReadsEnough before after

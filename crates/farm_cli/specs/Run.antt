@@ -14,7 +14,8 @@ use Rattle.farm_cli.specs.Expanding.{Expands}
 use Rattle.farm_cli.specs.FarmFile.{SetsUp, FileRefused}
 use Rattle.farm_cli.specs.House.{WasLent, CanOpenAmong, WasOpened, Lendings}
 use Rattle.farm_cli.specs.Serving.{Conversed}
-use Rattle.farm_cli.specs.Views.{Views, Talk, talk_of}
+use Rattle.http_wire.specs.Calls.{LinkState}
+use Rattle.farm_cli.specs.Views.{Views, talk_of}
 
 -- the console, the clock and the draws were not asked for
 pub record LeavesConsole {F C N T I : Type 0} (old new : Lendings F C N T I) : Type 0 where
@@ -23,7 +24,7 @@ pub record LeavesConsole {F C N T I : Type 0} (old new : Lendings F C N T I) : T
   pub draws : new.draws ≡ old.draws
 
 -- the console alone was asked for, and came back after this was done with it
-pub record UsedConsole {F C N T I : Type 0} (views : Views F C N T I) (old new : Lendings F C N T I) (Did : Talk → Talk → Type 0) : Type 0 where
+pub record UsedConsole {F C N T I : Type 0} (views : Views F C N T I) (old new : Lendings F C N T I) (Did : LinkState → LinkState → Type 0) : Type 0 where
   pub given : C
   pub back : C
   pub console : WasLent old.console new.console given back

@@ -1,5 +1,6 @@
 -- What the objects of a house tell of themselves.
 use Rattle.std.specs.Prelude.{ℕ, List, Option, None}
+use Rattle.http_wire.specs.Calls.{LinkState}
 use Rattle.http_wire.specs.declared.link.Source as sources
 use Rattle.http_wire.specs.declared.link.Link as links
 use Rattle.http_wire.specs.declared.link.Sink as sinks
@@ -50,15 +51,8 @@ outside_of views console clock draws =
       write_faults = views.console_write_faults console;
     }
 
--- what a console tells at one moment: what is left to read, what was written, and both counts of faults
-pub record Talk : Type 0 where
-  pub left : Option (List ℕ)
-  pub written : Option (List ℕ)
-  pub read_faults : ℕ
-  pub write_faults : ℕ
-
--- the same of a console of a house
-abbrev pub talk_of : {F C N T I : Type 0} → Views F C N T I → C → Talk
+-- what a console of a house tells at one moment
+abbrev pub talk_of : {F C N T I : Type 0} → Views F C N T I → C → LinkState
 talk_of views console =
     record {
       left = views.console_left console;

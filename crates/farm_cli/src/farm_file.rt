@@ -8,21 +8,22 @@ use crate::ended::Ended;
 use crate::status::Status;
 use farm_files::{Fault, FileFault, LONGEST_FILE, Rule, Table, read_farm};
 use farm_machine::config::Config;
-use http_wire::{Link, ReadAllFault, read_all};
+use http_wire::{ReadAllFault, Source, read_source};
 use std::alloc::Global;
 
-/// What the farm file sets, or how a run over it ends.
-pub(crate) fn read_config<L: Link>(alloc: Global, file: &mut L) -> Result<Config, Ended>
-    ensures taken { MatchResult result
-        (λ config. IfSome (L.left file.old) (λ bytes. SetsUp bytes config) × (L.read_faults file.new ≡ L.read_faults file.old))
-        (λ ended. FileRefused (L.left file.old) (L.read_faults file.old) (L.read_faults file.new) ended.status) }
-    ensures lost { LosesWithin (LONGEST_FILE + piece_size) (L.left file.old) (L.left file.new) }
+/// What the farm file sets, or how a run over it ends. The file is given back.
+pub(crate) fn read_config<S: Source>(alloc: Global, file: S) -> (S, Result<Config, Ended>)
+    ensures taken { MatchResult result.1
+        (λ config. IfSome (S.left file) (λ bytes. SetsUp bytes config) × (S.faults result.0 ≡ S.faults file))
+        (λ ended. FileRefused (S.left file) (S.faults file) (S.faults result.0) ended.status) }
+    ensures lost { LosesWithin (LONGEST_FILE + piece_size) (S.left file) (S.left result.0) }
 {
-    match read_all(alloc, file, LONGEST_FILE) {
-        Ok(Some(bytes)) => config_of(alloc, bytes.as_slice()),
-        Ok(None) => Err(Ended::by_fault(alloc, &TOO_LONG)),
-        Err(ReadAllFault::Failed) => Err(Ended::plain(Status::Read)),
-        Err(ReadAllFault::NoMemory) => Err(Ended::plain(Status::NoMemory)),
+    let (file, read) = read_source(alloc, file, LONGEST_FILE);
+    match read {
+        Ok(Some(bytes)) => (file, config_of(alloc, bytes.as_slice())),
+        Ok(None) => (file, Err(Ended::by_fault(alloc, &TOO_LONG))),
+        Err(ReadAllFault::Failed) => (file, Err(Ended::plain(Status::Read))),
+        Err(ReadAllFault::NoMemory) => (file, Err(Ended::plain(Status::NoMemory))),
     }
 }
 

@@ -18,7 +18,6 @@ use crate::status::Status;
 use crate::writing::write_line;
 use causes::Failed;
 use command_line::{Command, WordsFault, read_words};
-use http_wire::{Joined, MemorySink};
 use std::alloc::Global;
 
 /// Runs what the words ask for, over what the house lends: `answer FARM` serves one connection on the console over a farm without
@@ -33,7 +32,7 @@ pub fn run<H: House>(alloc: Global, words: &[String], house: &mut H) -> Status
     ensures later { H.refusals house.old ≤ H.refusals house.new }
 {
     let ended = perform(alloc, words, house);
-    tell(alloc, &ended, house);
+    tell(&ended, house);
     ended.status()
 }
 
@@ -77,13 +76,8 @@ fn run_over_file<H: House>(alloc: Global, command: &Command, file: H::File, hous
     ensures notes { (H.lends house.new).notes ≡ (H.lends house.old).notes }
     ensures refusals { H.refusals house.new ≡ H.refusals house.old }
 {
-    let mut link = Joined {
-        source: file,
-        sink: MemorySink::without_room(alloc),
-    };
-    let config = read_config(alloc, &mut link);
-    let Joined { source, sink: _ } = link;
-    house.back_farm_file(source);
+    let (file, config) = read_config(alloc, file);
+    house.back_farm_file(file);
     match config {
         Ok(config) => obey(alloc, command, config, house),
         Err(ended) => ended,
@@ -91,14 +85,14 @@ fn run_over_file<H: House>(alloc: Global, command: &Command, file: H::File, hous
 }
 
 /// Tells notes how a run ended, unless it is done. A fault of theirs changes nothing.
-fn tell<H: House>(alloc: Global, ended: &Ended, house: &mut H)
+fn tell<H: House>(ended: &Ended, house: &mut H)
     ensures told { TellsStatus H.Notes.written H.Notes.faults (H.lends house.old).notes (H.lends house.new).notes ended.now.status }
     ensures others { (H.lends house.new) ≡ record (H.lends house.old) { notes = (H.lends house.new).notes } }
     ensures refusals { H.refusals house.new ≡ H.refusals house.old }
 {
     if ended.status() != Status::Done {
         let notes = house.notes();
-        let notes = write_line(alloc, notes, ended.line());
+        let notes = write_line(notes, ended.line());
         house.back_notes(notes);
     }
 }

@@ -1,18 +1,15 @@
 //! Texts to the console and to notes.
 ghost use Rattle.std.specs.Prelude.{◌≡◌};
+ghost use Rattle.http_wire.specs.Calls.{state_of};
 ghost use Rattle.farm_cli.specs.Writing.{WritesFront, WritesText};
 
 use crate::status::Status;
 use causes::Failed;
-use http_wire::{Joined, Link, MemorySource, Sink, write_all};
-use std::alloc::Global;
+use http_wire::{Link, Sink, write_all, write_sink};
 
 /// Writes a text to the console, and says how that ended.
 pub(crate) fn write_text<L: Link>(console: &mut L, text: &[u8]) -> Status
-    ensures writes { WritesText
-        (record { left = L.left console.old; written = L.written console.old; read_faults = L.read_faults console.old; write_faults = L.write_faults console.old })
-        (record { left = L.left console.new; written = L.written console.new; read_faults = L.read_faults console.new; write_faults = L.write_faults console.new })
-        text.now result }
+    ensures writes { WritesText (state_of L.Link console.old) (state_of L.Link console.new) text.now result }
     ensures left { L.left console.new ≡ L.left console.old }
     ensures read_faults { L.read_faults console.new ≡ L.read_faults console.old }
 {
@@ -23,15 +20,9 @@ pub(crate) fn write_text<L: Link>(console: &mut L, text: &[u8]) -> Status
 }
 
 /// Writes a text to the notes, or a front of it where a write fails, and gives them back.
-pub(crate) fn write_line<N: Sink>(alloc: Global, notes: N, text: &str) -> N
+pub(crate) fn write_line<N: Sink>(notes: N, text: &str) -> N
     ensures { WritesFront (N.written notes) (N.written result) (N.faults notes) (N.faults result) text.now }
 {
-    let nothing = MemorySource::new(Vec::new(alloc), Vec::new(alloc), 1);
-    let mut link = Joined {
-        source: nothing,
-        sink: notes,
-    };
-    let _ = write_all(&mut link, text.as_bytes());
-    let Joined { source: _, sink } = link;
-    sink
+    let (notes, _) = write_sink(notes, text.as_bytes());
+    notes
 }

@@ -30,7 +30,7 @@ pub use list::{ListEnd, MessageList, read_messages};
 pub use memory::{MemoryLink, MemorySink, MemorySource};
 pub use message::{Bytes, Message, Wire};
 pub use reader::Reader;
-pub use whole::{ReadAllFault, read_all, write_all};
+pub use whole::{ReadAllFault, read_all, read_source, write_all, write_sink};
 
 #[cfg(test)]
 mod tests;

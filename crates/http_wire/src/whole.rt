@@ -3,13 +3,16 @@ ghost use Rattle.std.specs.Prelude.{◌≡◌, ◌+◌, ◌<◌, ◌≤◌, leng
 ghost use Rattle.std.specs.Io.KnownBytes.{Appends, IsAtEnd};
 ghost use Rattle.causes.specs.Causes.{HasCause};
 ghost use Rattle.http_wire.specs.Calls.{state_of};
-ghost use Rattle.http_wire.specs.Whole.{WritesAll, piece_size, LosesWithin, FailsToReadAll};
+ghost use Rattle.http_wire.specs.Whole.{AppendsFront, WritesAll, piece_size, LosesWithin, FailsToReadAll};
 
 use crate::body::fill;
-use crate::link::Link;
+use crate::host::{HostSink, HostSource};
+use crate::joined::Joined;
+use crate::link::{Link, Sink, Source};
 use crate::message::Wire;
 use causes::Failed;
 use std::alloc::Global;
+use std::io;
 
 /// Writes all of the bytes. Where a write fails, a front of them is written, and not all.
 pub fn write_all<L: Link>(link: &mut L, bytes: &[u8]) -> Result<(), Failed>
@@ -65,4 +68,40 @@ pub fn read_all<L: Link>(
         }
     }
     Ok(None)
+}
+
+/// The same of a source alone, which is given back.
+pub fn read_source<S: Source>(
+    alloc: Global,
+    source: S,
+    most: usize,
+) -> (S, Result<Option<Vec<u8>>, ReadAllFault>)
+    ensures whole { IfOk result.1 (λ read. MatchOption read
+        (IfSome (S.left source) (λ all. most < length all))
+        (λ bytes. (vec_len bytes ≤ most) × IfSome (S.left source) (λ all. bytes.items ≡ all) × IsAtEnd (S.left result.0))) }
+    ensures fault { IfErr result.1 (FailsToReadAll (S.faults source) (S.faults result.0)) }
+    ensures lost { LosesWithin (most + piece_size) (S.left source) (S.left result.0) }
+    ensures later { S.faults source ≤ S.faults result.0 }
+    ensures same_reads { OnOk result.1 (S.faults result.0 ≡ S.faults source) }
+{
+    let mut link = Joined {
+        source,
+        sink: HostSink::new(io::sink()),
+    };
+    let read = read_all(alloc, &mut link, most);
+    (link.source, read)
+}
+
+/// Writes all of the bytes to a sink alone, which is given back. Where a write fails, a front of them is written, and not all.
+pub fn write_sink<K: Sink>(sink: K, bytes: &[u8]) -> (K, Result<(), Failed>)
+    ensures ok { OnOk result.1 (Appends (K.written sink) (K.written result.0) bytes.now) }
+    ensures front { OnErr result.1 (AppendsFront (K.written sink) (K.written result.0) bytes.now) }
+    ensures cause { HasCause (K.faults sink) (K.faults result.0) result.1 }
+{
+    let mut link = Joined {
+        source: HostSource::new(io::empty()),
+        sink,
+    };
+    let written = write_all(&mut link, bytes);
+    (link.sink, written)
 }

@@ -1,10 +1,10 @@
-use Rattle.farm_cli.specs.Views.{Talk}
+use Rattle.http_wire.specs.Calls.{LinkState}
 use Rattle.farm_cli.proofs.ExpansionLemmas.{Expands-written}
 use Rattle.farm_cli.proofs.expanding.expand.Goals as goal
 
 pub returns-in-Ok : goal.returns-in-Ok
 returns-in-Ok g c =
-    let talk : g.row.L.Denot → Talk = λ link. record {
+    let talk : g.row.L.Denot → LinkState = λ link. record {
       left = g.L.Link.left link;
       written = g.L.Link.written link;
       read_faults = g.L.Link.read_faults link;

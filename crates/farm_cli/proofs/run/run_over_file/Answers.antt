@@ -4,14 +4,15 @@ use Rattle.farm_cli.proofs.run.run_over_file.Goals as goal
 
 pub returns-in-Ok-clause-ran : goal.returns-in-Ok-clause-ran
 returns-in-Ok-clause-ran g c =
-    let lends = c.back_farm_file.ensures.lends in (
-      c.read_config-config.new.file.source,
+    let lends = c.back_farm_file.ensures.lends in
+    let taken = rw c.in-Ok.is at c.read_config-file.ensures.taken in (
+      c.read_config-file.result.0,
       c.obey.ensures.file ∙ rw lends refl,
-      c.read_config-config.ensures.lost,
+      c.read_config-file.ensures.lost,
       inl (
         c.in-Ok.config,
-        c.in-Ok.ensures.taken.0,
-        c.in-Ok.ensures.taken.1,
+        taken.0,
+        taken.1,
         Obeyed-same _ (g.H.House.lends c.back_farm_file.new.self) _ _ _ _ _ _ (record { console = rw lends refl; clock = rw lends refl; draws = rw lends refl }) (record { console = refl; clock = refl; draws = refl }) c.obey.ensures.obeyed,
       ),
     )
