@@ -1,16 +1,16 @@
 -- A `Doc`, level by level, and a `BTreeMap` beside the members that it stands for.
-use Rattle.std.proofs.Common.{◌≡◌, List, [], ◌∷◌, ◌++◌, String, Vec, BTreeMap, Global, Ordering, Less, Equal, Greater, string_bytes, string_cmp, nat_cmp, refl, ap, ◌∙◌, rules}
+use Rattle.std.proofs.Common.{◌≡◌, List, [], ◌∷◌, ◌++◌, String, Vec, BTreeMap, Global, Ordering, Less, Equal, Greater, Option, Some, None, option_map, is_eq, cond, Bor, ℕ, string_bytes, string_cmp, nat_cmp, refl, ap, ◌∙◌, rules}
 use Rattle.std.proofs.lemmas.Cmp.{nat_list_cmp_total}
 use Rattle.std.specs.Cmp.Lexicographic.{slice_cmp}
 use Rattle.std.specs.List.{AllByRecursion}
 use Rattle.std.specs.List.Sorted.{IsStrictlySortedBy}
-use Rattle.std.specs.Map.{keys_of}
+use Rattle.std.specs.Map.{keys_of, lookup}
 use Rattle.std.specs.Ordering.{match_ordering, ordering_reverse}
-use Rattle.std.specs.BTreeMap.{insert_entry}
+use Rattle.std.specs.BTreeMap.{insert_entry, is_at}
 use Rattle.json.specs.Token.{Token}
 use Rattle.json.specs.Tree.{json_tokens, items_tokens, members_tokens}
 use Rattle.serde_json.specs.Written.{outline, items_outline, members_outline}
-use Rattle.farm_text.specs.Document.{Document, array, object, items_of, Members, member, members_of, put, data_of, items_data, members_data}
+use Rattle.farm_text.specs.Document.{Document, array, object, items_of, Members, member, members_of, put, member_at, data_of, items_data, members_data}
 use Rattle.farm_text.specs.Doc.{document, documents, entries_of}
 use Rattle.farm_text.specs.declared.doc.Doc.{Doc, the_lemmas}
 use Rattle.farm_text.specs.declared.doc.Doc.TheVariants.{List as ListDoc, Map as MapDoc}
@@ -61,3 +61,17 @@ put_last (first ∷ done) e more h =
     let above : slice_cmp nat_cmp (string_bytes e.0) (string_bytes first.0) ≡ Greater =
     nat_list_cmp_total.antisymm (string_bytes e.0) (string_bytes first.0) ∙ ap ordering_reverse (below_middle first done e more h.0) in
     rw above (ap (member (string_bytes first.0) (document first.1)) (put_last done e more h.1))
+
+found_or : (o : Ordering) (v : Doc) (rest : Option Doc) (d : Option Document) → option_map document rest ≡ d → option_map document (cond (is_eq o) (Some v) rest) ≡ match_ordering o d (Some (document v)) d
+found_or Less v rest d e = e
+found_or Equal v rest d e = refl
+found_or Greater v rest d e = e
+
+-- what is looked up in a map's entries
+pub document-lookup : (name : List ℕ) (es : List Entry) → option_map document (lookup (is_at (λ k. slice_cmp nat_cmp name (string_bytes k))) es) ≡ member_at name (members_in es)
+document-lookup name [] = refl
+document-lookup name (e ∷ es) = found_or (slice_cmp nat_cmp name (string_bytes e.0)) e.1 _ _ (document-lookup name es)
+
+pub document_of_ref : (r : Option (Bor Doc)) → option_map (λ x. document x.now) r ≡ option_map document (option_map (λ x. x.now) r)
+document_of_ref None = refl
+document_of_ref (Some x) = refl

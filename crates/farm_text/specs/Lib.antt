@@ -1,7 +1,9 @@
 pub mod Document
 pub mod Doc
+pub mod DateTime
 pub mod Draws
 pub mod Entries
 pub mod Moment
+pub mod Reading
 pub mod Slug
 pub mod Told

@@ -1,7 +1,7 @@
-ghost use Rattle.std.specs.Prelude.{◌≡◌, ◌++◌, OnOk, IfOk};
+ghost use Rattle.std.specs.Prelude.{◌≡◌, ◌++◌, OnOk, IfOk, option_map};
 ghost use Rattle.json.specs.Tree.{json_tokens, items_tokens, members_tokens};
 ghost use Rattle.serde_json.specs.Written.{outline, items_outline, members_outline};
-ghost use Rattle.farm_text.specs.Document.{data_of, items_data, members_data, document_text, items_of, members_of, text as plain_text};
+ghost use Rattle.farm_text.specs.Document.{data_of, items_data, members_data, document_text, items_of, members_of, get, text as plain_text};
 ghost use Rattle.farm_text.specs.Doc.{document, documents, entries_of};
 
 use crate::text::Text;
@@ -27,6 +27,16 @@ impl Doc {
         ensures { IfOk result (λ d. document d ≡ plain_text text.now) }
     {
         Ok(Doc::Text(Text::from_str(alloc, text)?))
+    }
+
+    /// What a map has at the key. Other documents have no keys.
+    pub fn get(&self, key: &str) -> Option<&Doc>
+        ensures { option_map (λ d. document d.now) result ≡ get key.now (document self.now) }
+    {
+        match self {
+            Doc::Map(members) => members.get(key),
+            _ => None,
+        }
     }
 
     /// The document as JSON without spaces.
