@@ -3,3 +3,5 @@ pub mod ToldLemmas
 pub mod MomentLemmas
 pub mod SlugLemmas
 pub mod DrawLemmas
+mod PointerLemmas
+mod ReadingLemmas

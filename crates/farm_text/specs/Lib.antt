@@ -4,6 +4,7 @@ pub mod DateTime
 pub mod Draws
 pub mod Entries
 pub mod Moment
+pub mod Pointer
 pub mod Reading
 pub mod Slug
 pub mod Told

@@ -7,6 +7,7 @@ mod doc;
 mod draws;
 mod entries;
 mod moment;
+mod pointer;
 mod reading;
 mod slug;
 #[cfg(test)]
