@@ -5,3 +5,4 @@ pub mod SlugLemmas
 pub mod DrawLemmas
 mod PointerLemmas
 mod ReadingLemmas
+mod DateTimeLemmas

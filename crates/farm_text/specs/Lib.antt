@@ -1,4 +1,5 @@
 pub mod Document
+pub mod Digits
 pub mod Doc
 pub mod DateTime
 pub mod Draws
