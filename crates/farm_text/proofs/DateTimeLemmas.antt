@@ -7,9 +7,9 @@ use Rattle.std.proofs.Common.{to_z, of_z, to_z-of_z}
 use Rattle.std.specs.Int.{w32}
 use Rattle.jiff_core.specs.Calendar.{IsBetween}
 use Rattle.jiff_core.proofs.SignedLemmas.{signed_arith, fits_between}
-use Rattle.farm_text.specs.DateTime.{IsHoursMinutes, IsOffset}
+use Rattle.farm_text.specs.DateTime.{IsDateTime, IsHoursMinutes, IsOffset}
 use Rattle.farm_text.specs.Digits.{digits_ahead}
-use Rattle.farm_text.specs.Moment.{last_digits}
+use Rattle.farm_text.specs.Moment.{IsMomentText, last_digits}
 
 pub heads : {x y : ℕ} {xs ys : List ℕ} → x ∷ xs ≡ y ∷ ys → x ≡ y
 heads {x} e = ap (λ l. get_or l 0 x) e
@@ -117,3 +117,22 @@ days_back z h = to_z-of_z (fits_between w32 z (omega (arith, signed_arith, h.0, 
 
 pub minutes_back : (z : ℤ) → IsBetween (neg_ℤ (pos 1_440)) (pos 1_440) z → to_z w32 (of_z w32 z) ≡ z
 minutes_back z h = to_z-of_z (fits_between w32 z (omega (arith, signed_arith, h.0, h.1), omega (arith, signed_arith, h.0, h.1)))
+
+-- what is written of a moment is a date-time of it
+pub IsDateTime-written : (millis : ℕ) (text : List ℕ) → millis ≤ 253_370_764_799_999 → IsMomentText millis text → IsDateTime millis text
+IsDateTime-written millis text told w = record {
+  days = pos (millis / 86_400_000);
+  seconds = millis / 1_000 % 86_400;
+  thousandths = millis % 1_000;
+  offset = pos 0;
+  date = last_digits 4 w.year ++ 45 ∷ (last_digits 2 w.month ++ 45 ∷ last_digits 2 w.day);
+  time = last_digits 2 (millis / 3_600_000 % 24) ++ 58 ∷ (last_digits 2 (millis / 60_000 % 60) ++ 58 ∷ last_digits 2 (millis / 1_000 % 60));
+  fraction = 46 ∷ last_digits 3 (millis % 1_000);
+  zone = 90 ∷ [];
+  is_date = (w.year, w.month, w.day, w.civil, sym w.number, refl);
+  is_time = (millis / 3_600_000 % 24, millis / 60_000 % 60, millis / 1_000 % 60, omega arith, omega arith, omega arith, omega arith, refl);
+  is_fraction = inr (3, millis % 1_000, omega arith, omega arith, omega arith, omega arith, refl);
+  is_zone = inl (refl, refl);
+  spelled = w.spelled;
+  moment = (omega (arith, signed_arith), told);
+}

@@ -3,7 +3,7 @@ ghost use Rattle.std.specs.Prelude.{◌≡◌, ℕ, ℤ, pos, ◌+ℤ◌, ◌-�
 ghost use Rattle.jiff_core.specs.Calendar.{IsCivilDate, IsEpochDay, IsWithin, days_from_civil};
 ghost use Rattle.farm_text.specs.Digits.{digits_ahead};
 ghost use Rattle.farm_text.specs.DateTime.{IsDateTime, IsLocalTime, IsFullDate, IsTimeOfDay, IsFraction, IsHoursMinutes, IsOffset};
-ghost use Rattle.farm_text.specs.Moment.{last_digits};
+ghost use Rattle.farm_text.specs.Moment.{IsMomentText, last_digits};
 
 use crate::moment::{LAST_TOLD_MOMENT, Moment};
 use jiff_core::civil::Date;
@@ -14,6 +14,7 @@ use jiff_core::civil::Date;
 pub fn read_moment(text: &[u8]) -> Option<Moment>
     ensures is { IfSome result (λ m. IsDateTime m text.now) }
     ensures none { result ≡ None → (m : ℕ) → ¬ IsDateTime m text.now }
+    ensures only { (m : ℕ) → IsDateTime m text.now → result ≡ Some m }
 {
     let (days, rest) = full_date(text)?;
     let (seconds, rest) = time_of_day(after(rest, b'T')?)?;
@@ -21,6 +22,12 @@ pub fn read_moment(text: &[u8]) -> Option<Moment>
     let offset = offset(rest)?;
     moment(days, seconds, thousandths, offset)
 }
+
+/// What is written of a moment is read as that moment, up to the last one that is read.
+pub fn written_moments_are_read_back()
+    ensures { (millis : ℕ) (text : List ℕ) → millis ≤ 253_370_764_799_999
+        → IsMomentText millis text → IsDateTime millis text }
+{}
 
 // The moment of a local time, if it lies where moments are read.
 fn moment(days: i32, seconds: u32, thousandths: u32, offset: i32) -> Option<Moment>

@@ -15,7 +15,7 @@ mod tests;
 mod text;
 
 pub use clock::{Clock, HostClock, ListClock};
-pub use date_time::read_moment;
+pub use date_time::{read_moment, written_moments_are_read_back};
 pub use doc::Doc;
 pub use draws::{Draws, HostDraws, ListDraws};
 pub use entries::Entries;

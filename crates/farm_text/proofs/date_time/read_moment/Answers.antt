@@ -66,3 +66,38 @@ returns-clause-none c = λ none m w.
     let shift : c.in_ok-offset.offset ≡ w.offset = grind (arith, zone) in
     let some = c.moment.ensures.only m (rw (days_back c.in_ok-days.days c.in_ok-days.ensures.bound, minutes_back c.in_ok-offset.offset c.in_ok-offset.ensures.bound, date.0, time.0, fraction.0, shift) w.moment) in
     grind (arith, none, some)
+
+pub returns-in_err-days-clause-only : goal.returns-in_err-days-clause-only
+returns-in_err-days-clause-only c = λ m w. absurd (c.in_err-days.ensures.only w.days w.date (84 ∷ (w.time ++ (w.fraction ++ w.zone))) w.is_date w.spelled)
+
+pub returns-in_err-seconds-clause-only : goal.returns-in_err-seconds-clause-only
+returns-in_err-seconds-clause-only c = λ m w.
+    let date = c.in_ok-days.ensures.only w.days w.date (84 ∷ (w.time ++ (w.fraction ++ w.zone))) w.is_date w.spelled in
+    let mark = c.in_ok-after.ensures.only (w.time ++ (w.fraction ++ w.zone)) date.1 in
+    absurd (c.in_err-seconds.ensures.only w.seconds w.time (w.fraction ++ w.zone) w.is_time mark)
+
+pub returns-in_err-thousandths-clause-only : goal.returns-in_err-thousandths-clause-only
+returns-in_err-thousandths-clause-only c = λ m w.
+    let date = c.in_ok-days.ensures.only w.days w.date (84 ∷ (w.time ++ (w.fraction ++ w.zone))) w.is_date w.spelled in
+    let mark = c.in_ok-after.ensures.only (w.time ++ (w.fraction ++ w.zone)) date.1 in
+    let time = c.in_ok-seconds.ensures.only w.seconds w.time (w.fraction ++ w.zone) w.is_time mark in
+    absurd (c.in_err-thousandths.ensures.only w.thousandths w.offset w.fraction w.zone w.is_fraction w.is_zone time.1)
+
+pub returns-in_err-offset-clause-only : goal.returns-in_err-offset-clause-only
+returns-in_err-offset-clause-only c = λ m w.
+    let date = c.in_ok-days.ensures.only w.days w.date (84 ∷ (w.time ++ (w.fraction ++ w.zone))) w.is_date w.spelled in
+    let mark = c.in_ok-after.ensures.only (w.time ++ (w.fraction ++ w.zone)) date.1 in
+    let time = c.in_ok-seconds.ensures.only w.seconds w.time (w.fraction ++ w.zone) w.is_time mark in
+    let fraction = c.in_ok-thousandths.ensures.only w.thousandths w.offset w.fraction w.zone w.is_fraction w.is_zone time.1 in
+    let wrong = c.in_err-offset.ensures.only w.offset (rw fraction.1 w.is_zone) in
+    grind (arith, wrong)
+
+pub returns-clause-only : goal.returns-clause-only
+returns-clause-only c = λ m w.
+    let date = c.in_ok-days.ensures.only w.days w.date (84 ∷ (w.time ++ (w.fraction ++ w.zone))) w.is_date w.spelled in
+    let mark = c.in_ok-after.ensures.only (w.time ++ (w.fraction ++ w.zone)) date.1 in
+    let time = c.in_ok-seconds.ensures.only w.seconds w.time (w.fraction ++ w.zone) w.is_time mark in
+    let fraction = c.in_ok-thousandths.ensures.only w.thousandths w.offset w.fraction w.zone w.is_fraction w.is_zone time.1 in
+    let zone = c.in_ok-offset.ensures.only w.offset (rw fraction.1 w.is_zone) in
+    let shift : c.in_ok-offset.offset ≡ w.offset = grind (arith, zone) in
+    c.moment.ensures.only m (rw (days_back c.in_ok-days.days c.in_ok-days.ensures.bound, minutes_back c.in_ok-offset.offset c.in_ok-offset.ensures.bound, date.0, time.0, fraction.0, shift) w.moment)
