@@ -6,3 +6,4 @@ pub mod DrawLemmas
 mod PointerLemmas
 mod ReadingLemmas
 mod DateTimeLemmas
+mod DataLemmas

@@ -9,3 +9,4 @@ pub mod Pointer
 pub mod Reading
 pub mod Slug
 pub mod Told
+pub mod Written

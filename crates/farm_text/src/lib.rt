@@ -22,6 +22,6 @@ pub use entries::Entries;
 pub use moment::{
     LAST_MOMENT, LAST_TOLD_MOMENT, Moment, moment_texts_are_one, the_last_moments, write_moment,
 };
-pub use reading::ReadFault;
+pub use reading::{ReadFault, a_text_is_of_one_document};
 pub use slug::{SlugId, slugs_are_texts_of_uuids};
 pub use text::Text;

@@ -2,7 +2,7 @@
 ghost use Rattle.std.specs.Prelude.{◌≡◌, ℕ, ◌≤◌, List, [], ◌∷◌, ◌++◌, Err, IfOk};
 ghost use Rattle.serde_json.specs.Data.{Data, depth};
 ghost use Rattle.serde_json.specs.View.{view, items_view, members_view};
-ghost use Rattle.farm_text.specs.Document.{data_of, items_data, members_data, items_of, members_of};
+ghost use Rattle.farm_text.specs.Document.{Document, data_of, items_data, members_data, items_of, members_of};
 ghost use Rattle.farm_text.specs.Doc.{document, documents, entries_of};
 ghost use Rattle.farm_text.specs.Pointer.{pointer_under};
 ghost use Rattle.farm_text.specs.Reading.{IsJson, unwhole, unwhole_items, unwhole_members};
@@ -66,6 +66,12 @@ impl Doc {
         }
     }
 }
+
+/// A text is JSON of one document at most, so what is read of a written one is that one.
+pub fn a_text_is_of_one_document()
+    ensures { (bytes : List ℕ) (a b : Document) → IsJson bytes (data_of a)
+        → IsJson bytes (data_of b) → a ≡ b }
+{}
 
 // Why a value is no document.
 #[derive(Drop)]

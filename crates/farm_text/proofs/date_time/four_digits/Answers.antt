@@ -1,4 +1,4 @@
-use Rattle.std.proofs.Common.{◌≡◌, ◌+◌, ◌/◌, ◌%◌, [], ◌∷◌, ◌++◌, ap, ap₂, ◌∙◌, arith}
+use Rattle.std.proofs.Common.{◌≡◌, ◌+◌, ◌/◌, ◌%◌, ◌∷◌, ◌++◌, ap₂, ◌∙◌, arith}
 use Rattle.farm_text.specs.Moment.{last_digits}
 use Rattle.farm_text.proofs.date_time.four_digits.Goals as goal
 

@@ -1,8 +1,8 @@
-use Rattle.std.proofs.Common.{◌≡◌, ℕ, ◌+◌, ◌*◌, ◌/◌, ◌^◌, ◌<◌, ◌≤◌, List, [], ◌∷◌, ◌++◌, ℤ, refl, sym, ap, ◌∙◌, inl, inr, arith}
+use Rattle.std.proofs.Common.{◌≡◌, ℕ, ◌*◌, ◌/◌, ◌^◌, ◌<◌, ◌≤◌, List, ◌∷◌, ◌++◌, ℤ, refl, sym, ap, ◌∙◌, inl, inr, arith}
 use Rattle.farm_text.specs.DateTime.{IsFraction, IsOffset}
 use Rattle.farm_text.specs.Moment.{last_digits}
 use Rattle.farm_text.specs.Digits.{digits_ahead}
-use Rattle.farm_text.proofs.DateTimeLemmas.{tails, heads, offset_point, offset_ahead, digits_ahead-last_digits, same_digits, some_digit}
+use Rattle.farm_text.proofs.DateTimeLemmas.{tails, offset_point, offset_ahead, digits_ahead-last_digits, same_digits, some_digit}
 use Rattle.farm_text.proofs.date_time.fraction.Goals as goal
 
 -- a fraction and an offset that begin with a point

@@ -1,4 +1,4 @@
-use Rattle.std.proofs.Common.{◌≡◌, [], ◌∷◌, ◌++◌, refl, ap, ◌∙◌, arith}
+use Rattle.std.proofs.Common.{◌∷◌, ◌++◌, refl, ap, ◌∙◌, arith}
 use Rattle.farm_text.specs.Moment.{last_digits}
 use Rattle.farm_text.proofs.date_time.hours_minutes.Goals as goal
 

@@ -1,4 +1,4 @@
-use Rattle.std.proofs.Common.{◌≡◌, ◌≢◌, ℕ, suc, ◌+◌, ◌*◌, ◌/◌, ◌%◌, ◌^◌, ◌<◌, ◌≤◌, List, [], ◌∷◌, ◌++◌, ap, ap₂, sym, ◌∙◌, append_assoc, arith}
+use Rattle.std.proofs.Common.{◌≡◌, suc, ◌+◌, ◌*◌, ◌/◌, ◌%◌, [], ◌∷◌, ◌++◌, ap, ap₂, sym, ◌∙◌, append_assoc, arith}
 use Rattle.std.proofs.Math.Nat.{pow-suc}
 use Rattle.farm_text.specs.Moment.{last_digits}
 use Rattle.farm_text.specs.Digits.{digits_ahead}

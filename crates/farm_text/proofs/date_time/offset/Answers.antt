@@ -1,4 +1,4 @@
-use Rattle.std.proofs.Common.{◌≡◌, ◌<◌, ◌-ℤ◌, to_z, of_z, to_z-of_z, [], ◌∷◌, pos, neg_ℤ, refl, sym, subst, ap, ◌∙◌, append-nil, inl, inr, arith}
+use Rattle.std.proofs.Common.{◌≡◌, ◌<◌, ◌-ℤ◌, to_z, of_z, to_z-of_z, pos, neg_ℤ, subst, ◌∙◌, inl, inr, arith}
 use Rattle.std.specs.Int.{w32}
 use Rattle.std.proofs.lemmas.Int.{to_z_pos}
 use Rattle.jiff_core.proofs.SignedLemmas.{signed_arith, fits_between}

@@ -1,4 +1,4 @@
-use Rattle.std.proofs.Common.{◌≡◌, [], ◌∷◌, ◌++◌, ap, sym, subst, to_z, of_z, ◌∙◌, append_assoc, arith}
+use Rattle.std.proofs.Common.{◌≡◌, ◌∷◌, ◌++◌, ap, sym, subst, to_z, of_z, ◌∙◌, arith}
 use Rattle.std.specs.Int.{w32}
 use Rattle.farm_text.specs.DateTime.{IsDateTime, IsFullDate, IsOffset}
 use Rattle.farm_text.proofs.DateTimeLemmas.{if_some, days_back, minutes_back}

@@ -1,4 +1,4 @@
-use Rattle.std.proofs.Common.{◌≡◌, ◌/◌, ◌%◌, slice_index, ap, arith}
+use Rattle.std.proofs.Common.{◌/◌, ◌%◌, slice_index, ap, arith}
 use Rattle.farm_text.proofs.date_time.two_digits.Goals as goal
 
 pub returns-in_err-high-clause-only : goal.returns-in_err-high-clause-only
