@@ -3,3 +3,7 @@ pub mod ToldLemmas
 pub mod MomentLemmas
 pub mod SlugLemmas
 pub mod DrawLemmas
+mod PointerLemmas
+mod ReadingLemmas
+mod DateTimeLemmas
+mod DataLemmas

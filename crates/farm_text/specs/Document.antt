@@ -1,5 +1,5 @@
 -- JSON with whole numbers (RFC 8259): what a document is, and its text.
-use Rattle.std.specs.Prelude.{ℕ, ℤ, pos, negsuc, List, [], ◌∷◌, Bool}
+use Rattle.std.specs.Prelude.{ℕ, ℤ, pos, negsuc, List, [], ◌∷◌, Bool, Option, Some, None}
 use Rattle.std.specs.Ordering.{nat_cmp, match_ordering}
 use Rattle.std.specs.Cmp.Lexicographic.{slice_cmp}
 use Rattle.serde_json.specs.Data as json
@@ -36,6 +36,20 @@ members_of (m ∷ ms) = member m.0 m.1 (members_of ms)
 abbrev pub put : List ℕ → Document → Members → Members
 put k d no_members = member k d no_members
 put k d (member l e ms) = match_ordering (slice_cmp nat_cmp k l) (member k d (member l e ms)) (member l d ms) (member l e (put k d ms))
+
+-- what the members have at k
+abbrev pub member_at : List ℕ → Members → Option Document
+member_at k no_members = None
+member_at k (member l d ms) = match_ordering (slice_cmp nat_cmp k l) (member_at k ms) (Some d) (member_at k ms)
+
+-- what a document has at the key k, which only an object can have
+abbrev pub get : List ℕ → Document → Option Document
+get k null = None
+get k (boolean b) = None
+get k (whole z) = None
+get k (text s) = None
+get k (array ds) = None
+get k (object ms) = member_at k ms
 
 -- a whole number is serde_json's `u64` from 0 on, and its `i64` below
 abbrev pub number_of : ℤ → json.Num

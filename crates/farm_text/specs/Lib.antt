@@ -1,7 +1,12 @@
 pub mod Document
+pub mod Digits
 pub mod Doc
+pub mod DateTime
 pub mod Draws
 pub mod Entries
 pub mod Moment
+pub mod Pointer
+pub mod Reading
 pub mod Slug
 pub mod Told
+pub mod Written

@@ -1,8 +1,11 @@
-ghost use Rattle.std.specs.Prelude.{◌≡◌, ◌++◌, OnOk, IfOk};
+ghost use Rattle.std.specs.Prelude.{◌≡◌, ◌≤◌, ◌++◌, OnOk, IfOk, option_map};
 ghost use Rattle.json.specs.Tree.{json_tokens, items_tokens, members_tokens};
 ghost use Rattle.serde_json.specs.Written.{outline, items_outline, members_outline};
-ghost use Rattle.farm_text.specs.Document.{data_of, items_data, members_data, document_text, items_of, members_of, text as plain_text};
+ghost use Rattle.farm_text.specs.Document.{data_of, items_data, members_data, document_text, items_of, members_of, whole, get, text as plain_text};
 ghost use Rattle.farm_text.specs.Doc.{document, documents, entries_of};
+ghost use Rattle.farm_text.specs.Reading.{IsJson};
+ghost use Rattle.farm_text.specs.Written.{ReadsBack, ItemsReadBack, MembersReadBack};
+ghost use Rattle.serde_json.specs.Data.{depth};
 
 use crate::text::Text;
 use json::Writer;
@@ -29,9 +32,21 @@ impl Doc {
         Ok(Doc::Text(Text::from_str(alloc, text)?))
     }
 
+    /// What a map has at the key. Other documents have no keys.
+    pub fn get(&self, key: &str) -> Option<&Doc>
+        ensures { option_map (λ d. document d.now) result ≡ get key.now (document self.now) }
+    {
+        match self {
+            Doc::Map(members) => members.get(key),
+            _ => None,
+        }
+    }
+
     /// The document as JSON without spaces.
     pub fn write(&self, alloc: Global) -> Result<Text, AllocError>
-        ensures { IfOk result (λ t. t ≡ document_text (document self.now)) }
+        ensures text { IfOk result (λ t. t ≡ document_text (document self.now)) }
+        ensures reads_back { IfOk result (λ t. depth (data_of (document self.now)) ≤ 127
+            → IsJson t (data_of (document self.now))) }
     {
         let mut out = Writer::new(Vec::with_capacity(alloc, 128)?);
         write_value(self, &mut out)?;
@@ -55,11 +70,12 @@ fn write_value(doc: &Doc, out: &mut Writer) -> Result<(), AllocError>
     ensures ok { OnOk result (out.new.tokens
         ≡ out.old.tokens ++ json_tokens (outline (data_of (document doc.now)))) }
     ensures before { out.new.before ≡ out.old.before }
+    ensures reads_back { OnOk result (ReadsBack (document doc.now)) }
 {
     match doc {
         Doc::Null => out.null(),
         Doc::Bool(b) => out.boolean(*b),
-        Doc::Int(n) => out.i64(*n),
+        Doc::Int(n) => write_whole(*n, out),
         Doc::Text(text) => out.string(text.as_str()),
         Doc::List(items) => {
             out.begin_array()?;
@@ -72,11 +88,21 @@ fn write_value(doc: &Doc, out: &mut Writer) -> Result<(), AllocError>
     }
 }
 
+fn write_whole(n: i64, out: &mut Writer) -> Result<(), AllocError>
+    ensures ok { OnOk result (out.new.tokens
+        ≡ out.old.tokens ++ json_tokens (outline (data_of (whole n)))) }
+    ensures before { out.new.before ≡ out.old.before }
+    ensures reads_back { ReadsBack (whole n) }
+{
+    out.i64(n)
+}
+
 #[cycle(write)]
 fn write_items(items: &Vec<Doc>, out: &mut Writer) -> Result<(), AllocError>
     ensures ok { OnOk result (out.new.tokens ≡ out.old.tokens
         ++ items_tokens (items_outline (items_data (items_of (documents items.now.items))))) }
     ensures before { out.new.before ≡ out.old.before }
+    ensures reads_back { OnOk result (ItemsReadBack (items_of (documents items.now.items))) }
 {
     for item in items {
         write_value(item, out)?;
@@ -89,6 +115,7 @@ fn write_members(members: &BTreeMap<String, Doc>, out: &mut Writer) -> Result<()
     ensures ok { OnOk result (out.new.tokens ≡ out.old.tokens
         ++ members_tokens (members_outline (members_data (members_of (entries_of members.now.entries))))) }
     ensures before { out.new.before ≡ out.old.before }
+    ensures reads_back { OnOk result (MembersReadBack (members_of (entries_of members.now.entries))) }
 {
     for (key, member) in members.iter() {
         out.key(key.as_str())?;

@@ -2,21 +2,26 @@
 #![tactic(auto)]
 
 mod clock;
+mod date_time;
 mod doc;
 mod draws;
 mod entries;
 mod moment;
+mod pointer;
+mod reading;
 mod slug;
 #[cfg(test)]
 mod tests;
 mod text;
 
 pub use clock::{Clock, HostClock, ListClock};
+pub use date_time::{read_moment, written_moments_are_read_back};
 pub use doc::Doc;
 pub use draws::{Draws, HostDraws, ListDraws};
 pub use entries::Entries;
 pub use moment::{
     LAST_MOMENT, LAST_TOLD_MOMENT, Moment, moment_texts_are_one, the_last_moments, write_moment,
 };
+pub use reading::{ReadFault, a_text_is_of_one_document};
 pub use slug::{SlugId, slugs_are_texts_of_uuids};
 pub use text::Text;
