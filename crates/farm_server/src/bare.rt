@@ -1,9 +1,9 @@
 //! The farm without a disk.
 ghost use Rattle.std.specs.Prelude.{◌≡◌, ◌≤◌, false};
 ghost use Rattle.farm_text.specs.declared.moment.TheConstants.{LAST_TOLD_MOMENT};
+ghost use Rattle.farm_machine.specs.Changes.{moment_of};
 ghost use Rattle.farm_machine.specs.Due.{is_due};
 ghost use Rattle.farm_machine.specs.State.{working, empty_state};
-ghost use Rattle.farm_machine.specs.Step.{moment_of};
 ghost use Rattle.farm_server.specs.Bare.{IsResolved, IsPerformed};
 
 use farm_desk::Object;
