@@ -1,7 +1,7 @@
 use Rattle.std.proofs.Common.{◌≡◌, ◌++◌, List, ℕ, OnOk, OnErr, subst, ◌∙◌}
 use Rattle.std.specs.Io.KnownBytes.{Appends}
 use Rattle.http_wire.specs.Whole.{AppendsFront}
-use Rattle.farm_server.specs.ReplyText.{reply_text}
+use Rattle.api_routes.specs.ReplyText.{reply_text}
 use Rattle.farm_server.proofs.WriteLemmas.{reply_text-parts}
 use Rattle.farm_server.proofs.write.write_reply.Goals as goal
 
