@@ -12,7 +12,7 @@ use Rattle.http_wire.specs.Stream.{Ending, stopped, closed, full, Messages}
 use Rattle.http_wire.proofs.StreamLaws.{messages_unique}
 use Rattle.farm_machine.specs.declared.config.Config.{Config}
 use Rattle.farm_machine.specs.declared.reply.Reply.{Reply}
-use Rattle.farm_server.specs.ReplyText.{wire_text}
+use Rattle.api_routes.specs.ReplyText.{wire_text}
 use Rattle.farm_server.specs.Served.{Outside, Ask, messages_of, reply_texts, is_refused, EndsAs, Writes, IsCaused}
 use Rattle.farm_server.specs.declared.served.Served.{Served}
 use Rattle.farm_server.specs.declared.served.Served.TheVariants as served

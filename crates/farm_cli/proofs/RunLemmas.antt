@@ -1,7 +1,6 @@
 -- What the calls of a run leave together.
 use Rattle.std.proofs.Common.{◌≡◌, ℕ, ◌+◌, List, [], Option, refl, sym, ◌∙◌, inl, inr}
-use Rattle.history.specs.Histories.{LeadsAlone}
-use Rattle.history.specs.Asks.{AsksInTurn}
+use Rattle.history.specs.Asks.{AsksInTurn, LeadsAlone}
 use Rattle.command_line.specs.Words.{farm_of}
 use Rattle.command_line.specs.declared.command.Command.{Command}
 use Rattle.command_line.specs.declared.command.Command.TheVariants.{Answer, Expand, Check}

@@ -12,7 +12,7 @@ use Rattle.http_wire.specs.Stream.{Ending, stopped, closed, full, Messages}
 use Rattle.farm_machine.specs.declared.config.Config.{Config}
 use Rattle.farm_machine.specs.declared.reply.Reply.{Reply}
 use Rattle.farm_machine.specs.State.{empty_state}
-use Rattle.farm_server.specs.ReplyText.{wire_text}
+use Rattle.api_routes.specs.ReplyText.{wire_text}
 use Rattle.farm_server.specs.Served.{Ask, messages_of, reply_texts}
 use Rattle.farm_server.specs.declared.served.TheConstants.{REQUESTS}
 use Rattle.farm_cli.specs.declared.lending.Lending.TheVariants.{Ready, Back}

@@ -1,6 +1,7 @@
 -- What `answer` does: it serves one connection on the console.
 use Rattle.std.specs.Prelude.{◌≡◌, List, map, Some}
-use Rattle.history.specs.Histories.{asks_entries, IsLegal, reply_at, asked_at, calls_of}
+use Rattle.history.specs.Asks.{AreEntries}
+use Rattle.history.specs.Histories.{IsLegal, reply_at, asked_at, calls_of}
 use Rattle.farm_machine.specs.declared.config.Config.{Config}
 use Rattle.farm_machine.specs.declared.reply.Asked.{Asked}
 use Rattle.farm_machine.specs.Entry.{Asking, Entry}
@@ -19,7 +20,7 @@ use Rattle.farm_cli.specs.Views.{Views, outside_of}
 pub record IsHistoryOf (start : State) (asks : List Ask) (replies : List Reply) : Type 0 where
   pub history : List Entry
   pub legal : IsLegal farm_rules start history
-  pub made : (turns : List (Asking × Asked)) × (history ≡ asks_entries farm_rules start turns)
+  pub made : (turns : List (Asking × Asked)) × AreEntries farm_rules start turns history
   pub asked : map (asked_at farm_rules history) (calls_of farm_rules 0 history) ≡ map Some (questions_of asks)
   pub replied : map (reply_at farm_rules start history) (calls_of farm_rules 0 history) ≡ map Some replies
 

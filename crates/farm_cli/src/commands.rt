@@ -12,9 +12,10 @@ use crate::expanding::expand;
 use crate::house::House;
 use crate::status::Status;
 use command_line::Command;
+use farm_core::Bare;
 use farm_desk::Solo;
 use farm_machine::config::Config;
-use farm_server::{Bare, NoGate, Served, serve_connection};
+use farm_server::{NoGate, Served, serve_connection};
 use std::alloc::Global;
 
 /// Obeys a command over a farm that is set up so.

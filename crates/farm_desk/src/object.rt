@@ -20,11 +20,13 @@ pub trait Object {
     /// nothing.
     ghost holds: { Self → Self.Law.Opening → List Self.Law.Entry → Type 0 } = { λ _ _ _. Unit {0} };
 
-    /// Asks one question. The answer tells which entries the ask made.
+    /// Asks one question. There is an entry that is this ask's call: the ask's entries lead from the old state to the new one,
+    /// and a history that the object held goes on by them.
     fn ask(&mut self, question: Self::Question) -> Self::Answer
-        ensures step { IsAsk Self.Law.rules (state self.old) question result (state self.new) }
-        ensures holds { (opening : Self.Law.Opening) (seen : List Self.Law.Entry)
+        ensures { (call : Self.Law.Entry)
+            × IsAsk Self.Law.rules (state self.old) question result call (state self.new)
+            × ((opening : Self.Law.Opening) (seen : List Self.Law.Entry)
             → Leads Self.Law.rules (Self.Law.start opening) seen (state self.old)
             → holds self.old opening seen
-            → holds self.new opening (seen ++ entries Self.Law.rules (state self.old) question result) };
+            → holds self.new opening (seen ++ entries Self.Law.rules (state self.old) question result call)) };
 }

@@ -1,6 +1,6 @@
 //! A desk of one caller, who has the object alone.
 ghost use Rattle.std.specs.Prelude.{◌≡◌, ◌^◌, ◌↔◌, ℕ, List, []};
-ghost use Rattle.history.specs.Histories.{LeadsAlone};
+ghost use Rattle.history.specs.Asks.{LeadsAlone};
 ghost use Rattle.farm_desk.specs.Home.{nowhere};
 
 use crate::desk::{Desk, Spare};

@@ -29,7 +29,6 @@ impl Machine for Adding {
       reply = λ sum entry. option_map (λ n. sum + n) entry;
       asked = λ entry. entry;
       ticks = λ sum n answer. elim answer.0 [ true ↦ None ∷ [] | false ↦ [] ];
-      call = λ n answer. Some n;
       told = λ answer. answer.1;
     } };
 

@@ -1,9 +1,14 @@
 pub mod Access
+pub mod Calls
+pub mod Case
+pub mod Changes
 pub mod Config
 pub mod Due
 pub mod Entry
+pub mod Expressions
 pub mod Judgement
 pub mod Law
+pub mod Order
 pub mod Planned
 pub mod Replies
 pub mod State

@@ -4,7 +4,7 @@ use Rattle.farm_machine.specs.declared.config.Config.{Config}
 use Rattle.farm_machine.specs.Entry.{Asking}
 use Rattle.farm_machine.specs.Judgement.{Judgement}
 use Rattle.farm_machine.specs.State.{Contents, working}
-use Rattle.farm_machine.specs.Step.{moment_of}
+use Rattle.farm_machine.specs.Changes.{moment_of}
 use Rattle.farm_machine.specs.Verdict.{IsVerdict}
 
 -- the moment of a planned call, and its judgement

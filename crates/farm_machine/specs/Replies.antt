@@ -1,6 +1,8 @@
 -- The bodies of replies, as JSON with its keys rising (RFC 8259), and their statuses (RFC 9110).
 use Rattle.std.specs.Prelude.{ℕ, List, [], ◌∷◌, codes, true, pos}
+use Rattle.scope_sets.specs.Expressions.{Expression}
 use Rattle.farm_text.specs.Document.{Document, boolean, whole, text, object, Members, no_members, members_of, document_text}
+use Rattle.farm_machine.specs.Expressions.{document_of}
 use Rattle.farm_machine.specs.declared.reply.Answer.{Answer}
 use Rattle.farm_machine.specs.declared.reply.Reply.{Reply}
 use Rattle.farm_machine.specs.declared.reply.Reply.TheVariants.{Answered, OutOfMemory}
@@ -14,9 +16,13 @@ abbrev pub error_text : List ℕ → Members → List ℕ → List ℕ
 error_text code details message =
     object_text ((codes "code", text code) ∷ (codes "details", object details) ∷ (codes "message", text message) ∷ [])
 
+-- a call is done
+abbrev pub ok : List ℕ → Answer
+ok body = record { status = 200; body = body }
+
 -- the farm is there
-abbrev pub alive : Answer
-alive = record { status = 200; body = object_text ((codes "alive", boolean true) ∷ []) }
+abbrev pub alive : Document
+alive = object (members_of ((codes "alive", boolean true) ∷ []))
 
 -- nothing of this kind has that name
 abbrev pub not_found : List ℕ → List ℕ → Answer
@@ -48,6 +54,14 @@ expansion_limit =
     record {
       status = 403;
       body = error_text (codes "ExpansionLimit") (members_of ((codes "limit", whole (pos 10000)) ∷ [])) (codes "too many scopes are derivable");
+    }
+
+-- the caller lacks scopes, and this is missing
+abbrev pub insufficient_scopes : Expression → Answer
+insufficient_scopes missing =
+    record {
+      status = 403;
+      body = error_text (codes "InsufficientScopes") (members_of ((codes "missing", document_of missing) ∷ [])) (codes "scopes are missing");
     }
 
 -- memory ran out

@@ -1,28 +1,15 @@
 -- One step of a farm: which entries may come, the state after one, and its reply.
-use Rattle.std.specs.Prelude.{◌≡◌, ℕ, ◌≤◌, max, List, [], ◌∷◌, true, false, Option, Some, None, if◌then◌else◌}
+use Rattle.std.specs.Prelude.{◌≡◌, ℕ, ◌≤◌, List, [], ◌∷◌, true, false, Option, Some, None, if◌then◌else◌}
 use Rattle.history.specs.Rules.{Rules}
 use Rattle.farm_text.specs.declared.moment.TheConstants.{LAST_TOLD_MOMENT}
 use Rattle.farm_machine.specs.declared.reply.Asked.{Asked}
 use Rattle.farm_machine.specs.declared.reply.Reply.{Reply}
 use Rattle.farm_machine.specs.declared.reply.Reply.TheVariants.{Answered, OutOfMemory}
+use Rattle.farm_machine.specs.Changes.{moment_of, reached, applied}
 use Rattle.farm_machine.specs.Due.{is_due, advance}
 use Rattle.farm_machine.specs.Entry.{Asking, Outcome, finished, out_of_memory, Entry, tick, call}
-use Rattle.farm_machine.specs.Judgement.{Change, only_answer}
-use Rattle.farm_machine.specs.State.{State, Contents}
+use Rattle.farm_machine.specs.State.{State}
 use Rattle.farm_machine.specs.Verdict.{IsVerdict}
-
--- the moment of a call: the greater of the clock's and the last
-abbrev pub moment_of : Contents → Asking → ℕ
-moment_of contents asking = max asking.moment contents.last
-
--- a moment is reached
-abbrev pub reached : Contents → ℕ → Contents
-reached contents moment = record contents { last = moment }
-
--- a change is made at a moment
-abbrev pub applied : Contents → ℕ → Option Change → Contents
-applied contents moment None = reached contents moment
-applied contents moment (Some change) = elim change [ ]
 
 -- a tick comes where something is due
 pub record MayTick (state : State) (moment : ℕ) : Type 0 where
@@ -75,11 +62,6 @@ abbrev pub asked : Entry → Option Asking
 asked (tick moment) = None
 asked (call asking outcome) = Some asking
 
--- what became of a call, as its reply tells; no call changes the tasks yet
-abbrev pub outcome_of : Reply → Outcome
-outcome_of (Answered answer) = finished (only_answer answer)
-outcome_of OutOfMemory = out_of_memory
-
 -- the tick before a call, where its answer tells of one
 abbrev pub ticks_before : State → Asking → Asked → List Entry
 ticks_before state asking answer = if answer.ticked then tick (moment_of state.contents asking) ∷ [] else []
@@ -93,6 +75,5 @@ farm_rules =
       reply = reply;
       asked = asked;
       ticks = ticks_before;
-      call = λ asking answer. call asking (outcome_of answer.reply);
       told = λ answer. answer.reply;
     }

@@ -1,21 +1,26 @@
 //! The answers of calls: statuses of HTTP (RFC 9110), and bodies as JSON (RFC 8259).
 
 ghost use Rattle.std.specs.Prelude.{◌≡◌, IfOk};
-ghost use Rattle.farm_machine.specs.Replies.{alive, not_found, bad_parameter, not_authentic, expansion_limit, error_text};
+ghost use Rattle.farm_machine.specs.Replies.{ok, not_found, bad_parameter, not_authentic, expansion_limit, insufficient_scopes, error_text};
+ghost use Rattle.farm_text.specs.Doc.{document};
+ghost use Rattle.farm_text.specs.Document.{document_text};
 ghost use Rattle.farm_text.specs.Entries.{held};
+ghost use Rattle.scope_sets.specs.Expressions.{view};
 
+use crate::expressions::expression_doc;
 use crate::reply::Answer;
 use farm_text::{Doc, Entries, Text};
 use http::StatusCode;
+use scope_sets::Expr;
 use std::alloc::{AllocError, Global};
 
-/// The farm is there.
-pub(crate) fn alive(alloc: Global) -> Result<Answer, AllocError>
-    ensures { IfOk result (λ a. a ≡ alive) }
+/// A call is done, with this body.
+pub(crate) fn ok(alloc: Global, body: &Doc) -> Result<Answer, AllocError>
+    ensures { IfOk result (λ a. a ≡ ok (document_text (document body.now))) }
 {
     Ok(Answer {
         status: StatusCode::OK,
-        body: Text::from_str(alloc, "{\"alive\":true}")?,
+        body: body.write(alloc)?,
     })
 }
 
@@ -74,6 +79,17 @@ pub(crate) fn expansion_limit(alloc: Global) -> Result<Answer, AllocError>
             details,
             "too many scopes are derivable",
         )?,
+    })
+}
+
+/// The caller lacks scopes, and this is missing.
+pub(crate) fn insufficient_scopes(alloc: Global, missing: &Expr) -> Result<Answer, AllocError>
+    ensures { IfOk result (λ a. a ≡ insufficient_scopes (view missing.now)) }
+{
+    let details = Entries::new(alloc).with(alloc, "missing", expression_doc(alloc, missing)?)?;
+    Ok(Answer {
+        status: StatusCode::FORBIDDEN,
+        body: error_text(alloc, "InsufficientScopes", details, "scopes are missing")?,
     })
 }
 

@@ -5,8 +5,9 @@ ghost use Rattle.role_expand.specs.Cycles.{IsAccepted};
 ghost use Rattle.farm_machine.specs.Entry.{Asking};
 ghost use Rattle.farm_machine.specs.State.{State};
 ghost use Rattle.farm_machine.specs.Judgement.{Judgement};
-ghost use Rattle.farm_machine.specs.Verdict.{IsVerdict, answers_in_order, IsFirst};
-ghost use Rattle.farm_machine.specs.declared.reply.Answer.{Answer as Told};
+ghost use Rattle.farm_machine.specs.Step.{farm_rules};
+ghost use Rattle.farm_machine.specs.Verdict.{IsVerdict};
+ghost use Rattle.history.specs.Asks.{HasOneEntry};
 
 use crate::question::Question;
 use crate::reply::{Asked, Reply};
@@ -71,14 +72,15 @@ impl Machine for Farm {
     ghost start = { opened };
 }
 
-/// The verdict of a call is one: the first answer that strikes in the order of refusals, and no other is the first.
+/// The verdict of a call is one: no other judgement is the first in the order of refusals.
 pub fn verdict_is_one()
-    ensures one { (state : State) (asking : Asking) (judgement other : Judgement)
+    ensures { (state : State) (asking : Asking) (judgement other : Judgement)
         → IsVerdict state asking judgement → IsVerdict state asking other → judgement ≡ other }
-    ensures first { (state : State) (asking : Asking) (judgement : Judgement)
-        → IsVerdict state asking judgement → IsFirst (answers_in_order state asking) judgement.answer }
-    ensures only { (state : State) (asking : Asking) (answer other : Told)
-        → IsFirst (answers_in_order state asking) answer → IsFirst (answers_in_order state asking) other → answer ≡ other }
+{}
+
+/// In a state a question and a reply have one entry, so asks that are answered alike have one history.
+pub fn a_question_and_a_reply_have_one_entry()
+    ensures { HasOneEntry farm_rules }
 {}
 
 /// Each call has a verdict, over each accepted set of roles.

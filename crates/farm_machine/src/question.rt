@@ -77,6 +77,13 @@ impl Question {
         self.moment
     }
 
+    /// The id that was drawn.
+    pub fn drawn(&self) -> SlugId
+        ensures { result ≡ self.now.drawn }
+    {
+        self.drawn
+    }
+
     /// Who calls.
     pub fn caller(&self) -> Caller
         ensures { result ≡ self.now.caller }

@@ -1,24 +1,23 @@
-//! A call in two steps: `plan` judges it and takes all its memory, `apply` makes its change.
+//! A call in two steps: `plan` judges it and takes all its memory, `apply` reaches its moment and gives its reply.
 
-ghost use Rattle.std.specs.Prelude.{◌≡◌, ◌≤◌, false, IfOk, codes};
+ghost use Rattle.std.specs.Prelude.{◌≡◌, ◌≤◌, false, IfOk};
+ghost use Rattle.farm_machine.specs.Changes.{moment_of, applied};
 ghost use Rattle.farm_machine.specs.Due.{is_due};
-ghost use Rattle.farm_machine.specs.Judgement.{only_answer};
+ghost use Rattle.farm_machine.specs.Order.{in_order, IsFirst};
 ghost use Rattle.farm_machine.specs.Planned.{IsPlanOf, IsPlanOn};
-ghost use Rattle.farm_machine.specs.Replies.{not_found};
-ghost use Rattle.farm_machine.specs.State.{State};
-ghost use Rattle.farm_machine.specs.Step.{moment_of, applied};
-ghost use Rattle.farm_machine.specs.Verdict.{IsJudgement};
-ghost use Rattle.farm_text.specs.Slug.{slug_text};
+ghost use Rattle.farm_machine.specs.Verdict.{form_of};
 
-use crate::access::{Access, access_of};
 use crate::answers;
+use crate::calls::ping::Ping;
+use crate::calls::status::Status;
+use crate::case::Scene;
 use crate::config::Config;
+use crate::judged::Judged;
+use crate::order::judge;
 use crate::plan::Plan;
 use crate::question::{Call, Caller, Parameter, Question};
-use crate::reply::{Answer, Reply};
+use crate::reply::Reply;
 use crate::tables::Tables;
-use farm_text::{Moment, SlugId};
-use role_expand::RoleSet;
 use std::alloc::{AllocError, Global};
 
 /// Judges a call and takes all the memory that it needs. The tables stay as they were.
@@ -33,43 +32,47 @@ pub fn plan(
     ensures same { tables.new ≡ tables.old }
 {
     let moment = question.moment().max(tables.last());
+    let drawn = question.drawn();
     let caller = question.caller();
-    let answer = judge(alloc, &config.roles, caller, question.into_call())?;
-    Ok(Plan { moment, answer })
+    let at = Scene {
+        config,
+        tables: &*tables,
+        moment,
+        drawn,
+    };
+    let judged = judgement_of(alloc, caller, question.into_call(), &at)?;
+    Ok(Plan { moment, judged })
 }
 
-/// The answer to a call over these roles.
-fn judge(alloc: Global, roles: &RoleSet, caller: Caller, call: Call) -> Result<Answer, AllocError>
-    ensures { IfOk result (λ a. (state : State) → state.config.roles ≡ roles.now → IsJudgement call caller state (only_answer a)) }
+/// The judgement of what is called: the dispatch to the calls.
+fn judgement_of(
+    alloc: Global,
+    caller: Caller,
+    call: Call,
+    at: &Scene<'_>,
+) -> Result<Judged, AllocError>
+    ensures { IfOk result (λ j. IsFirst (in_order at.now caller (form_of call)) j) }
 {
     match call {
-        Call::NoRoute(name) => answers::not_found(alloc, "route", name.as_str()),
-        Call::BadParameter(Parameter::TaskId) => answers::bad_parameter(alloc, "taskId"),
-        Call::Ping => match access_of(alloc, roles, caller)? {
-            Access::Has(_) => answers::alive(alloc),
-            Access::Refused(answer) => Ok(answer),
-        },
-        Call::Status(id) => match access_of(alloc, roles, caller)? {
-            Access::Has(_) => no_task(alloc, id),
-            Access::Refused(answer) => Ok(answer),
-        },
+        Call::NoRoute(name) => {
+            let answer = answers::not_found(alloc, "route", name.as_str())?;
+            Ok(Judged::only(answer))
+        }
+        Call::BadParameter(Parameter::TaskId) => {
+            Ok(Judged::only(answers::bad_parameter(alloc, "taskId")?))
+        }
+        Call::Ping => judge(alloc, caller, &Ping {}, at),
+        Call::Status(id) => judge(alloc, caller, &Status { id }, at),
     }
 }
 
-/// No task has this id.
-fn no_task(alloc: Global, id: SlugId) -> Result<Answer, AllocError>
-    ensures { IfOk result (λ a. a ≡ not_found (codes "task") (slug_text id)) }
-{
-    let name = id.to_text(alloc)?;
-    answers::not_found(alloc, "task", name.as_str())
-}
-
-/// Makes the change of a plan that was made on these tables, and gives its reply. It takes no memory.
+/// Makes the change of a plan that was made on these tables, and gives its reply. It takes no memory. No plan has a change yet,
+/// so what is made is that its moment is reached.
 pub fn apply(tables: &mut Tables, plan: Plan) -> Reply
     requires { IsPlanOn tables.old plan }
     ensures applied { tables.new ≡ applied tables.old plan.moment plan.judgement.change }
     ensures reply { result ≡ Reply.Answered plan.judgement.answer }
 {
     tables.reach(plan.moment);
-    Reply::Answered(plan.answer)
+    Reply::Answered(plan.judged.into_answer())
 }

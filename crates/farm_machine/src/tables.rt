@@ -2,7 +2,7 @@ ghost use Rattle.std.specs.Prelude.{◌≡◌, ◌≤◌, ℕ};
 ghost use Rattle.farm_text.specs.declared.moment.TheConstants.{LAST_TOLD_MOMENT};
 ghost use Rattle.farm_machine.specs.Due.{is_due, advance};
 ghost use Rattle.farm_machine.specs.State.{no_contents};
-ghost use Rattle.farm_machine.specs.Step.{reached};
+ghost use Rattle.farm_machine.specs.Changes.{reached};
 
 use farm_text::Moment;
 use std::marker::Model;
@@ -62,7 +62,8 @@ pub fn due(tables: &Tables, moment: Moment) -> bool
     false
 }
 
-/// Resolves all that is due at this moment or before, each at its own due moment. It takes no memory.
+/// Reaches this moment, where it is after the last. No task stands yet, so nothing is due and nothing is resolved. It takes no
+/// memory.
 pub fn tick(tables: &mut Tables, moment: Moment)
     requires { moment ≤ LAST_TOLD_MOMENT }
     ensures { tables.new ≡ advance tables.old moment }

@@ -1,3 +1,4 @@
+use crate::answers::insufficient_scopes;
 use crate::config::{Config, ConfigCounts};
 use crate::question::{Call, Caller, Parameter, Question};
 use crate::reply::Reply;
@@ -5,7 +6,7 @@ use crate::step::{apply, plan};
 use crate::tables::{Tables, due, tick};
 use farm_text::{Moment, SlugId, Text};
 use role_expand::{Role, RoleSet};
-use scope_sets::Scope;
+use scope_sets::{Expr, Scope};
 use std::alloc::Global;
 use std::test::Fail;
 
@@ -133,6 +134,29 @@ fn too_many_scopes_are_refused_after_the_credentials(rt: HostRuntime) -> Result<
     let call = Call::BadParameter(Parameter::TaskId);
     let reply = ask_of(alloc, &more, Caller::Anonymous, id, call)?;
     assert_eq!(rt; reply.status().as_u16(), 400);
+    Ok(())
+}
+
+/// The scope of this text.
+fn scope(alloc: Global, text: &str) -> Result<Expr, Fail> {
+    let scope = Scope::new(String::from_str(alloc, text)?).ok_or("a scope")?;
+    Ok(Expr::One(scope))
+}
+
+#[test]
+fn what_is_missing_is_told(rt: HostRuntime) -> Result<(), Fail> {
+    let alloc = rt.alloc();
+    let created = vec![in alloc;
+        scope(alloc, "queue:create-task:highest:prov/wt")?,
+        scope(alloc, "queue:create-task:high:prov/wt")?,
+    ]?;
+    let lack = Expr::AllOf(vec![in alloc; Expr::AnyOf(created)]?);
+    let reply = Reply::Answered(insufficient_scopes(alloc, &lack)?);
+    assert_eq!(rt; reply.status().as_u16(), 403);
+    assert_eq!(rt;
+        reply.body(),
+        "{\"code\":\"InsufficientScopes\",\"details\":{\"missing\":{\"AllOf\":[{\"AnyOf\":[\"queue:create-task:highest:prov/wt\",\"queue:create-task:high:prov/wt\"]}]}},\"message\":\"scopes are missing\"}"
+    );
     Ok(())
 }
 

@@ -14,8 +14,8 @@ use Rattle.http_wire.specs.Stream.{whole, Gives, Ending, Messages, TakesOne, Sto
 use Rattle.farm_machine.specs.declared.reply.Reply.{Reply}
 use Rattle.farm_machine.specs.Law.{opened}
 use Rattle.farm_machine.specs.Step.{farm_rules}
-use Rattle.farm_server.specs.ReplyText.{reply_text, wire_text}
-use Rattle.farm_server.specs.Routes.{question_of}
+use Rattle.api_routes.specs.ReplyText.{reply_text, wire_text}
+use Rattle.api_routes.specs.Routes.{call_of, caller_from, question_of}
 use Rattle.farm_server.specs.Served.{Outside, Ask, messages_of, questions_of, reply_texts, IsFront, IsOpenFront, is_refused, EndsAs, told_of, but_last, WritesAndTells, BreaksReply, BreaksOwnReply, Writes, IsCaused, IsCount, Standing, ServesWithin}
 use Rattle.farm_server.specs.Turn.{Telling, AsksOnce, Ends, Refuses, Goes, Turns}
 use Rattle.farm_server.specs.declared.gate.When.{When}
@@ -247,7 +247,7 @@ ServesWithin-none room old new before after served asked same_spare same_moments
 }
 
 -- one message was asked, and it ended so
-ServesWithin-one : (room : ℕ) (old new : Standing) (before after : Outside) (m : Message) (reply : Reply) (served : Served) (once : AsksOnce old new before.moments after.moments before.ids after.ids m reply) → IsCount room 1 served → IfSome before.left (λ bytes. EndsAs room bytes (m ∷ []) served) → Writes room before after (record { message = m; moment = once.moment; id = once.id } ∷ []) (reply ∷ []) served → IsCaused before after served → before.read_faults ≤ after.read_faults → before.write_faults ≤ after.write_faults → ServesWithin room old new before after served
+ServesWithin-one : (room : ℕ) (old new : Standing) (before after : Outside) (m : Message) (reply : Reply) (served : Served) (once : AsksOnce old new before.moments after.moments before.ids after.ids (caller_from m.authorization) (call_of m) reply) → IsCount room 1 served → IfSome before.left (λ bytes. EndsAs room bytes (m ∷ []) served) → Writes room before after (record { message = m; moment = once.moment; id = once.id } ∷ []) (reply ∷ []) served → IsCaused before after served → before.read_faults ≤ after.read_faults → before.write_faults ≤ after.write_faults → ServesWithin room old new before after served
 ServesWithin-one room old new before after m reply served once count taken written cause reads writes = record {
   asks = record { message = m; moment = once.moment; id = once.id } ∷ [];
   replies = reply ∷ [];

@@ -5,7 +5,7 @@ use Rattle.std.specs.Io.KnownBytes.{Appends}
 use Rattle.http_wire.specs.Whole.{AppendsFront}
 use Rattle.farm_machine.specs.declared.reply.Reply.{Reply}
 use Rattle.farm_machine.specs.Replies.{answer_of}
-use Rattle.farm_server.specs.ReplyText.{head_text, reply_text}
+use Rattle.api_routes.specs.ReplyText.{head_text, reply_text}
 
 -- a front of the first of two texts is a front of both
 pub AppendsFront-first : (before now : Option (List ℕ)) (first second : List ℕ) → AppendsFront before now first → AppendsFront before now (first ++ second)

@@ -17,8 +17,8 @@ use Rattle.farm_machine.specs.declared.reply.Reply.{Reply}
 use Rattle.farm_machine.specs.Entry.{Asking, Entry}
 use Rattle.farm_machine.specs.Law.{Opening, opened}
 use Rattle.farm_machine.specs.Step.{farm_rules}
-use Rattle.farm_server.specs.ReplyText.{reply_text, wire_text}
-use Rattle.farm_server.specs.Routes.{question_of}
+use Rattle.api_routes.specs.ReplyText.{reply_text, wire_text}
+use Rattle.api_routes.specs.Routes.{question_of}
 use Rattle.farm_server.specs.declared.gate.Gate as gates
 use Rattle.farm_server.specs.declared.gate.When.{When}
 use Rattle.farm_server.specs.declared.gate.When.TheVariants.{Asked, Answered}

@@ -9,11 +9,13 @@ use Rattle.http_wire.specs.declared.message.Wire.{Wire}
 use Rattle.http_wire.specs.declared.message.Wire.TheVariants as wire
 use Rattle.http_wire.specs.Stream.{TakesOne}
 use Rattle.http_wire.specs.Whole.{AppendsFront}
+use Rattle.farm_machine.specs.declared.question.Call.{Call}
+use Rattle.farm_machine.specs.declared.question.Caller.{Caller}
 use Rattle.farm_machine.specs.declared.reply.Reply.{Reply}
 use Rattle.farm_machine.specs.Law.{opened}
 use Rattle.farm_machine.specs.Step.{farm_rules}
-use Rattle.farm_server.specs.ReplyText.{reply_text, wire_text}
-use Rattle.farm_server.specs.Routes.{question_of}
+use Rattle.api_routes.specs.ReplyText.{reply_text, wire_text}
+use Rattle.api_routes.specs.Routes.{call_of, caller_from}
 use Rattle.farm_server.specs.Served.{Outside, is_refused, Standing, ServesWithin}
 use Rattle.farm_server.specs.declared.gate.When.{When}
 use Rattle.farm_server.specs.declared.gate.When.TheVariants.{Asked, Answered}
@@ -33,19 +35,19 @@ pub record Telling : Type 0 where
 abbrev pub telling_of : Outside → Telling
 telling_of all = record { written = all.written; moments = all.moments; ids = all.ids; gate = all.gate; write_faults = all.write_faults }
 
--- One message was asked: one moment and one id were told for it, and the desk was asked once.
-pub record AsksOnce (old new : Standing) (moments_before moments_after : Option (List ℕ)) (ids_before ids_after : Option (List (List ℕ))) (message : Message) (reply : Reply) : Type 0 where
+-- One call was asked: one moment and one id were told for it, and the desk was asked once.
+pub record AsksOnce (old new : Standing) (moments_before moments_after : Option (List ℕ)) (ids_before ids_after : Option (List (List ℕ))) (caller : Caller) (call : Call) (reply : Reply) : Type 0 where
   pub moment : ℕ
   pub id : List ℕ
   pub moments : LogGrows moments_before moments_after (moment ∷ [])
   pub ids : LogGrows ids_before ids_after (id ∷ [])
-  pub asked : AsksInTurn farm_rules opened old.stands new.stands (question_of message moment id ∷ []) (reply ∷ [])
+  pub asked : AsksInTurn farm_rules opened old.stands new.stands (record { moment = moment; drawn = id; caller = caller; call = call } ∷ []) (reply ∷ [])
   pub spent : old.spare ≡ new.spare + 1
 
 -- One message was asked, and its reply was written; the gate was told both.
 pub record Answers (room : ℕ) (old new : Standing) (before after : Telling) (message : Message) : Type 0 where
   pub reply : Reply
-  pub once : AsksOnce old new before.moments after.moments before.ids after.ids message reply
+  pub once : AsksOnce old new before.moments after.moments before.ids after.ids (caller_from message.authorization) (call_of message) reply
   pub written : Appends before.written after.written (reply_text reply (message.closes || (room == 1)))
   pub gate : LogGrows before.gate after.gate (Asked (REQUESTS - room) ∷ Answered (REQUESTS - room) ∷ [])
   pub kept : after.write_faults ≡ before.write_faults
@@ -53,7 +55,7 @@ pub record Answers (room : ℕ) (old new : Standing) (before after : Telling) (m
 -- One message was asked, which the gate was told, and a write of its reply failed.
 pub record Breaks (room : ℕ) (old new : Standing) (before after : Telling) (message : Message) : Type 0 where
   pub reply : Reply
-  pub once : AsksOnce old new before.moments after.moments before.ids after.ids message reply
+  pub once : AsksOnce old new before.moments after.moments before.ids after.ids (caller_from message.authorization) (call_of message) reply
   pub written : AppendsFront before.written after.written (reply_text reply (message.closes || (room == 1)))
   pub gate : LogGrows before.gate after.gate (Asked (REQUESTS - room) ∷ [])
   pub rose : Rose before.write_faults after.write_faults
@@ -86,7 +88,7 @@ pub record Goes (room : ℕ) (old new : Standing) (before after : Outside) (rest
   pub message : Message
   pub reply : Reply
   pub taken : TakesOne before.left message rest
-  pub once : AsksOnce old new before.moments after.moments before.ids after.ids message reply
+  pub once : AsksOnce old new before.moments after.moments before.ids after.ids (caller_from message.authorization) (call_of message) reply
   pub written : Appends before.written after.written (reply_text reply (message.closes || (room == 1)))
   pub gate : LogGrows before.gate after.gate (Asked (REQUESTS - room) ∷ Answered (REQUESTS - room) ∷ [])
   pub goes_on : (message.closes ≡ false) ⊎ (room ≡ 1)

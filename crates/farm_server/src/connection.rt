@@ -1,20 +1,18 @@
 //! One connection, message by message.
 ghost use Rattle.std.specs.Prelude.{◌≡◌, ◌-◌, ◌<◌, ◌≤◌};
 ghost use Rattle.std.specs.Io.KnownBytes.{prepend_known};
-ghost use Rattle.farm_server.specs.Routes.{call_of as call_made};
 ghost use Rattle.farm_server.specs.Served.{outside_of, Serves};
 ghost use Rattle.farm_server.specs.Turn.{telling_of, AsksOnce, Ends, Refuses, Turns};
 ghost use Rattle.farm_server.specs.declared.served.TheConstants.{REQUESTS};
 
 use crate::gate::{Gate, When};
-use crate::routes::{call_of, question};
 use crate::served::{REQUESTS, Served};
-use crate::wire_replies::own_reply;
 use crate::write::write_reply;
+use api_routes::{call_of, caller_of, own_reply};
 use causes::Failed;
 use farm_desk::Desk;
 use farm_machine::law::Farm;
-use farm_machine::question::{Call, Question};
+use farm_machine::question::{Call, Caller, Question};
 use farm_machine::reply::{Asked, Reply};
 use farm_text::{Clock, Draws};
 use http_wire::{Link, Message, Reader, Wire, write_all};
@@ -124,7 +122,7 @@ fn answer<
         Err(_) => return Some(Served::NoMemory),
     };
     gate.at(When::Asked(place));
-    let reply = ask(message, call, desk, clock, draws);
+    let reply = ask(caller_of(message), call, desk, clock, draws);
     let is_last = place >= REQUESTS - 1;
     if let Err(Failed) = write_reply(link, &reply, message.closes || is_last) {
         return Some(Served::WriteFault);
@@ -136,26 +134,25 @@ fn answer<
     None
 }
 
-/// Asks the desk what a message asks.
+/// Asks the desk one call, with the moment that the clock tells and the id that is drawn.
 fn ask<K: Desk<Question = Question, Answer = Asked, Law = Farm>, C: Clock, R: Draws>(
-    message: &Message,
+    caller: Caller,
     call: Call,
     desk: &mut K,
     clock: &mut C,
     draws: &mut R,
 ) -> Reply
-    requires called { call ≡ call_made message.now }
     requires spare { 0 < K.spare desk.old }
     ensures home { K.home desk.new ≡ K.home desk.old }
     ensures once { AsksOnce
         (record { stands = K.stands desk.old; spare = K.spare desk.old })
         (record { stands = K.stands desk.new; spare = K.spare desk.new })
         (C.told clock.old) (C.told clock.new) (R.told draws.old) (R.told draws.new)
-        message.now result }
+        caller call result }
 {
     let moment = clock.now();
     let id = draws.draw();
-    desk.ask(question(message, call, moment, id)).reply
+    desk.ask(Question::new(moment, id, caller, call)).reply
 }
 
 /// Ends a connection on which no message came, after the wire's own reply where it refuses what came.

@@ -7,6 +7,7 @@ ghost use Rattle.farm_machine.specs.Step.{farm_rules};
 ghost use Rattle.farm_server.specs.declared.served.TheConstants.{REQUESTS};
 
 use super::*;
+use farm_core::Bare;
 use farm_desk::{Desk, Object, Solo, Spare};
 use farm_machine::config::Config;
 use farm_machine::law::Farm;
@@ -113,19 +114,6 @@ fn a_ping_and_a_status(rt: HostRuntime) -> Result<(), Fail> {
     let output = serve(alloc, &Input::of(&input))?;
     assert_eq!(rt; output.served, Served::Closed);
     assert_eq!(rt; output.written, replies);
-    Ok(())
-}
-
-#[test]
-fn a_farm_without_a_disk_answers(rt: HostRuntime) -> Result<(), Fail> {
-    let alloc = rt.alloc();
-    let Some(id) = SlugId::read(b"AAAAAAAAQACAAAAAAAAAAA") else {
-        return Err(Fail::from("no slugid"));
-    };
-    let mut farm = Bare::new(alloc, config(alloc)?);
-    let asked = farm.ask(Question::new(Moment::FIRST, id, Caller::Anonymous, Call::Ping));
-    assert_eq!(rt; asked.reply.body(), "{\"alive\":true}");
-    assert!(rt; !asked.ticked);
     Ok(())
 }
 

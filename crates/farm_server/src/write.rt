@@ -4,9 +4,9 @@ ghost use Rattle.std.specs.Io.KnownBytes.{Appends};
 ghost use Rattle.causes.specs.Causes.{HasCause};
 ghost use Rattle.http_wire.specs.Calls.{state_of};
 ghost use Rattle.http_wire.specs.Whole.{WritesAll};
-ghost use Rattle.farm_server.specs.ReplyText.{reply_text};
+ghost use Rattle.api_routes.specs.ReplyText.{reply_text};
 
-use crate::head::reply_head;
+use api_routes::reply_head;
 use causes::Failed;
 use farm_machine::reply::Reply;
 use http_wire::{Link, write_all};

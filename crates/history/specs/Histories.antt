@@ -39,17 +39,5 @@ abbrev pub Leads : {Q A S E R : Type 0} → Rules Q A S E R → S → List E →
 Leads r opening seen state = IsLegal r opening seen × (state ≡ end_state r opening seen)
 
 -- the entries of one ask, from the state that it finds: what goes before its call, and the call
-abbrev pub entries : {Q A S E R : Type 0} → Rules Q A S E R → S → Q → A → List E
-entries r state question answer = r.ticks state question answer ++ r.call question answer ∷ []
-
--- the entries of asks in turn, of questions with their answers: each finds the state that those before it leave
-abbrev pub asks_entries : {Q A S E R : Type 0} → Rules Q A S E R → S → List (Q × A) → List E
-asks_entries r state [] = []
-asks_entries r state (ask ∷ asks) = entries r state ask.0 ask.1 ++ asks_entries r (end_state r state (entries r state ask.0 ask.1)) asks
-
--- It leads to this state, these places are all its calls, in order, and it has the entries of asks in turn and no others.
-pub record LeadsAlone {Q A S E R : Type 0} (r : Rules Q A S E R) (opening : S) (seen : List E) (mine : List ℕ) (state : S) : Type 0 where
-  pub legal : IsLegal r opening seen
-  pub leads : state ≡ end_state r opening seen
-  pub all : mine ≡ calls_of r 0 seen
-  pub made : (asks : List (Q × A)) × (seen ≡ asks_entries r opening asks)
+abbrev pub entries : {Q A S E R : Type 0} → Rules Q A S E R → S → Q → A → E → List E
+entries r state question answer call = r.ticks state question answer ++ call ∷ []

@@ -13,7 +13,5 @@ pub record Rules (Q A S E R : Type 0) : Type 1 where
   pub asked : E → Option Q
   -- the entries of an ask before its call, which the answer tells
   pub ticks : S → Q → A → List E
-  -- the entry of the call itself
-  pub call : Q → A → E
   -- the reply that an answer carries
   pub told : A → R

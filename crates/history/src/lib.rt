@@ -7,8 +7,8 @@
 
 ghost use Rattle.std.specs.Prelude.{◌≡◌, ℕ, ◌+◌, ◌<◌, ◌↔◌, List, ◌++◌, length, Some, IsSome, AllPairs, Contains};
 ghost use Rattle.history.specs.Rules.{Rules};
-ghost use Rattle.history.specs.Histories.{end_state, IsLegal, reply_at, asked_at, calls_of, LeadsAlone};
-ghost use Rattle.history.specs.Asks.{IsAsk};
+ghost use Rattle.history.specs.Histories.{end_state, IsLegal, reply_at, asked_at, calls_of};
+ghost use Rattle.history.specs.Asks.{IsAsk, AreEntries, HasOneEntry, LeadsAlone};
 
 /// What calls do to a state. No value of such a type is made: a marker names the law.
 pub trait Machine {
@@ -53,10 +53,15 @@ pub fn calls_have_one_place<M: Machine>()
     ensures rising { (history : List M.Entry) → AllPairs (λ earlier later. earlier < later) (calls_of M.rules 0 history) }
 {}
 
-/// A law: an ask leaves one state, and a history one state and one list of calls.
+/// A law: a history leaves one state and one list of calls. Where a question and a reply have one entry in a state, an ask
+/// has one call and leaves one state, and asks that are answered alike have one list of entries.
 pub fn asks_have_one_outcome<M: Machine>()
-    ensures ask { (old : M.State) (question : M.Question) (answer : M.Answer) (new other : M.State)
-        → IsAsk M.rules old question answer new → IsAsk M.rules old question answer other → new ≡ other }
+    ensures call { HasOneEntry M.rules → (old : M.State) (question : M.Question) (answer : M.Answer) (call other : M.Entry) (new another : M.State)
+        → IsAsk M.rules old question answer call new → IsAsk M.rules old question answer other another → call ≡ other }
+    ensures ask { HasOneEntry M.rules → (old : M.State) (question : M.Question) (answer : M.Answer) (call other : M.Entry) (new another : M.State)
+        → IsAsk M.rules old question answer call new → IsAsk M.rules old question answer other another → new ≡ another }
+    ensures made { HasOneEntry M.rules → (opening : M.State) (asks : List (M.Question × M.Answer)) (made others : List M.Entry)
+        → AreEntries M.rules opening asks made → AreEntries M.rules opening asks others → made ≡ others }
     ensures state { (opening : M.State) (history : List M.Entry) (mine others : List ℕ) (state other : M.State)
         → LeadsAlone M.rules opening history mine state → LeadsAlone M.rules opening history others other → state ≡ other }
     ensures places { (opening : M.State) (history : List M.Entry) (mine others : List ℕ) (state other : M.State)

@@ -1,6 +1,7 @@
 //! A small machine, and one history of it that was worked by hand.
 ghost use Rattle.std.specs.Prelude.{◌≡◌, ℕ, ◌+◌, List, [], ◌∷◌, Option, Some, None, true, false, option_map};
 ghost use Rattle.history.specs.Histories.{end_state, reply_at, asked_at, calls_of};
+ghost use Rattle.history.specs.Asks.{HasOneEntry};
 
 use super::*;
 
@@ -27,7 +28,6 @@ impl Machine for Adding {
       reply = λ sum entry. option_map (λ n. sum + n) entry;
       asked = λ entry. entry;
       ticks = λ sum n answer. elim answer.0 [ true ↦ None ∷ [] | false ↦ [] ];
-      call = λ n answer. Some n;
       told = λ answer. answer.1;
     } };
 
@@ -43,9 +43,15 @@ fn worked_by_hand()
     ensures tick { asked_at ⟦<Adding as Machine>⟧.rules (Some 2 ∷ None ∷ Some 3 ∷ Some 4 ∷ []) 1 ≡ None }
 {}
 
+/// A question has one entry, so a question and a reply have one.
+fn a_sum_has_one_entry()
+    ensures { HasOneEntry ⟦<Adding as Machine>⟧.rules }
+{}
+
 #[test]
 fn a_history_of_sums() {
     worked_by_hand();
+    a_sum_has_one_entry();
     histories_go_on::<Adding>();
     calls_have_one_place::<Adding>();
     asks_have_one_outcome::<Adding>();

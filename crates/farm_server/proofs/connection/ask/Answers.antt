@@ -15,6 +15,6 @@ returns-clause-once g c =
       id = c.draw-id.result;
       moments = c.now-moment.ensures.told;
       ids = c.draw-id.ensures.told;
-      asked = subst P c.question.ensures (AsksInTurn-one farm_rules opened (g.K.Desk.stands c.args.desk.now) (g.K.Desk.stands c.ask.new.self) c.question.result c.ask.result c.ask.ensures.asked);
+      asked = subst P c.new.ensures (AsksInTurn-one farm_rules opened (g.K.Desk.stands c.args.desk.now) (g.K.Desk.stands c.ask.new.self) c.new.result c.ask.result c.ask.ensures.asked);
       spent = omega (arith, c.ask.ensures.left);
     }

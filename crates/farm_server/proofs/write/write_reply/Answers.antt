@@ -1,7 +1,7 @@
 use Rattle.std.proofs.Common.{◌≡◌, ◌++◌, List, ℕ, subst, ◌∙◌}
 use Rattle.http_wire.specs.Calls.{state_of}
 use Rattle.http_wire.specs.Whole.{WritesAll}
-use Rattle.farm_server.specs.ReplyText.{reply_text}
+use Rattle.api_routes.specs.ReplyText.{reply_text}
 use Rattle.farm_server.proofs.WriteLemmas.{reply_text-parts}
 use Rattle.farm_server.proofs.write.write_reply.Goals as goal
 

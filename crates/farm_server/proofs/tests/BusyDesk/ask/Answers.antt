@@ -1,7 +1,6 @@
 -- The history goes on by the other caller's ask, and then by this one.
 use Rattle.std.proofs.Common.{ℕ, List, ◌++◌}
-use Rattle.history.specs.Histories.{Leads}
-use Rattle.history.specs.Histories.{entries}
+use Rattle.history.specs.Histories.{entries, Leads}
 use Rattle.history.proofs.AsksLemmas.{Leads-ask, HasAsked-leads}
 use Rattle.farm_machine.specs.Entry.{Entry}
 use Rattle.farm_machine.specs.Law.{opened}
@@ -15,6 +14,8 @@ returns-clause-asked c =
     let old = c.args.self.now.farm in
     let between = c.ask.new.self in
     let new = c.ask-2.new.self in
-    let others = entries farm_rules old c.new-other.result c.ask.result in
-    let led = Leads-ask farm_rules start seen old c.new-other.result c.ask.result between stood c.ask.ensures.step in
-    HasAsked-leads farm_rules (λ (history : List Entry) (places : List ℕ). Leads farm_rules start history new) start seen others mine between c.args.question c.ask-2.result new led c.ask-2.ensures.step (Leads-ask farm_rules start (seen ++ others) between c.args.question c.ask-2.result new led c.ask-2.ensures.step)
+    let (other, first, _) = c.ask.ensures in
+    let (own, second, _) = c.ask-2.ensures in
+    let others = entries farm_rules old c.new-other.result c.ask.result other in
+    let led = Leads-ask farm_rules start seen old c.new-other.result c.ask.result other between stood first in
+    HasAsked-leads farm_rules (λ (history : List Entry) (places : List ℕ). Leads farm_rules start history new) start seen others mine between c.args.question c.ask-2.result own new led second (Leads-ask farm_rules start (seen ++ others) between c.args.question c.ask-2.result own new led second)

@@ -1,0 +1,4 @@
+pub mod CallLemmas
+pub mod HeadLemmas
+pub mod PathLemmas
+pub mod PhraseLemmas

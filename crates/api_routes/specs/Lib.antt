@@ -1,0 +1,3 @@
+pub mod Parts
+pub mod ReplyText
+pub mod Routes

@@ -1,0 +1,13 @@
+//! The routes of the API and the bytes of its replies: which call a message makes, and the head of a reply.
+#![tactic(auto)]
+
+mod head;
+mod routes;
+mod wire_replies;
+
+pub use head::{Head, reply_head};
+pub use routes::{call_of, caller_of};
+pub use wire_replies::own_reply;
+
+#[cfg(test)]
+mod tests;

@@ -1,0 +1,109 @@
+//! Which call a message makes, and who sends it.
+ghost use Rattle.std.specs.Prelude.{◌≡◌, ◌==◌, ◌≤◌, length, Some, None, IfOk, IfSome, MatchOption, [], ◌∷◌};
+ghost use Rattle.farm_text.specs.Slug.{slug_of};
+ghost use Rattle.percent_encoding.specs.Percent.{percent_decode};
+ghost use Rattle.std.specs.List.{position, list_all};
+ghost use Rattle.api_routes.specs.Routes as routes;
+ghost use Rattle.api_routes.specs.Parts.{is_part};
+
+use farm_machine::question::{Call, Caller, Parameter};
+use farm_text::{SlugId, Text};
+use http_wire::Message;
+use percent_encoding::percent_decode;
+use scope_sets::scopes::is_printable;
+use std::alloc::{AllocError, Global};
+
+/// The call of a message, by its method and its target.
+pub fn call_of(alloc: Global, message: &Message) -> Result<Call, AllocError>
+    ensures { IfOk result (λ c. c ≡ routes.call_of message.now) }
+{
+    let path = path_of(message.target.as_slice());
+    if message.method.as_slice() != b"GET".as_slice() {
+        return no_route(alloc, path);
+    }
+    if path == b"/api/queue/v1/ping".as_slice() {
+        return Ok(Call::Ping);
+    }
+    match status_id(path) {
+        Some(id) => status_call(alloc, id),
+        None => no_route(alloc, path),
+    }
+}
+
+/// Who sends a message. Credentials have no reading yet, so any field with some is off its form.
+pub fn caller_of(message: &Message) -> Caller
+    ensures { result ≡ routes.caller_from message.now.authorization }
+{
+    match &message.authorization {
+        Some(_) => Caller::BadHeader,
+        None => Caller::Anonymous,
+    }
+}
+
+/// The target before its query.
+fn path_of(target: &[u8]) -> &[u8]
+    ensures { result.now ≡ routes.path_of target.now }
+{
+    match query_place(target) {
+        Some(end) => &target[..end],
+        None => target,
+    }
+}
+
+/// Where the query begins, with its `?`.
+fn query_place(target: &[u8]) -> Option<usize>
+    ensures value { result ≡ position (λ b. b == 63) target.now }
+    ensures within { IfSome result (λ place. place ≤ length target.now) }
+{
+    target.iter().position(|b| *b == b'?')
+}
+
+/// The id in the path of a task's status, as it stands there.
+fn status_id(path: &[u8]) -> Option<&[u8]>
+    ensures { MatchOption result (routes.parameters_in routes.status_route (routes.parts_of path.now) ≡ None)
+        (λ id. routes.parameters_in routes.status_route (routes.parts_of path.now) ≡ Some (id.now ∷ [])) }
+{
+    let Some(task) = path.strip_prefix(b"/api/queue/v1/task/") else {
+        return None;
+    };
+    match task.strip_suffix(b"/status") {
+        Some(id) if is_part(id) => Some(id),
+        _ => None,
+    }
+}
+
+/// Whether the bytes are one part of a path that is not empty.
+fn is_part(bytes: &[u8]) -> bool
+    ensures { result ≡ is_part bytes.now }
+{
+    !bytes.is_empty() && !bytes.contains(&b'/')
+}
+
+/// The status call of the task whose id is percent-encoded in a path.
+fn status_call(alloc: Global, id: &[u8]) -> Result<Call, AllocError>
+    ensures { IfOk result (λ c. c ≡ routes.status_call (slug_of (percent_decode id.now))) }
+{
+    let mut text = Vec::new(alloc);
+    percent_decode(id).append_to(&mut text)?;
+    match SlugId::read(&text) {
+        Some(id) => Ok(Call::Status(id)),
+        None => Ok(Call::BadParameter(Parameter::TaskId)),
+    }
+}
+
+/// The call of a path that has no route.
+fn no_route(alloc: Global, path: &[u8]) -> Result<Call, AllocError>
+    ensures { IfOk result (λ c. c ≡ Call.NoRoute (routes.route_name path.now)) }
+{
+    Ok(Call::NoRoute(Text::from_str(alloc, route_name(path))?))
+}
+
+/// The path where it is printable ASCII, else `-`.
+fn route_name(path: &[u8]) -> &str
+    ensures { result.now ≡ routes.route_name path.now }
+{
+    match str::from_utf8(path) {
+        Ok(name) if is_printable(path) => name,
+        _ => "-",
+    }
+}

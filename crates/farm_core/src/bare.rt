@@ -1,0 +1,91 @@
+//! The farm without a disk.
+ghost use Rattle.std.specs.Prelude.{◌≡◌, ◌≤◌, false};
+ghost use Rattle.farm_text.specs.declared.moment.TheConstants.{LAST_TOLD_MOMENT};
+ghost use Rattle.farm_machine.specs.Changes.{moment_of};
+ghost use Rattle.farm_machine.specs.Due.{is_due};
+ghost use Rattle.farm_machine.specs.State.{working, empty_state};
+ghost use Rattle.farm_core.specs.Bare.{IsResolved, IsPerformed};
+
+use farm_desk::Object;
+use farm_machine::config::Config;
+use farm_machine::law::Farm;
+use farm_machine::question::Question;
+use farm_machine::reply::{Asked, Reply};
+use farm_machine::step::{apply, plan};
+use farm_machine::tables::{Tables, due, tick};
+use farm_text::Moment;
+use std::alloc::Global;
+use std::marker::Model;
+
+/// A farm that keeps all in memory. A contract sees it as its state.
+#[derive(Drop)]
+pub struct Bare {
+    alloc: Global,
+    config: Config,
+    tables: Tables,
+}
+
+impl Model for Bare {
+    ghost use Rattle.farm_machine.specs.State.{State, working};
+
+    ghost Value = { State };
+
+    ghost view = { λ b. working b.config b.tables };
+}
+
+impl Bare {
+    /// The empty farm of this configuration. It takes no memory.
+    pub fn new(alloc: Global, config: Config) -> Bare
+        ensures { result ≡ empty_state config }
+    {
+        Bare {
+            alloc,
+            config,
+            tables: Tables::new(),
+        }
+    }
+}
+
+impl Object for Bare {
+    type Question = Question;
+
+    type Answer = Asked;
+
+    type Law = Farm;
+
+    ghost state = { λ bare. bare };
+
+    fn ask(&mut self, question: Question) -> Asked {
+        let moment = question.moment().max(self.tables.last());
+        let ticked = resolve_due(&mut self.tables, moment);
+        let reply = perform(self.alloc, &mut self.tables, &self.config, question);
+        Asked { reply, ticked }
+    }
+}
+
+/// Resolves what is due at the moment, and says whether anything was.
+fn resolve_due(tables: &mut Tables, moment: Moment) -> bool
+    requires { moment ≤ LAST_TOLD_MOMENT }
+    ensures { IsResolved tables.old moment result tables.new }
+{
+    let is_due = due(tables, moment);
+    if is_due {
+        tick(tables, moment);
+    }
+    is_due
+}
+
+/// Performs a call at whose moment nothing is due.
+fn perform(alloc: Global, tables: &mut Tables, config: &Config, question: Question) -> Reply
+    requires { is_due tables.old (moment_of tables.old question) ≡ false }
+    ensures { IsPerformed config.now tables.old question result tables.new }
+{
+    let moment = question.moment().max(tables.last());
+    match plan(alloc, tables, config, question) {
+        Ok(plan) => apply(tables, plan),
+        Err(_) => {
+            tables.reach(moment);
+            Reply::OutOfMemory
+        }
+    }
+}

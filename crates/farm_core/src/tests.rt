@@ -1,0 +1,30 @@
+//! A farm in memory, asked directly.
+use super::*;
+use farm_desk::Object;
+use farm_machine::config::Config;
+use farm_machine::question::{Call, Caller, Question};
+use farm_text::{Moment, SlugId, Text};
+use role_expand::RoleSet;
+use std::test::Fail;
+
+#[test]
+fn a_farm_without_a_disk_answers(rt: HostRuntime) -> Result<(), Fail> {
+    let alloc = rt.alloc();
+    let Some(id) = SlugId::read(b"AAAAAAAAQACAAAAAAAAAAA") else {
+        return Err(Fail::from("no slugid"));
+    };
+    let config = Config {
+        host: Text::from_str(alloc, "localhost")?,
+        port: 8080,
+        claim_timeout: 1200,
+        max_tasks: 1_000_000,
+        roles: RoleSet::build(alloc, Vec::new(alloc))
+            .ok()
+            .ok_or("no roles")?,
+    };
+    let mut farm = Bare::new(alloc, config);
+    let asked = farm.ask(Question::new(Moment::FIRST, id, Caller::Anonymous, Call::Ping));
+    assert_eq!(rt; asked.reply.body(), "{\"alive\":true}");
+    assert!(rt; !asked.ticked);
+    Ok(())
+}

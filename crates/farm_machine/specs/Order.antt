@@ -1,0 +1,76 @@
+-- The one order of refusals, for every call.
+use Rattle.std.specs.Prelude.{◌≡◌, ◌⊎◌, ℕ, List, [], ◌∷◌, ◌++◌, map, Option, Some, None, option_map}
+use Rattle.scope_sets.specs.Expressions.{Expression, missing}
+use Rattle.role_expand.specs.Roles.{RoleData}
+use Rattle.farm_text.specs.Document.{document_text}
+use Rattle.farm_machine.specs.declared.access.Access.TheVariants.{Has, Refused}
+use Rattle.farm_machine.specs.declared.question.Caller.{Caller}
+use Rattle.farm_machine.specs.declared.reply.Answer.{Answer}
+use Rattle.farm_machine.specs.Access.{HasAccess}
+use Rattle.farm_machine.specs.Case.{Setting, Deed, Case, passing}
+use Rattle.farm_machine.specs.Changes.{applied}
+use Rattle.farm_machine.specs.Judgement.{Judgement, only_answer}
+use Rattle.farm_machine.specs.Replies.{ok, insufficient_scopes}
+
+-- the form of what is called: it has no route, or a parameter off its form, with that answer, or it asks something
+pub data Form : Type 0 where
+  has_no_route : (answer : Answer) → Form
+  has_bad_parameter : (answer : Answer) → Form
+  asks : (case : Setting → Case) → Form
+
+-- the answer where no route has the method and the target
+abbrev pub route_of : Form → Option Answer
+route_of (has_no_route answer) = Some answer
+route_of form = None
+
+-- the answer where a parameter is off its form
+abbrev pub parameter_of : Form → Option Answer
+parameter_of (has_bad_parameter answer) = Some answer
+parameter_of form = None
+
+-- what a call that asks something has for the order
+abbrev pub case_of : Form → Setting → Case
+case_of (asks case) at = case at
+case_of form at = passing
+
+-- a refusal that strikes gives its answer, and changes nothing
+abbrev pub Strikes : Option Answer → Judgement → Type 0
+Strikes None judgement = ⊥
+Strikes (Some answer) judgement = judgement ≡ only_answer answer
+
+-- the caller is not who it says, or too many scopes are derivable for it
+abbrev pub HasNoAccess : List RoleData → Caller → Judgement → Type 0
+HasNoAccess roles caller judgement =
+    (answer : Answer) × HasAccess roles caller (Refused answer) × Strikes (Some answer) judgement
+
+-- the caller's scopes do not hold what the call asks for
+abbrev pub LacksScopes : List RoleData → Caller → Expression → Judgement → Type 0
+LacksScopes roles caller policy judgement =
+    (scopes : List (List ℕ)) × HasAccess roles caller (Has scopes)
+    × Strikes (option_map insufficient_scopes (missing scopes policy)) judgement
+
+-- the judgement of a call that does this
+abbrev pub done : Setting → Deed → Judgement
+done at deed = record {
+  answer = ok (document_text (deed.body (applied at.state.contents at.moment deed.change)));
+  change = deed.change;
+}
+
+-- the call is done
+abbrev pub IsDone : Setting → Deed → Judgement → Type 0
+IsDone at deed judgement = judgement ≡ done at deed
+
+-- the judgement of the first of these that gives any
+abbrev pub IsFirst : List (Judgement → Type 0) → Judgement → Type 0
+IsFirst [] judgement = ⊥
+IsFirst (P ∷ Ps) judgement = P judgement ⊎ (((other : Judgement) → ¬ P other) × IsFirst Ps judgement)
+
+-- what may judge a call, in the one order: each gives a judgement where it strikes
+abbrev pub in_order : Setting → Caller → Form → List (Judgement → Type 0)
+in_order at caller form =
+    Strikes (route_of form)
+    ∷ Strikes (parameter_of form)
+    ∷ HasNoAccess at.state.config.roles caller
+    ∷ Strikes (case_of form at).absent
+    ∷ LacksScopes at.state.config.roles caller (case_of form at).policy
+    ∷ (map Strikes (case_of form at).rules ++ IsDone at (case_of form at).deed ∷ [])

@@ -1,0 +1,36 @@
+ghost use Rattle.std.specs.Prelude.{None, ◌≡◌, IfOk};
+
+use crate::case::{Called, Done, Scene};
+use crate::reply::Answer;
+use farm_text::{Doc, Entries};
+use scope_sets::Expr;
+use std::alloc::{AllocError, Global};
+
+/// Whether the farm is there.
+#[derive(Clone, Copy)]
+pub(crate) struct Ping {}
+
+impl Called for Ping {
+    ghost use Rattle.farm_machine.specs.Calls.Ping.{ping};
+
+    ghost case = { λ _. ping };
+
+    fn absent(&self, _alloc: Global, _at: &Scene<'_>) -> Result<Option<Answer>, AllocError> {
+        Ok(None)
+    }
+
+    fn policy(&self, alloc: Global, _at: &Scene<'_>) -> Result<Expr, AllocError> {
+        Ok(Expr::AllOf(Vec::new(alloc)))
+    }
+
+    fn rule(&self, _alloc: Global, _at: &Scene<'_>) -> Result<Option<Answer>, AllocError> {
+        Ok(None)
+    }
+
+    fn deed(&self, alloc: Global, _at: &Scene<'_>) -> Result<Done, AllocError> {
+        let body = Entries::new(alloc)
+            .with(alloc, "alive", Doc::Bool(true))?
+            .into_doc();
+        Ok(Done { body })
+    }
+}
