@@ -74,7 +74,7 @@ fn heads_are_those_of_http(rt: HostRuntime) -> Result<(), Fail> {
     let head = reply_head(&Reply::OutOfMemory, true);
     assert_eq!(rt;
         head.as_slice(),
-        b"HTTP/1.1 503 Service Unavailable\r\nConnection: close\r\nContent-Length: 58\r\nContent-Type: application/json\r\n\r\n".as_slice()
+        b"HTTP/1.1 503 Service Unavailable\r\nConnection: close\r\nContent-Length: 57\r\nContent-Type: application/json\r\n\r\n".as_slice()
     );
     assert_eq!(rt; own_reply(Wire::End), b"".as_slice());
     Ok(())
