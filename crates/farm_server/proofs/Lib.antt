@@ -1,2 +1,3 @@
+pub mod OneMoreLemmas
 pub mod ServesLemmas
 pub mod WriteLemmas

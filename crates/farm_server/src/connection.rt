@@ -112,8 +112,7 @@ fn answer<
         (record { stands = K.stands desk.old; spare = K.spare desk.old })
         (record { stands = K.stands desk.new; spare = K.spare desk.new })
         (telling_of (outside_of L.Link C.Clock R.Draws G.Gate link.old clock.old draws.old gate.old))
-        (telling_of (outside_of L.Link C.Clock R.Draws G.Gate link.new clock.new draws.new gate.new))
-        message.now result }
+        (telling_of (outside_of L.Link C.Clock R.Draws G.Gate link.new clock.new draws.new gate.new)) message.now result }
     ensures left { L.left link.new ≡ L.left link.old }
     ensures read_faults { L.read_faults link.new ≡ L.read_faults link.old }
 {
