@@ -87,7 +87,7 @@ fn expand_over<H: House>(alloc: Global, config: &Config, house: &mut H) -> Ended
     ensures refusals { H.refusals house.new ≡ H.refusals house.old }
 {
     let mut console = house.console();
-    let ended = expand(alloc, &config.roles, &mut console);
+    let ended = expand(alloc, config.roles.roles(), &mut console);
     house.back_console(console);
     ended
 }

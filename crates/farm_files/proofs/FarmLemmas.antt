@@ -236,7 +236,7 @@ first_not_toml longest bytes le never = record {
 
 -- ---- what sound rows rule out of their roles
 
-row_form : (es : List RoleData) (i : ℕ) (d : Data) → ((rule : Rule) → ¬ RowBreaks es i d rule) → ¬ (¬ HasRowForm i (role_of d))
+pub row_form : (es : List RoleData) (i : ℕ) (d : Data) → ((rule : Rule) → ¬ RowBreaks es i d rule) → ¬ (¬ HasRowForm i (role_of d))
 row_form es i (table ms) sound never = sound OutOfForm never
 row_form es i (string s) sound never = sound WrongKind tt
 row_form es i (integer z) sound never = sound WrongKind tt
@@ -245,7 +245,7 @@ row_form es i (boolean b) sound never = sound WrongKind tt
 row_form es i (datetime t) sound never = sound WrongKind tt
 row_form es i (array ds) sound never = sound WrongKind tt
 
-row_apart : (es : List RoleData) (i : ℕ) (d : Data) → ((rule : Rule) → ¬ RowBreaks es i d rule) → ¬ Any (λ role. role.id ≡ (role_of d).id) es
+pub row_apart : (es : List RoleData) (i : ℕ) (d : Data) → ((rule : Rule) → ¬ RowBreaks es i d rule) → ¬ Any (λ role. role.id ≡ (role_of d).id) es
 row_apart es i (table ms) sound found = sound RepeatedId found
 row_apart es i (string s) sound found = sound WrongKind tt
 row_apart es i (integer z) sound found = sound WrongKind tt
@@ -258,7 +258,7 @@ mapped : (o : Option Data) (r : RoleData) → option_map role_of o ≡ Some r �
 mapped None r e = absurd cc
 mapped (Some d) r e = (d, refl, cc)
 
-role_at : (xs : List Data) (i : ℕ) (r : RoleData) → slice_get (map role_of xs) i ≡ Some r → (d : Data) × (slice_get xs i ≡ Some d) × (role_of d ≡ r)
+pub role_at : (xs : List Data) (i : ℕ) (r : RoleData) → slice_get (map role_of xs) i ≡ Some r → (d : Data) × (slice_get xs i ≡ Some d) × (role_of d ≡ r)
 role_at xs i r e = mapped (slice_get xs i) r (sym (slice_get-map role_of xs i) ∙ e)
 
 list_forms : (xs : List Data) → ((row : ℕ) (rule : Rule) → ¬ RowAtBreaks xs row rule) → (place : ℕ) → ¬ IsFirstBadRole 4096 (map role_of xs) place

@@ -1,3 +1,4 @@
+pub mod AcceptLemmas
 pub mod ValueLemmas
 pub mod RuleLemmas
 pub mod RowLemmas

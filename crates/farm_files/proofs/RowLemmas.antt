@@ -1,17 +1,18 @@
 -- The rows of `[[role]]`, beside the values and the roles that stand for them.
-use Rattle.std.proofs.Common.{◌≡◌, ℕ, ◌+◌, ◌<◌, true, false, List, [], ◌∷◌, ◌++◌, length, get_or, take, map, Option, Some, None, Result, Ok, Err, Bor, string_bytes, refl, sym, ap, ◌∙◌, subst, arith, inl, inr}
+use Rattle.std.proofs.Common.{◌≡◌, ℕ, ◌+◌, ◌<◌, Bool, true, false, cond, ◌||◌, List, [], ◌∷◌, ◌++◌, length, get_or, take, map, Option, Some, None, Result, Ok, Err, Bor, String, Global, refl, sym, ap, ◌∙◌, subst, arith, inl, inr}
 use Rattle.std.specs.Prelude.{All, Any, MatchResult, codes, is_some, slice_get}
 use Rattle.std.specs.List.{list_all, list_any, filter_map}
 use Rattle.std.specs.Str.{bytes_eq}
+use Rattle.std.specs.BTreeSet.{BTreeSet, contains_text}
 use Rattle.std.proofs.lemmas.Bool.{false≢true, cases_lt}
 use Rattle.std.proofs.lemmas.List.{get_or-map, length-map, map_more, map_push, take-map}
 use Rattle.std.proofs.lemmas.List.Elements.{All-push}
-use Rattle.std.proofs.lemmas.List.Folds.{Any-from_list_any, list_any-from_Any}
+use Rattle.std.proofs.lemmas.List.Folds.{Any-from_list_any, list_any-from_Any, list_any-append}
 use Rattle.std.proofs.lemmas.Option.{slice_get-map, slice_get_read, slice_get_within}
 use Rattle.std.proofs.lemmas.Slice.Eq.{bytes_eq-Decides}
 use Rattle.scope_sets.specs.Scopes.{IsPrintable}
 use Rattle.role_expand.specs.declared.roles.Role.{Role}
-use Rattle.role_expand.specs.Roles.{RoleData, role_data, roles_data}
+use Rattle.role_expand.specs.Roles.{RoleData, role_data}
 use Rattle.role_expand.specs.Cycles.{IsCycle}
 use Rattle.toml.specs.Data.{Data, string, integer, float, boolean, datetime, array, table, Items, Members, as_str, as_array, get_member}
 use Rattle.toml.specs.View.{view, items_of}
@@ -21,6 +22,7 @@ use Rattle.farm_files.specs.declared.fault.Rule.TheVariants.{NotToml, UnknownKey
 use Rattle.farm_files.specs.declared.fault.RowFault.{RowFault}
 use Rattle.farm_files.specs.declared.fault.RowFault.TheVariants as rows
 use Rattle.farm_files.specs.declared.fault.Table.TheVariants as tables
+use Rattle.farm_files.specs.Earlier.{AreIdsOf}
 use Rattle.farm_files.specs.Faults.{rule_number, fault_at}
 use Rattle.farm_files.specs.Values.{has_only, is_text, are_texts, passes, text_or, texts_in}
 use Rattle.farm_files.specs.Rows.{role_keys, HasRoleKeys, HasRoleKinds, role_in, role_of, RowBreaks, RowAtBreaks, RowsBreak}
@@ -89,18 +91,39 @@ module _ (ms : Members) (id scopes : Data) (only : has_only role_keys ms ≡ tru
 
 -- ---- an id among roles
 
-list_any-data : (roles : List Role) (id : List ℕ) → list_any (λ role. bytes_eq role.id id) (roles_data roles) ≡ list_any (λ role. bytes_eq (string_bytes role.id) id) roles
-list_any-data [] id = refl
-list_any-data (r ∷ rs) id = rw (list_any-data rs id) refl
+same_truth : (a b : Bool) → (a ≡ true → b ≡ true) → (b ≡ true → a ≡ true) → a ≡ b
+same_truth true b f g = sym (f refl)
+same_truth false true f g = g refl
+same_truth false false f g = refl
 
-pub has_id-true : (roles : List Role) (id : List ℕ) → true ≡ list_any (λ role. bytes_eq (string_bytes role.id) id) roles → Any (λ role. role.id ≡ id) (roles_data roles)
+bytes_eq-swap : (a b : List ℕ) → bytes_eq a b ≡ bytes_eq b a
+bytes_eq-swap a b = same_truth (bytes_eq a b) (bytes_eq b a) (λ h. (bytes_eq-Decides b a).1 (sym ((bytes_eq-Decides a b).0 h))) (λ h. (bytes_eq-Decides a b).1 (sym ((bytes_eq-Decides b a).0 h)))
+
+ids_with : (b c had has : Bool) → b ≡ c → had ≡ has → cond b true had ≡ (has || (c || false))
+ids_with true true had true e h = refl
+ids_with true true had false e h = refl
+ids_with false false true true e h = refl
+ids_with false false false false e h = refl
+ids_with true false had has e h = absurd cc
+ids_with false true had has e h = absurd cc
+ids_with false false true false e h = absurd cc
+ids_with false false false true e h = absurd cc
+
+pub has_id-true : (roles : List RoleData) (id : List ℕ) → true ≡ list_any (λ role. bytes_eq id role.id) roles → Any (λ role. role.id ≡ id) roles
 has_id-true roles id h =
-    let a = Any-from_list_any (λ role. bytes_eq role.id id) (roles_data roles) (list_any-data roles id ∙ sym h) in
-    (a.0, a.1, a.2, a.3, (bytes_eq-Decides a.1.id id).0 a.4)
+    let a = Any-from_list_any (λ role. bytes_eq id role.id) roles (sym h) in
+    (a.0, a.1, a.2, a.3, sym ((bytes_eq-Decides id a.1.id).0 a.4))
 
-pub has_id-false : (roles : List Role) (id : List ℕ) → false ≡ list_any (λ role. bytes_eq (string_bytes role.id) id) roles → ¬ Any (λ role. role.id ≡ id) (roles_data roles)
+pub has_id-false : (roles : List RoleData) (id : List ℕ) → false ≡ list_any (λ role. bytes_eq id role.id) roles → ¬ Any (λ role. role.id ≡ id) roles
 has_id-false roles id h a =
-    false≢true (h ∙ sym (list_any-data roles id) ∙ list_any-from_Any (λ role. bytes_eq role.id id) (roles_data roles) (a.0, a.1, a.2, a.3, (bytes_eq-Decides a.1.id id).1 a.4))
+    false≢true (h ∙ list_any-from_Any (λ role. bytes_eq id role.id) roles (a.0, a.1, a.2, a.3, (bytes_eq-Decides id a.1.id).1 (sym a.4)))
+
+-- the ids of roles behind which one more stands
+pub ids_more : (roles : List RoleData) (role : RoleData) (ids more : BTreeSet (String Global)) → AreIdsOf roles ids
+    → ((id : List ℕ) → contains_text more id ≡ cond (bytes_eq role.id id) true (contains_text ids id)) → AreIdsOf (roles ++ role ∷ []) more
+ids_more roles role ids more are puts id =
+    puts id ∙ ids_with (bytes_eq role.id id) (bytes_eq id role.id) (contains_text ids id) (list_any (λ r. bytes_eq id r.id) roles) (bytes_eq-swap role.id id) (are id)
+    ∙ sym (list_any-append (λ r. bytes_eq id r.id) roles (role ∷ []))
 
 -- ---- a row at its place
 
@@ -145,13 +168,12 @@ row_within es i (boolean b) sound = absurd (sound WrongKind tt)
 row_within es i (datetime t) sound = absurd (sound WrongKind tt)
 row_within es i (array ds) sound = absurd (sound WrongKind tt)
 
-pub roles_more : (vs : List Value) (i : ℕ) (v : Value) (roles items : List Role) (role : Role) → i < length vs → v ≡ get_or vs i v → items ≡ roles ++ role ∷ []
-    → roles_data roles ≡ map role_of (map view (take i vs)) → role_data role ≡ role_of (view v) → roles_data items ≡ map role_of (map view (take (i + 1) vs))
-roles_more vs i v roles items role lt at pushed so_far is =
-    let a : roles_data items ≡ roles_data roles ++ role_data role ∷ [] = ap roles_data pushed ∙ map_push role_data roles role in
+pub roles_more : (vs : List Value) (i : ℕ) (v : Value) (so_far more : List RoleData) (role : RoleData) → i < length vs → v ≡ get_or vs i v → more ≡ so_far ++ role ∷ []
+    → so_far ≡ map role_of (map view (take i vs)) → role ≡ role_of (view v) → more ≡ map role_of (map view (take (i + 1) vs))
+roles_more vs i v so_far more role lt at pushed are is =
     let b : map view (take (i + 1) vs) ≡ map view (take i vs) ++ view v ∷ [] = map_more view vs i v lt ∙ ap (λ w. map view (take i vs) ++ view w ∷ []) (sym at) in
     let c : map role_of (map view (take (i + 1) vs)) ≡ map role_of (map view (take i vs)) ++ role_of (view v) ∷ [] = ap (map role_of) b ∙ map_push role_of (map view (take i vs)) (view v) in
-    a ∙ ap (λ t. t ++ role_data role ∷ []) so_far ∙ ap (λ r. map role_of (map view (take i vs)) ++ r ∷ []) is ∙ sym c
+    pushed ∙ ap (λ t. t ++ role ∷ []) are ∙ ap (λ r. map role_of (map view (take i vs)) ++ r ∷ []) is ∙ sym c
 
 -- ---- cycles
 

@@ -1,3 +1,4 @@
+pub mod Earlier
 pub mod Faults
 pub mod Values
 pub mod Rows

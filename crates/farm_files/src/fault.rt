@@ -2,7 +2,7 @@
 ghost use Rattle.std.specs.Prelude.{◌≡◌};
 ghost use Rattle.farm_files.specs.Faults.{rule_number, fault_at};
 
-use std::alloc::{AllocError, AllocFailed};
+use std::alloc::AllocError;
 use std::fmt;
 
 /// The tables of a farm file.
@@ -116,17 +116,6 @@ impl From<AllocError> for FileFault {
     }
 }
 
-impl<T: Drop> From<AllocFailed<T>> for FileFault {
-    ghost use Rattle.std.specs.Prelude.{◌≡◌};
-    ghost use Rattle.farm_files.specs.declared.fault.FileFault.{FileFault};
-
-    ghost from_gives = { λ _ fault. fault ≡ FileFault.NoMemory };
-
-    fn from(_error: AllocFailed<T>) -> FileFault {
-        FileFault::NoMemory
-    }
-}
-
 /// Why one table, or one row of a table, was not read.
 #[derive(Clone, Copy, Debug, PartialEq, Eq)]
 pub(crate) enum RowFault {
@@ -142,17 +131,6 @@ impl From<AllocError> for RowFault {
     ghost from_gives = { λ _ fault. fault ≡ RowFault.NoMemory };
 
     fn from(_error: AllocError) -> RowFault {
-        RowFault::NoMemory
-    }
-}
-
-impl<T: Drop> From<AllocFailed<T>> for RowFault {
-    ghost use Rattle.std.specs.Prelude.{◌≡◌};
-    ghost use Rattle.farm_files.specs.declared.fault.RowFault.{RowFault};
-
-    ghost from_gives = { λ _ fault. fault ≡ RowFault.NoMemory };
-
-    fn from(_error: AllocFailed<T>) -> RowFault {
         RowFault::NoMemory
     }
 }

@@ -1,5 +1,7 @@
 //! What follows from the definitions. The functions do nothing: each contract is a law.
 ghost use Rattle.std.specs.Prelude.{◌≡◌, ℕ, List};
+ghost use Rattle.scope_sets.specs.declared.scopes.TheConstants.{LONGEST_SCOPE};
+ghost use Rattle.role_expand.specs.Cycles.{IsAccepted};
 ghost use Rattle.farm_machine.specs.declared.config.Config.{Config as AnyConfig};
 ghost use Rattle.farm_files.specs.Faults.{IsFirst};
 ghost use Rattle.farm_files.specs.Files.{Breaks};
@@ -20,6 +22,12 @@ pub fn a_file_says_one_thing()
 pub fn a_file_says_or_breaks()
     ensures { (longest : ℕ) (bytes : List ℕ)
         → ¬ (((config : AnyConfig) → ¬ Says longest bytes config) × ((f : AnyFault) → ¬ IsFirst (Breaks longest bytes) f)) }
+{}
+
+/// The roles of a configuration that a file says are a set of roles: each of its form, no id twice, and no cycle of parameters.
+pub fn the_roles_of_a_file_are_accepted()
+    ensures { (longest : ℕ) (bytes : List ℕ) (config : AnyConfig)
+        → Says longest bytes config → IsAccepted LONGEST_SCOPE config.roles }
 {}
 
 /// The limits of a farm file: its greatest number of bytes, of rows of `[[role]]`, and of bytes of a host. What the contracts say of

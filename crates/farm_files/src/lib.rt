@@ -17,6 +17,7 @@
 //! The values shown of `[farm]` are those of a key that is left out.
 #![tactic(auto)]
 
+mod earlier;
 mod fault;
 pub mod laws;
 mod reading;

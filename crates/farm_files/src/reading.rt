@@ -8,6 +8,7 @@ use crate::roles::{read_roles, role_set};
 use crate::settings::{Settings, read_settings};
 use crate::values::has_only;
 use farm_machine::config::Config;
+use farm_machine::grants::Grants;
 use std::alloc::Global;
 
 /// The greatest number of bytes of a farm file.
@@ -61,6 +62,6 @@ fn read_tables(alloc: Global, top: &toml::Table) -> Result<Config, FileFault>
         port,
         claim_timeout,
         max_tasks,
-        roles,
+        roles: Grants::new(alloc, roles)?,
     })
 }

@@ -13,6 +13,7 @@ ghost use Rattle.farm_files.specs.Rows.{RowBreaks, RowAtBreaks, RowsBreak, role_
 ghost use Rattle.farm_files.specs.Parts.{role_by, AreRoleValues, RefusesValues, HasRole, RefusesKeys, RefusesRows, RefusesCycle};
 ghost use Rattle.farm_files.specs.declared.fault.Rule.{Rule as AnyRule};
 
+use crate::earlier::EarlierRoles;
 use crate::fault::{FileFault, RowFault, Rule, Table};
 use crate::values::has_only;
 use role_expand::{BuildFault, Role, RoleSet, has_role_form};
@@ -107,19 +108,17 @@ fn read_keys(alloc: Global, row: &toml::Table) -> Result<Role, RowFault>
     }
 }
 
-/// Whether one of these roles has the id.
-fn has_id(roles: &[Role], id: &str) -> bool
-    ensures { result ≡ list_any (λ role. bytes_eq (string_bytes role.id) id.now) roles.now }
-{
-    roles.iter().any(|role| role.id.as_str() == id)
-}
-
 /// Reads a row that stands at a place behind the rows of these roles.
-fn read_row(alloc: Global, earlier: &[Role], row: usize, value: &Value) -> Result<Role, RowFault>
+fn read_row(
+    alloc: Global,
+    earlier: &EarlierRoles,
+    row: usize,
+    value: &Value,
+) -> Result<Role, RowFault>
     ensures { MatchResult result
-        (λ role. ((rule : AnyRule) → ¬ RowBreaks (roles_data earlier.now) row (view value.now) rule)
+        (λ role. ((rule : AnyRule) → ¬ RowBreaks earlier.now row (view value.now) rule)
         × (role_data role ≡ role_of (view value.now)))
-        (RefusesRow (RowBreaks (roles_data earlier.now) row (view value.now))) }
+        (RefusesRow (RowBreaks earlier.now row (view value.now))) }
 {
     let role = match value.as_table() {
         Some(keys) => read_keys(alloc, keys)?,
@@ -128,7 +127,7 @@ fn read_row(alloc: Global, earlier: &[Role], row: usize, value: &Value) -> Resul
     if row >= MOST_ROLES || !has_role_form(&role) {
         return Err(RowFault::Breaks(Rule::OutOfForm));
     }
-    if has_id(earlier, role.id.as_str()) {
+    if earlier.has_id(role.id.as_str()) {
         return Err(RowFault::Breaks(Rule::RepeatedId));
     }
     Ok(role)
@@ -140,17 +139,17 @@ fn read_rows(alloc: Global, rows: &[Value]) -> Result<Vec<Role>, FileFault>
         × (roles_data roles.items ≡ map role_of (map view rows.now)) × (vec_len roles ≤ MOST_ROLES))
         (RefusesRows (RowAtBreaks (map view rows.now))) }
 {
-    let mut roles = Vec::new(alloc);
+    let mut earlier = EarlierRoles::new(alloc);
     for (row, value) in rows.iter().enumerate() {
-        match read_row(alloc, roles.as_slice(), row, value) {
-            Ok(role) => roles.push(role)?,
+        match read_row(alloc, &earlier, row, value) {
+            Ok(role) => earlier = earlier.with(role)?,
             Err(RowFault::Breaks(rule)) => {
                 return Err(FileFault::at(Table::Role, row as u32, rule));
             }
             Err(RowFault::NoMemory) => return Err(FileFault::NoMemory),
         }
     }
-    Ok(roles)
+    Ok(earlier.into_roles())
 }
 
 /// Reads the rows of `[[role]]`, which may be left out.

@@ -1,14 +1,16 @@
 -- What a caller may do: it is one, and each caller has it.
-use Rattle.std.proofs.Common.{◌≡◌, inl, inr, List, ℕ, codes, refl, sym, ap, ◌∙◌}
+use Rattle.std.proofs.Common.{◌≡◌, inl, inr, List, ℕ, codes, Bor, refl, sym, ap, ◌∙◌, subst}
 use Rattle.role_expand.specs.Cycles.{IsAccepted}
 use Rattle.role_expand.specs.Roles.{RoleData}
 use Rattle.role_expand.specs.declared.expansion.TheConstants.{MOST_SCOPES}
 use Rattle.role_expand.proofs.ExistenceLemmas.{closure_or_too_many}
 use Rattle.role_expand.proofs.SetLemmas.{closure_is_one, closure_or_more}
-use Rattle.farm_machine.specs.Access.{Expands, HasAccess, anonymous_scopes}
+use Rattle.scope_sets.specs.declared.sets.ScopeSet.{ScopeSet}
+use Rattle.farm_machine.specs.declared.access.Access.{Access as Borrowed}
+use Rattle.farm_machine.specs.declared.access.Access.TheVariants.{Has as HasBorrowed}
+use Rattle.farm_machine.specs.Told.{told}
+use Rattle.farm_machine.specs.Access.{Access, Has, Refused, Expands, HasAccess, anonymous_scopes}
 use Rattle.farm_machine.specs.Replies.{not_authentic, expansion_limit}
-use Rattle.farm_machine.specs.declared.access.Access.{Access}
-use Rattle.farm_machine.specs.declared.access.Access.TheVariants.{Has, Refused}
 use Rattle.farm_machine.specs.declared.question.Caller.{Caller}
 use Rattle.farm_machine.specs.declared.question.Caller.TheVariants.{Anonymous, BadHeader}
 
@@ -32,3 +34,7 @@ HasAccess-some longest roles Anonymous accepted =
       | inl closure ↦ (Has closure.0, closure.1)
       | inr more ↦ (Refused expansion_limit, (more, refl))
     ]
+
+-- what is told of scopes that are borrowed holds of those scopes
+pub has_told : (roles : List RoleData) (caller : Caller) (access : Borrowed) (scopes : Bor ScopeSet) → access ≡ HasBorrowed scopes → HasAccess roles caller (told access) → HasAccess roles caller (Has scopes.now)
+has_told roles caller access scopes is has = subst (λ (a : Borrowed). HasAccess roles caller (told a)) is has

@@ -3,11 +3,9 @@ use Rattle.std.proofs.Common.{◌≡◌, ℕ, inl, inr, List, [], ◌∷◌, ◌
 use Rattle.role_expand.specs.Roles.{RoleData}
 use Rattle.scope_sets.specs.Expressions.{Expression, missing}
 use Rattle.farm_text.specs.Document.{document_text}
-use Rattle.farm_machine.specs.declared.access.Access.{Access}
-use Rattle.farm_machine.specs.declared.access.Access.TheVariants.{Has, Refused}
 use Rattle.farm_machine.specs.declared.question.Caller.{Caller}
 use Rattle.farm_machine.specs.declared.reply.Answer.{Answer}
-use Rattle.farm_machine.specs.Access.{HasAccess}
+use Rattle.farm_machine.specs.Access.{Access, Has, Refused, HasAccess}
 use Rattle.farm_machine.specs.Case.{Setting, Deed, Case, first_rule}
 use Rattle.farm_machine.specs.Changes.{applied}
 use Rattle.farm_machine.specs.Judgement.{Judgement, only_answer}

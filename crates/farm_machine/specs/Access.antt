@@ -3,11 +3,15 @@ use Rattle.std.specs.Prelude.{◌≡◌, ℕ, List, [], ◌∷◌, codes}
 use Rattle.role_expand.specs.Closures.{IsClosure, HasMoreDerivable}
 use Rattle.role_expand.specs.Roles.{RoleData}
 use Rattle.role_expand.specs.declared.expansion.TheConstants.{MOST_SCOPES}
-use Rattle.farm_machine.specs.declared.access.Access.{Access}
-use Rattle.farm_machine.specs.declared.access.Access.TheVariants.{Has, Refused}
 use Rattle.farm_machine.specs.declared.question.Caller.{Caller}
 use Rattle.farm_machine.specs.declared.question.Caller.TheVariants.{Anonymous, BadHeader}
+use Rattle.farm_machine.specs.declared.reply.Answer.{Answer}
 use Rattle.farm_machine.specs.Replies.{not_authentic, expansion_limit}
+
+-- what a caller may do: it has these scopes, or it is refused with this answer
+pub data Access : Type 0 where
+  Has : (scopes : List (List ℕ)) → Access
+  Refused : (answer : Answer) → Access
 
 -- the start list of whoever gives no credentials
 abbrev pub anonymous_scopes : List (List ℕ)

@@ -6,6 +6,7 @@ pub mod Config
 pub mod Due
 pub mod Entry
 pub mod Expressions
+pub mod Grants
 pub mod Judgement
 pub mod Law
 pub mod Order
@@ -13,4 +14,5 @@ pub mod Planned
 pub mod Replies
 pub mod State
 pub mod Step
+pub mod Told
 pub mod Verdict

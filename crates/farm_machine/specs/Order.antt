@@ -3,10 +3,9 @@ use Rattle.std.specs.Prelude.{◌≡◌, ◌⊎◌, ℕ, List, [], ◌∷◌, �
 use Rattle.scope_sets.specs.Expressions.{Expression, missing}
 use Rattle.role_expand.specs.Roles.{RoleData}
 use Rattle.farm_text.specs.Document.{document_text}
-use Rattle.farm_machine.specs.declared.access.Access.TheVariants.{Has, Refused}
 use Rattle.farm_machine.specs.declared.question.Caller.{Caller}
 use Rattle.farm_machine.specs.declared.reply.Answer.{Answer}
-use Rattle.farm_machine.specs.Access.{HasAccess}
+use Rattle.farm_machine.specs.Access.{Has, Refused, HasAccess}
 use Rattle.farm_machine.specs.Case.{Setting, Deed, Case, passing}
 use Rattle.farm_machine.specs.Changes.{applied}
 use Rattle.farm_machine.specs.Judgement.{Judgement, only_answer}

@@ -1,49 +1,42 @@
 //! What a caller may do.
-ghost use Rattle.std.specs.Prelude.{◌≡◌, IfOk, codes};
+ghost use Rattle.std.specs.Prelude.{IfOk};
 ghost use Rattle.farm_machine.specs.Access.{HasAccess, Expands, anonymous_scopes};
+ghost use Rattle.farm_machine.specs.Told.{told};
 
 use crate::answers;
+use crate::grants::{Closure, Grants};
 use crate::question::Caller;
 use crate::reply::Answer;
-use role_expand::{ExpandFault, RoleSet};
-use scope_sets::{Scope, ScopeSet};
+use scope_sets::ScopeSet;
 use std::alloc::{AllocError, Global};
 
-/// What a caller may do: it has these scopes, or it is refused with this answer.
+/// What a caller may do: it has these scopes, which are borrowed of what is kept, or it is refused with this answer.
 #[derive(Debug, Drop)]
-pub(crate) enum Access {
-    Has(ScopeSet),
+pub(crate) enum Access<'a> {
+    Has(&'a ScopeSet),
     Refused(Answer),
 }
 
 /// What this caller may do over these roles.
-pub(crate) fn access_of(
+pub(crate) fn access_of<'a>(
     alloc: Global,
-    roles: &RoleSet,
+    roles: &'a Grants,
     caller: Caller,
-) -> Result<Access, AllocError>
-    ensures { IfOk result (HasAccess roles.now caller) }
+) -> Result<Access<'a>, AllocError>
+    ensures { IfOk result (λ access. HasAccess roles.now caller (told access)) }
 {
     match caller {
-        Caller::Anonymous => expand_anonymous(alloc, roles),
+        Caller::Anonymous => anonymous_access(alloc, roles),
         Caller::BadHeader => Ok(Access::Refused(answers::not_authentic(alloc, "BadHeader")?)),
     }
 }
 
 /// What whoever gives no credentials may do over these roles.
-fn expand_anonymous(alloc: Global, roles: &RoleSet) -> Result<Access, AllocError>
-    ensures { IfOk result (Expands roles.now anonymous_scopes) }
+fn anonymous_access<'a>(alloc: Global, roles: &'a Grants) -> Result<Access<'a>, AllocError>
+    ensures { IfOk result (λ access. Expands roles.now anonymous_scopes (told access)) }
 {
-    match roles.expand(alloc, &[anonymous(alloc)?]) {
-        Ok(scopes) => Ok(Access::Has(scopes)),
-        Err(ExpandFault::TooMany) => Ok(Access::Refused(answers::expansion_limit(alloc)?)),
-        Err(ExpandFault::NoMemory) => Err(AllocError),
+    match roles.anonymous() {
+        Closure::Whole(scopes) => Ok(Access::Has(scopes)),
+        Closure::TooMany => Ok(Access::Refused(answers::expansion_limit(alloc)?)),
     }
-}
-
-/// The scope that whoever gives no credentials starts with.
-fn anonymous(alloc: Global) -> Result<Scope, AllocError>
-    ensures { IfOk result (λ scope. scope ≡ codes "assume:anonymous") }
-{
-    Ok(Scope::from_printable(String::from_str(alloc, "assume:anonymous")?))
 }

@@ -2,8 +2,8 @@
 ghost use Rattle.std.specs.Prelude.{◌≡◌};
 ghost use Rattle.farm_machine.specs.Config.{counts_of};
 
+use crate::grants::Grants;
 use farm_text::Text;
-use role_expand::RoleSet;
 
 /// How a farm is set up.
 #[derive(Debug, Drop)]
@@ -16,8 +16,8 @@ pub struct Config {
     pub claim_timeout: u32,
     /// How many tasks the farm takes: 1 to 1000000.
     pub max_tasks: u32,
-    /// The roles.
-    pub roles: RoleSet,
+    /// The roles, and what they grant.
+    pub roles: Grants,
 }
 
 /// How many rows of each kind a configuration has.

@@ -26,7 +26,7 @@ pub(crate) fn judge<C: Called>(
     if let Some(answer) = call.absent(alloc, at)? {
         return Ok(Judged::only(answer));
     }
-    if let Some(lack) = missing(alloc, &scopes, &call.policy(alloc, at)?)? {
+    if let Some(lack) = missing(alloc, scopes, &call.policy(alloc, at)?)? {
         return Ok(Judged::only(answers::insufficient_scopes(alloc, &lack)?));
     }
     if let Some(answer) = call.rule(alloc, at)? {

@@ -1,5 +1,6 @@
 use crate::answers::insufficient_scopes;
 use crate::config::{Config, ConfigCounts};
+use crate::grants::Grants;
 use crate::question::{Call, Caller, Parameter, Question};
 use crate::reply::Reply;
 use crate::step::{apply, plan};
@@ -23,7 +24,7 @@ fn config(alloc: Global, roles: Vec<Role>) -> Result<Config, Fail> {
         port: 8080,
         claim_timeout: 1200,
         max_tasks: 1_000_000,
-        roles,
+        roles: Grants::new(alloc, roles)?,
     })
 }
 

@@ -10,6 +10,7 @@ use super::*;
 use farm_core::Bare;
 use farm_desk::{Desk, Object, Solo, Spare};
 use farm_machine::config::Config;
+use farm_machine::grants::Grants;
 use farm_machine::law::Farm;
 use farm_machine::question::{Call, Caller, Question};
 use farm_machine::reply::Asked;
@@ -90,7 +91,7 @@ fn config(alloc: Global) -> Result<Config, Fail> {
         port: 8080,
         claim_timeout: 1200,
         max_tasks: 1_000_000,
-        roles,
+        roles: Grants::new(alloc, roles)?,
     })
 }
 

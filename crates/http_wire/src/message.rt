@@ -1,7 +1,6 @@
 //! A request, and why there is none.
 ghost use Rattle.std.specs.Prelude.{◌≡◌, ℕ, List, length, IsTrue, ◌↔◌, []};
 
-use std::alloc::AllocError;
 use std::error::Error;
 use std::fmt;
 use std::marker::Model;
@@ -106,13 +105,3 @@ impl fmt::Display for Wire {
 }
 
 impl Error for Wire {}
-
-impl From<AllocError> for Wire {
-    ghost use Rattle.http_wire.specs.declared.message.Wire.TheVariants.{NoMemory};
-
-    ghost from_gives = { λ _ w. w ≡ NoMemory };
-
-    fn from(_error: AllocError) -> Wire {
-        Wire::NoMemory
-    }
-}

@@ -1,10 +1,10 @@
 //! The scopes of a text's lines, and the text of scopes.
-ghost use Rattle.std.specs.Prelude.{◌≡◌, ◌≢◌, [], IfOk, MatchResult, MatchOption};
+ghost use Rattle.std.specs.Prelude.{◌≡◌, ◌≢◌, ◌++◌, ◌∷◌, [], IfOk, MatchResult, MatchOption};
 ghost use Rattle.scope_lines.specs.Lines.{lines_text, IsScope, SaysScopes, RefusesLines};
 ghost use Rattle.scope_lines.specs.Steps.{CutsLine};
 
 use scope_sets::Scope;
-use std::alloc::{AllocError, AllocFailed, Global};
+use std::alloc::{AllocError, Global};
 
 /// Why no scopes were read.
 #[derive(Clone, Copy, Debug, PartialEq, Eq)]
@@ -21,17 +21,6 @@ impl From<AllocError> for LineFault {
     ghost from_gives = { λ _ fault. fault ≡ LineFault.NoMemory };
 
     fn from(_error: AllocError) -> LineFault {
-        LineFault::NoMemory
-    }
-}
-
-impl<T: Drop> From<AllocFailed<T>> for LineFault {
-    ghost use Rattle.std.specs.Prelude.{◌≡◌};
-    ghost use Rattle.scope_lines.specs.declared.lines.LineFault.{LineFault};
-
-    ghost from_gives = { λ _ fault. fault ≡ LineFault.NoMemory };
-
-    fn from(_error: AllocFailed<T>) -> LineFault {
         LineFault::NoMemory
     }
 }
@@ -61,6 +50,14 @@ fn read_scope(alloc: Global, line: &[u8]) -> Result<Option<Scope>, AllocError>
     }
 }
 
+/// Puts a scope at the end of the list.
+fn add(scopes: &mut Vec<Scope>, scope: Scope) -> Result<(), AllocError>
+    ensures { IfOk result (λ _. scopes.new.items ≡ scopes.old.items ++ scope ∷ []) }
+{
+    scopes.push(scope)?;
+    Ok(())
+}
+
 /// The scopes of the lines of a text, in their order.
 pub fn read_scopes(alloc: Global, text: &[u8]) -> Result<Vec<Scope>, LineFault>
     ensures { MatchResult result (λ scopes. SaysScopes text.now scopes.items) (RefusesLines text.now) }
@@ -70,7 +67,7 @@ pub fn read_scopes(alloc: Global, text: &[u8]) -> Result<Vec<Scope>, LineFault>
     'lines: while !rest.is_empty() {
         let (line, after) = cut_line(rest);
         match read_scope(alloc, line)? {
-            Some(scope) => scopes.push(scope)?,
+            Some(scope) => add(&mut scopes, scope)?,
             None => return Err(LineFault::BadLine(scopes.len())),
         }
         rest = after;

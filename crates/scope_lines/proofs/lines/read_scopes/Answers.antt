@@ -13,7 +13,7 @@ pub lines-preserved : goal.lines-preserved
 lines-preserved c =
     let read = rw c.in-Some.is at c.in_ok-scope.ensures in
     let line : List ℕ = c.cut_line.result.0.now in
-    let items : c.push.new.self.items ≡ c.lines.scopes.items ++ line ∷ [] = c.in_ok-push-in-Some.ensures.items ∙ ap (λ (s : List ℕ). c.lines.scopes.items ++ s ∷ []) read.0 in
+    let items : c.add.new.scopes.items ≡ c.lines.scopes.items ++ line ∷ [] = c.in_ok-add-in-Some.ensures ∙ ap (λ (s : List ℕ). c.lines.scopes.items ++ s ∷ []) read.0 in
     let more = HasRead-more c.args.text.now c.lines.rest.now c.lines.scopes.items c.lines.invariant line c.cut_line.result.1.now c.cut_line.ensures read.1 in
     subst (λ (t : List (List ℕ)). HasRead c.args.text.now c.cut_line.result.1.now t) (sym items) more
 
