@@ -5,17 +5,14 @@ ghost use Rattle.role_expand.specs.Roles.{role_data, roles_data, assume, HasHole
 ghost use Rattle.role_expand.specs.Cycles.{StartAlike, Reaches, HasEdge, EdgeAt, IsCycle, IsFirstCycle};
 ghost use Rattle.role_expand.specs.Levels.{LeadsInto, IsNextLevel, AreSteps, IsLeastWalk};
 
+use crate::granting::after_assume;
+use crate::index::link_all;
+use crate::marks::rising_marks;
+use crate::order::rank_roles;
+use crate::ranks::ranks_fall;
 use crate::roles::Role;
 use scope_sets::{LONGEST_SCOPE, Scope};
 use std::alloc::{AllocError, Global};
-
-/// What follows `assume:` in a text that begins so.
-fn after_assume(text: &str) -> Option<&str>
-    ensures { MatchOption result ((rest : List ℕ) → text.now ≢ assume ++ rest)
-        (λ rest. text.now ≡ assume ++ rest.now) }
-{
-    text.strip_prefix("assume:")
-}
 
 /// Whether one of two texts begins with the other: the first, and `assume:` followed by the front.
 fn start_alike(before: &str, front: &str) -> bool
@@ -164,7 +161,24 @@ fn cycle_from(
     Ok(cycle)
 }
 
+/// Whether ranks fall along each parameter edge: true only where there is no cycle.
+fn is_free_of_cycles(alloc: Global, roles: &[Role]) -> Result<bool, AllocError>
+    requires { All (HasRoleForm LONGEST_SCOPE) (roles_data roles.now) }
+    ensures { IfOk result (λ free. IsTrue free → (cycle : List ℕ) → ¬ IsCycle (roles_data roles.now) cycle) }
+{
+    let marks = rising_marks(alloc, roles)?;
+    let links = link_all(alloc, &marks)?;
+    let ranks = rank_roles(alloc, &marks, &links, roles.len())?;
+    if ranks.len() != roles.len() {
+        return Ok(false);
+    }
+    let falls = ranks_fall(alloc, &marks, &links, &ranks)?;
+    Ok(falls)
+}
+
 /// The shortest cycle of parameter edges from the first role that lies on one, of equal ones the first by its places.
+///
+/// Whether there is one at all is mostly told by ranks that fall along each edge, in about n log n steps for n scopes.
 pub(crate) fn first_cycle(alloc: Global, roles: &[Role]) -> Result<Option<Vec<usize>>, AllocError>
     requires { All (HasRoleForm LONGEST_SCOPE) (roles_data roles.now) }
     ensures { IfOk result (λ answer.
@@ -172,6 +186,9 @@ pub(crate) fn first_cycle(alloc: Global, roles: &[Role]) -> Result<Option<Vec<us
         (λ cycle. (i : ℕ) × (rest : List ℕ) × (cycle.items ≡ i ∷ rest)
         × IsFirstCycle (roles_data roles.now) i rest)) }
 {
+    if is_free_of_cycles(alloc, roles)? {
+        return Ok(None);
+    }
     for place in 0..roles.len() {
         let steps = steps_to(alloc, roles, place)?;
         if steps[place] != 0 {

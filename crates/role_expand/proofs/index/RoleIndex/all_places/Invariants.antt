@@ -1,0 +1,9 @@
+use Rattle.std.proofs.Common.{◌≡◌, ℕ, ◌+◌, ◌-◌, ◌<◌, ◌≤◌, ◌⊎◌, ◌++◌, ◌∷◌, true, false, List, Contains, length, slice_index_or, get_or, map, take}
+use Rattle.std.specs.Cmp.Lexicographic.{slice_cmp}
+use Rattle.std.specs.Ordering.{nat_cmp, is_lt}
+use Rattle.role_expand.specs.Index.{text_of, Begins, AreRising, IsUnder, AreLinks, HasKey, AreKeysOf}
+use Rattle.role_expand.specs.declared.index.RoleKey.{RoleKey}
+use Rattle.role_expand.proofs.index.RoleIndex.all_places.Given as goal
+
+abbrev pub invariant-loop-key : goal.invariant-loop-key
+invariant-loop-key l = (j : ℕ) (key : RoleKey) → j < l.key-index → get_or l.self j key ≡ key → Contains l.places.items key.place

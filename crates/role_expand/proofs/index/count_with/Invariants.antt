@@ -1,0 +1,17 @@
+use Rattle.std.proofs.Common.{◌≡◌, ℕ, ◌+◌, ◌-◌, ◌<◌, ◌≤◌, ◌⊎◌, ◌++◌, ◌∷◌, true, false, List, Contains, length, slice_index_or, get_or, map, take}
+use Rattle.std.specs.Cmp.Lexicographic.{slice_cmp}
+use Rattle.std.specs.Ordering.{nat_cmp, is_lt}
+use Rattle.role_expand.specs.Index.{text_of, Begins, AreRising, IsUnder, AreLinks, HasKey, AreKeysOf}
+use Rattle.role_expand.specs.declared.index.RoleKey.{RoleKey}
+use Rattle.role_expand.proofs.index.count_with.Given as goal
+
+abbrev pub invariant-halves : goal.invariant-halves
+invariant-halves l =
+    record {
+      low_high : l.low ≤ l.high;
+      high_in : l.high ≤ length l.keys;
+      after : (j : ℕ) (d : RoleKey) → l.high ≤ j → j < length l.keys → Begins (text_of (slice_index_or l.keys j d)) l.text → ⊥;
+    }
+
+abbrev pub decreases-halves : goal.decreases-halves
+decreases-halves l = l.high - l.low
