@@ -1,11 +1,11 @@
 -- Which keys fit a scope that is granted a role.
 use Rattle.std.proofs.Common.{◌≡◌, ◌≢◌, ℕ, ◌+◌, ◌<◌, ◌⊎◌, inl, inr, Bool, true, false, ◌||◌, eqb, List, [], ◌∷◌, ◌++◌, length, take, get_or, refl, sym, ap, ◌∙◌, subst, Some, Contains, arith}
-use Rattle.std.proofs.lemmas.Bool.{false≢true, true≢false}
+use Rattle.std.proofs.lemmas.Bool.{true≢false}
 use Rattle.std.proofs.lemmas.List.{append-nil, append_assoc, append_cancel_left, append_cancel_right}
 use Rattle.std.proofs.lemmas.Option.{slice_get_within, get_or_from_slice_get, slice_get-get_or}
 use Rattle.std.specs.List.{slice_get}
 use Rattle.scope_sets.specs.Scopes.{star, Satisfies}
-use Rattle.role_expand.specs.Roles.{RoleData, assume, EndsWithStar, Gives, GivesAsWritten, GivesFilled}
+use Rattle.role_expand.specs.Roles.{RoleData, assume, Gives, GivesAsWritten, GivesFilled}
 use Rattle.role_expand.specs.Closures.{GivenBy}
 use Rattle.role_expand.specs.Growth.{Gains, FailsToGain, GivenAt, GivenAtSome}
 use Rattle.role_expand.specs.Index.{text_of, Begins, HasKey, AreKeysOf}

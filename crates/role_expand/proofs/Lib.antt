@@ -16,3 +16,4 @@ pub mod LengthLemmas
 pub mod RefusalLemmas
 pub mod DecisionLemmas
 pub mod ExistenceLemmas
+pub mod AcceptanceLemmas

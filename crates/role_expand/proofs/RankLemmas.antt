@@ -1,12 +1,11 @@
 -- The greatest ranks along chains of marks.
-use Rattle.std.proofs.Common.{◌≡◌, ◌≢◌, ℕ, ◌+◌, ◌-◌, ◌<◌, ◌≤◌, ◌⊎◌, inl, inr, List, [], ◌∷◌, ◌++◌, length, get_or, refl, sym, ap, ◌∙◌, subst, Some, Contains, arith, length-append}
+use Rattle.std.proofs.Common.{◌≡◌, ◌≢◌, ℕ, ◌+◌, ◌-◌, ◌<◌, ◌≤◌, ◌⊎◌, inl, inr, List, [], ◌∷◌, ◌++◌, length, get_or, sym, ap, ◌∙◌, subst, arith, length-append}
 use Rattle.std.proofs.lemmas.Bool.{cases_lt, cases_eq}
 use Rattle.std.proofs.lemmas.List.{get_or_append_left, get_or_push, get_or_default, append-nil}
-use Rattle.std.specs.List.{slice_get}
 use Rattle.role_expand.specs.Roles.{RoleData}
-use Rattle.role_expand.specs.Cycles.{HasEdge, EdgeAt, IsWalk, IsCycle}
+use Rattle.role_expand.specs.Cycles.{EdgeAt, IsWalk, IsCycle}
 use Rattle.role_expand.specs.Index.{text_of, Begins, AreRising, IsUnder, AreLinks}
-use Rattle.role_expand.specs.Marks.{rank_of, AreMarksOf, AreTopsAbove, AreTopsBelow, Falls}
+use Rattle.role_expand.specs.Marks.{rank_of, bound_of, AreMarksOf, AreTopsAbove, AreTopsBelow, Falls}
 use Rattle.role_expand.specs.declared.index.RoleKey.{RoleKey}
 use Rattle.role_expand.proofs.IndexLemmas.{IsUpTo, between, front_upto}
 use Rattle.role_expand.proofs.LevelLemmas.{EdgeAt-within}
@@ -96,10 +95,10 @@ tops_done marks ranks tops at is t k j d lt less b =
       | inr h ↦ absurd (omega (arith, h.1, is))
     ]
 
-module _ (marks : List RoleKey) (ranks above below : List ℕ) (rising : AreRising marks) (above_len : length above ≡ length marks)
+module _ (marks : List RoleKey) (ranks slack above below : List ℕ) (rising : AreRising marks) (above_len : length above ≡ length marks)
     (tops : AreTopsAbove marks ranks above) (bottoms : AreTopsBelow marks ranks below)
     (fall : (k : ℕ) (d : RoleKey) → k < length marks → length ranks ≤ (get_or marks k d).place
-    → (get_or above k 0 < get_or ranks ((get_or marks k d).place - length ranks) 0) × (get_or below k 0 < get_or ranks ((get_or marks k d).place - length ranks) 0)) where
+    → (get_or above k 0 < bound_of ranks slack (get_or marks k d)) × (get_or below k 0 < bound_of ranks slack (get_or marks k d))) where
   -- of two marks one of which begins with the other, the later one begins with the earlier
   later_begins : (i j : ℕ) (d : RoleKey) → i ≤ j → j < length marks → Begins (text_of (get_or marks i d)) (text_of (get_or marks j d)) ⊎ Begins (text_of (get_or marks j d)) (text_of (get_or marks i d))
       → Begins (text_of (get_or marks j d)) (text_of (get_or marks i d))
@@ -109,7 +108,7 @@ module _ (marks : List RoleKey) (ranks above below : List ℕ) (rising : AreRisi
       let two : List ℕ = text_of (get_or marks j d) in
       between one two [] (rising i j d le lt) (subst (λ (t : List ℕ). IsUpTo two t) (sym (append-nil one)) (front_upto one two b))
 
-  pub falls_from_tops : Falls marks ranks
+  pub falls_from_tops : Falls marks ranks slack
   falls_from_tops a b at_a at_b text front alike =
       let k : ℕ = at_a.0 in
       let j : ℕ = at_b.0 in
@@ -118,7 +117,7 @@ module _ (marks : List RoleKey) (ranks above below : List ℕ) (rising : AreRisi
       let at_places : (d : RoleKey) → Begins (text_of (get_or marks k d)) (text_of (get_or marks j d)) ⊎ Begins (text_of (get_or marks j d)) (text_of (get_or marks k d)) =
       λ d. subst (λ (x : RoleKey). Begins (text_of x) (text_of (get_or marks j d)) ⊎ Begins (text_of (get_or marks j d)) (text_of x)) (sym (same_a d))
       (subst (λ (x : RoleKey). Begins (text_of a) (text_of x) ⊎ Begins (text_of x) (text_of a)) (sym (same_b d)) alike) in
-      let bound = subst (λ (x : RoleKey). (get_or above k 0 < get_or ranks (x.place - length ranks) 0) × (get_or below k 0 < get_or ranks (x.place - length ranks) 0)) at_a.2
+      let bound = subst (λ (x : RoleKey). (get_or above k 0 < bound_of ranks slack x) × (get_or below k 0 < bound_of ranks slack x)) at_a.2
       (fall k a at_a.1 (subst (λ (x : RoleKey). length ranks ≤ x.place) (sym at_a.2) text)) in
       let mine : rank_of ranks (get_or marks j b) ≡ rank_of ranks b = ap (λ (x : RoleKey). rank_of ranks x) at_b.2 in
       elim (cases_lt j k) [
@@ -139,9 +138,10 @@ module _ (marks : List RoleKey) (ranks above below : List ℕ) (rising : AreRisi
       swap (inl x) = inr x
       swap (inr x) = inl x
 
--- where ranks fall, there is no cycle
-module _ (roles : List RoleData) (marks : List RoleKey) (ranks : List ℕ) (len : length ranks ≡ length roles) (are : AreMarksOf roles marks) (falls : Falls marks ranks) where
-  edge_falls : (i j : ℕ) → EdgeAt roles i j → get_or ranks j 0 < get_or ranks i 0
+-- where ranks rise along no edge, no cycle goes from a role without slack
+module _ (roles : List RoleData) (marks : List RoleKey) (ranks slack : List ℕ) (len : length ranks ≡ length roles) (are : AreMarksOf roles marks)
+    (small : (i : ℕ) → get_or slack i 0 ≤ 1) (falls : Falls marks ranks slack) where
+  edge_falls : (i j : ℕ) → EdgeAt roles i j → get_or ranks j 0 < get_or ranks i 0 + get_or slack i 0
   edge_falls i j e =
       let h = e.4 in
       let within = EdgeAt-within roles i j e in
@@ -150,12 +150,11 @@ module _ (roles : List RoleData) (marks : List RoleKey) (ranks : List ℕ) (len 
       let fell = falls a.0 b.0 a.1 b.1 (omega (arith, a.2.0, len)) (omega (arith, b.2, len, within.1))
       (subst (λ (t : List ℕ). Begins (text_of a.0) t ⊎ Begins t (text_of a.0)) (sym b.3) a.2.1) in
       let from : a.0.place - length ranks ≡ i = omega (arith, a.2.0, len) in
-      omega (arith, fell, ap (λ (n : ℕ). get_or ranks n 0) from, ap (λ (n : ℕ). get_or ranks n 0) b.2)
+      omega (arith, fell, ap (λ (n : ℕ). get_or ranks n 0) from, ap (λ (n : ℕ). get_or slack n 0) from, ap (λ (n : ℕ). get_or ranks n 0) b.2)
 
-  walk_falls : (a : ℕ) (walk : List ℕ) (b : ℕ) → IsWalk roles a walk b → get_or ranks b 0 < get_or ranks a 0
+  walk_falls : (a : ℕ) (walk : List ℕ) (b : ℕ) → IsWalk roles a walk b → get_or ranks b 0 < get_or ranks a 0 + get_or slack a 0
   walk_falls a [] b w = edge_falls a b w
-  walk_falls a (c ∷ walk) b w = omega (arith, edge_falls a c w.0, walk_falls c walk b w.1)
+  walk_falls a (c ∷ walk) b w = omega (arith, edge_falls a c w.0, walk_falls c walk b w.1, small c)
 
-  pub acyclic_from_falls : (cycle : List ℕ) → ¬ IsCycle roles cycle
-  acyclic_from_falls [] h = h
-  acyclic_from_falls (i ∷ rest) h = absurd (omega (arith, walk_falls i rest i h))
+  pub acyclic_from_falls : (i : ℕ) (rest : List ℕ) → get_or slack i 0 ≡ 0 → ¬ IsCycle roles (i ∷ rest)
+  acyclic_from_falls i rest none h = absurd (omega (arith, walk_falls i rest i h, none))

@@ -41,7 +41,11 @@ abbrev pub AreTopsBelow : List RoleKey → List ℕ → List ℕ → Type 0
 AreTopsBelow marks ranks tops = (k j : ℕ) (d : RoleKey) → j < length marks → k < j → ((e : RoleKey) → Begins (text_of (slice_index_or marks j e)) (text_of (slice_index_or marks k e)))
     → rank_of ranks (slice_index_or marks j d) ≤ slice_index tops k
 
--- the rank of a text's role is greater than that of each front that fits it
-abbrev pub Falls : List RoleKey → List ℕ → Type 0
-Falls marks ranks = (a b : RoleKey) → Contains marks a → Contains marks b → length ranks ≤ a.place → b.place < length ranks → (Begins (text_of a) (text_of b) ⊎ Begins (text_of b) (text_of a))
-    → rank_of ranks b < slice_index ranks (a.place - length ranks)
+-- the rank and the slack of the role whose text the mark is
+abbrev pub bound_of : List ℕ → List ℕ → RoleKey → ℕ
+bound_of ranks slack mark = slice_index ranks (mark.place - length ranks) + slice_index slack (mark.place - length ranks)
+
+-- the rank and the slack of a text's role are greater than the rank of each front that fits it
+abbrev pub Falls : List RoleKey → List ℕ → List ℕ → Type 0
+Falls marks ranks slack = (a b : RoleKey) → Contains marks a → Contains marks b → length ranks ≤ a.place → b.place < length ranks → (Begins (text_of a) (text_of b) ⊎ Begins (text_of b) (text_of a))
+    → rank_of ranks b < bound_of ranks slack a

@@ -1,6 +1,8 @@
-//! Ranks for roles: a search in depth along the parameter edges ranks each role when all that it leads to is ranked.
+//! Ranks for roles, by two searches in depth: one along the parameter edges, which leaves each role after all that it leads to, and
+//! one against them, from the roles in the order that is the reverse of that (Kosaraju's algorithm). Roles that lie on one cycle are
+//! of one rank, and edges to roles of another rank lead down.
 //!
-//! No contract says that the ranks fall along the edges: where there is a cycle they cannot, and `ranks_fall` sees whether they do.
+//! No contract says so: `slack_of` sees whether they do.
 ghost use Rattle.std.specs.Prelude.{◌≡◌, ◌≤◌, length, slice_index};
 
 use crate::index::RoleKey;
@@ -25,12 +27,12 @@ struct Search {
     met: Vec<usize>,
     /// The roles on the way.
     way: Vec<usize>,
-    ranks: Vec<usize>,
-    last_rank: usize,
+    /// The roles that are done, in the order in which they were left.
+    left: Vec<usize>,
 }
 
 /// The number at a place, or 0.
-fn get(numbers: &[usize], at: usize) -> usize
+pub(crate) fn get(numbers: &[usize], at: usize) -> usize
     ensures { result ≡ slice_index numbers.now at }
 {
     match numbers.get(at) {
@@ -91,11 +93,11 @@ impl Search {
     /// A search that has met nothing.
     fn new(
         alloc: Global,
-        marks: &[RoleKey],
+        places: &[usize],
         links: &[usize],
         roles: usize,
     ) -> Result<Search, AllocError> {
-        let numbers = marks.len().saturating_add(1);
+        let numbers = places.len().saturating_add(1);
         let mut search = Search {
             roles,
             ends: count_up(alloc, numbers)?,
@@ -105,18 +107,17 @@ impl Search {
             next: vec![in alloc; 0; numbers]?,
             met: vec![in alloc; 0; roles]?,
             way: Vec::new(alloc),
-            ranks: vec![in alloc; 0; roles]?,
-            last_rank: 0,
+            left: Vec::new(alloc),
         };
-        search.find_texts(marks);
+        search.find_texts(places);
         search.find_ends(links);
         Ok(search)
     }
 
     /// Lists the texts of each role.
-    fn find_texts(&mut self, marks: &[RoleKey]) {
-        for at in 0..marks.len() {
-            let place = marks[at].place;
+    fn find_texts(&mut self, places: &[usize]) {
+        for at in 0..places.len() {
+            let place = places[at];
             if place >= self.roles {
                 let role = place - self.roles;
                 let next = get(&self.texts, role);
@@ -140,14 +141,14 @@ impl Search {
     }
 
     /// Meets a mark, and the role whose front it is.
-    fn meet(&mut self, marks: &[RoleKey], links: &[usize], mark: usize) -> Result<(), AllocError> {
+    fn meet(&mut self, places: &[usize], links: &[usize], mark: usize) -> Result<(), AllocError> {
         let Some(at) = mark.checked_sub(1) else {
             return Ok(());
         };
         put(&mut self.above, mark, get(links, at));
         put(&mut self.behind, mark, mark.saturating_add(1));
-        match marks.get(at) {
-            Some(met) => self.enter(met.place),
+        match places.get(at) {
+            Some(place) => self.enter(*place),
             None => Ok(()),
         }
     }
@@ -161,27 +162,26 @@ impl Search {
         Ok(())
     }
 
-    /// Ranks the last role on the way, and goes back.
-    fn leave(&mut self, role: usize) {
-        self.last_rank = self.last_rank.saturating_add(1);
-        put(&mut self.ranks, role, self.last_rank);
+    /// Goes back from the last role on the way.
+    fn leave(&mut self, role: usize) -> Result<(), AllocError> {
+        self.left.push(role)?;
         self.way.pop();
+        Ok(())
     }
 
     /// Goes from the last role on the way to one that has not been met, or back.
-    fn step(&mut self, marks: &[RoleKey], links: &[usize], role: usize) -> Result<(), AllocError> {
+    fn step(&mut self, places: &[usize], links: &[usize], role: usize) -> Result<(), AllocError> {
         let text = get(&self.texts, role);
         if text == 0 {
-            self.leave(role);
-            return Ok(());
+            return self.leave(role);
         }
         let above = lowest(&mut self.above, text);
         if above > 0 {
-            return self.meet(marks, links, above);
+            return self.meet(places, links, above);
         }
         let behind = highest(&mut self.behind, text);
         if behind <= get(&self.ends, text) {
-            return self.meet(marks, links, behind);
+            return self.meet(places, links, behind);
         }
         let next = get(&self.next, text);
         put(&mut self.texts, role, next);
@@ -189,14 +189,14 @@ impl Search {
     }
 
     /// Goes on until no role is left on the way.
-    fn run(&mut self, marks: &[RoleKey], links: &[usize]) -> Result<(), AllocError> {
-        let most = marks.len().saturating_add(1).saturating_mul(3);
+    fn run(&mut self, places: &[usize], links: &[usize]) -> Result<(), AllocError> {
+        let most = places.len().saturating_add(1).saturating_mul(3);
         for _ in 0..most {
             match self.way.last() {
                 None => return Ok(()),
                 Some(last) => {
                     let role = *last;
-                    self.step(marks, links, role)?;
+                    self.step(places, links, role)?;
                 }
             }
         }
@@ -204,17 +204,68 @@ impl Search {
     }
 }
 
-/// A rank for each role, which falls along each parameter edge where there is no cycle.
+/// The places of the marks.
+fn places_of(alloc: Global, marks: &[RoleKey]) -> Result<Vec<usize>, AllocError> {
+    let mut places = Vec::new(alloc);
+    for mark in marks {
+        places.push(mark.place)?;
+    }
+    Ok(places)
+}
+
+/// The same marks for a search against the edges: fronts are taken as texts, and texts as fronts.
+fn turned(alloc: Global, places: &[usize], roles: usize) -> Result<Vec<usize>, AllocError> {
+    let mut others = Vec::new(alloc);
+    for place in places {
+        match place.checked_sub(roles) {
+            Some(role) => others.push(role)?,
+            None => others.push(place.saturating_add(roles))?,
+        }
+    }
+    Ok(others)
+}
+
+/// The roles in the order in which a search along the edges leaves them.
+fn left_in_turn(
+    alloc: Global,
+    places: &[usize],
+    links: &[usize],
+    roles: usize,
+) -> Result<Vec<usize>, AllocError> {
+    let mut search = Search::new(alloc, places, links, roles)?;
+    for role in 0..roles {
+        search.enter(role)?;
+        search.run(places, links)?;
+    }
+    Ok(search.left)
+}
+
+/// Gives the rank to the roles that stand from a place on.
+fn rank_from(ranks: &mut [usize], roles: &[usize], from: usize, rank: usize)
+    ensures { length ranks.new ≡ length ranks.old }
+{
+    for at in from..roles.len() {
+        put(ranks, roles[at], rank);
+    }
+}
+
+/// A rank for each role, the same for roles that lie on one cycle: along an edge it stays or falls.
 pub(crate) fn rank_roles(
     alloc: Global,
     marks: &[RoleKey],
     links: &[usize],
     roles: usize,
 ) -> Result<Vec<usize>, AllocError> {
-    let mut search = Search::new(alloc, marks, links, roles)?;
-    for role in 0..roles {
-        search.enter(role)?;
-        search.run(marks, links)?;
+    let places = places_of(alloc, marks)?;
+    let left = left_in_turn(alloc, &places, links, roles)?;
+    let places = turned(alloc, &places, roles)?;
+    let mut search = Search::new(alloc, &places, links, roles)?;
+    let mut ranks = vec![in alloc; 0; roles]?;
+    for at in 0..left.len() {
+        let from = search.left.len();
+        search.enter(left[left.len() - 1 - at])?;
+        search.run(&places, links)?;
+        rank_from(&mut ranks, &search.left, from, roles.saturating_sub(at));
     }
-    Ok(search.ranks)
+    Ok(ranks)
 }

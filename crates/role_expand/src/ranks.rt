@@ -1,7 +1,7 @@
-//! Ranks of roles that fall along each parameter edge: where there are such, there is no cycle.
-ghost use Rattle.std.specs.Prelude.{◌≡◌, ℕ, ◌-◌, ◌<◌, ◌≤◌, List, All, IfOk, IsTrue, length, slice_index, slice_index_or};
+//! Ranks of roles that rise along no parameter edge: a role lies on no cycle if those of all its edges fall.
+ghost use Rattle.std.specs.Prelude.{◌≡◌, ℕ, ◌+◌, ◌-◌, ◌<◌, ◌≤◌, IfOk, IsTrue, MatchOption, length, slice_index, slice_index_or};
 ghost use Rattle.role_expand.specs.Index.{AreLinks, AreRising};
-ghost use Rattle.role_expand.specs.Marks.{rank_of, AreTopsAbove, AreTopsBelow, Falls};
+ghost use Rattle.role_expand.specs.Marks.{rank_of, bound_of, AreTopsAbove, AreTopsBelow, Falls};
 ghost use Rattle.role_expand.specs.declared.index.RoleKey.{RoleKey};
 
 use crate::index::RoleKey;
@@ -98,48 +98,99 @@ fn tops_below(
     Ok(tops)
 }
 
-/// Whether both tops are less than the rank of the role whose text has this place, if it is one of a text.
-fn is_less_than_text(place: usize, ranks: &[usize], above: usize, below: usize) -> bool
-    ensures { IsTrue result → length ranks.now ≤ place → (above < slice_index ranks.now (place - length ranks.now))
-        × (below < slice_index ranks.now (place - length ranks.now)) }
+/// Whether both tops are less than the rank and the slack of the role whose text has this place, if it is one of a text.
+fn is_less_than_text(
+    place: usize,
+    ranks: &[usize],
+    slack: &[usize],
+    above: usize,
+    below: usize,
+) -> bool
+    ensures { IsTrue result → length ranks.now ≤ place
+        → (above < slice_index ranks.now (place - length ranks.now) + slice_index slack.now (place - length ranks.now))
+        × (below < slice_index ranks.now (place - length ranks.now) + slice_index slack.now (place - length ranks.now)) }
 {
     if place < ranks.len() {
         return true;
     }
-    let bound = rank_at(ranks, place - ranks.len());
+    let role = place - ranks.len();
+    let bound = rank_at(ranks, role).saturating_add(rank_at(slack, role));
     above < bound && below < bound
 }
 
-/// Whether each text's tops are less than the rank of the role whose text it is.
-fn all_fall(marks: &[RoleKey], ranks: &[usize], above: &[usize], below: &[usize]) -> bool
+/// Gives slack to a role.
+fn loosen(slack: &mut Vec<usize>, role: usize)
+    ensures { ((i : ℕ) → slice_index slack.old.items i ≤ 1) → (i : ℕ) → slice_index slack.new.items i ≤ 1 }
+{
+    if role < slack.len() {
+        slack[role] = 1;
+    }
+}
+
+/// A slack of 1 for each role of which a text's tops are not less than its rank, and 0 for the others.
+fn slack_for(
+    alloc: Global,
+    marks: &[RoleKey],
+    ranks: &[usize],
+    above: &[usize],
+    below: &[usize],
+) -> Result<Vec<usize>, AllocError>
+    requires above_len { length above.now ≡ length marks.now }
+    requires below_len { length below.now ≡ length marks.now }
+    ensures { IfOk result (λ slack. (i : ℕ) → slice_index slack.items i ≤ 1) }
+{
+    let mut slack = vec![in alloc; 0; ranks.len()]?;
+    for at in 0..marks.len() {
+        let place = marks[at].place;
+        if !is_less_than_text(place, ranks, [].as_slice(), above[at], below[at]) {
+            loosen(&mut slack, place.saturating_sub(ranks.len()));
+        }
+    }
+    Ok(slack)
+}
+
+/// Whether each text's tops are less than the rank and the slack of the role whose text it is.
+fn all_fall(
+    marks: &[RoleKey],
+    ranks: &[usize],
+    slack: &[usize],
+    above: &[usize],
+    below: &[usize],
+) -> bool
     requires above_len { length above.now ≡ length marks.now }
     requires below_len { length below.now ≡ length marks.now }
     ensures { IsTrue result → (k : ℕ) (d : RoleKey) → k < length marks.now
         → length ranks.now ≤ (slice_index_or marks.now k d).place
-        → (slice_index above.now k < slice_index ranks.now ((slice_index_or marks.now k d).place - length ranks.now))
-        × (slice_index below.now k < slice_index ranks.now ((slice_index_or marks.now k d).place - length ranks.now)) }
+        → (slice_index above.now k < bound_of ranks.now slack.now (slice_index_or marks.now k d))
+        × (slice_index below.now k < bound_of ranks.now slack.now (slice_index_or marks.now k d)) }
 {
     for at in 0..marks.len() {
-        if !is_less_than_text(marks[at].place, ranks, above[at], below[at]) {
+        if !is_less_than_text(marks[at].place, ranks, slack, above[at], below[at]) {
             return false;
         }
     }
     true
 }
 
-/// Whether the ranks are known to fall along each parameter edge: true only where they do.
-pub(crate) fn ranks_fall(
+/// A slack of 0 or 1 for each role, where ranks are known to rise along no edge: those without slack have edges along which they
+/// fall.
+pub(crate) fn slack_of(
     alloc: Global,
     marks: &[RoleKey],
     links: &[usize],
     ranks: &[usize],
-) -> Result<bool, AllocError>
+) -> Result<Option<Vec<usize>>, AllocError>
     requires rising { AreRising marks.now }
     requires as_long { length links.now ≡ length marks.now }
     requires linked { AreLinks marks.now links.now }
-    ensures { IfOk result (λ falls. IsTrue falls → Falls marks.now ranks.now) }
+    ensures { IfOk result (λ found. MatchOption found (Unit {0})
+        (λ slack. ((i : ℕ) → slice_index slack.items i ≤ 1) × Falls marks.now ranks.now slack.items)) }
 {
     let above = tops_above(alloc, marks, links, ranks)?;
     let below = tops_below(alloc, marks, links, ranks)?;
-    Ok(all_fall(marks, ranks, &above, &below))
+    let slack = slack_for(alloc, marks, ranks, &above, &below)?;
+    if all_fall(marks, ranks, &slack, &above, &below) {
+        return Ok(Some(slack));
+    }
+    Ok(None)
 }

@@ -1,8 +1,6 @@
-use Rattle.std.proofs.Common.{◌≡◌, ◌++◌, ◌∷◌, [], List, ℕ, Some, None, sym, ◌∙◌, subst, arith}
-use Rattle.std.proofs.lemmas.List.{append_cancel_right}
+use Rattle.std.proofs.Common.{None, arith}
 use Rattle.std.proofs.lemmas.Str.Pattern.{strip_suffix_char}
 use Rattle.scope_sets.specs.Scopes.{star}
-use Rattle.role_expand.specs.Index.{text_of, Begins}
 use Rattle.role_expand.proofs.granting.granted_after.Goals as goal
 
 pub returns-in-None-clause-beginning : goal.returns-in-None-clause-beginning

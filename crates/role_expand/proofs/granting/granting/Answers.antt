@@ -1,4 +1,4 @@
-use Rattle.std.proofs.Common.{◌≡◌, ◌≢◌, ◌++◌, List, ℕ, ◌∙◌, inl, inr, sym, Contains}
+use Rattle.std.proofs.Common.{◌≡◌, ◌≢◌, ◌++◌, List, ℕ, ◌∙◌, inl, inr, sym}
 use Rattle.std.proofs.lemmas.Bool.{both_ways}
 use Rattle.role_expand.specs.Roles.{assume}
 use Rattle.role_expand.specs.Index.{text_of}

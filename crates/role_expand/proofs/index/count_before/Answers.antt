@@ -1,8 +1,7 @@
-use Rattle.std.proofs.Common.{◌≡◌, ◌≢◌, ℕ, suc, ◌+◌, ◌-◌, ◌/◌, ◌<◌, ◌≤◌, ◌⊎◌, ◌++◌, ◌∷◌, [], List, arith, sym, refl, ap, ◌∙◌, subst, true, false, length, get_or, inl, inr, Contains, map, take, Some, length-append}
-use Rattle.std.proofs.lemmas.Bool.{both_ways, cases_lt, cases_eq}
+use Rattle.std.proofs.Common.{◌≡◌, ℕ, ◌+◌, ◌-◌, ◌/◌, ◌<◌, arith, sym, ap, ◌∙◌, true, length}
 use Rattle.std.specs.Cmp.Lexicographic.{slice_cmp}
 use Rattle.std.specs.Ordering.{nat_cmp, is_lt}
-use Rattle.role_expand.specs.Index.{text_of, Begins, AreRising, IsUnder, AreLinks, HasKey, AreKeysOf}
+use Rattle.role_expand.specs.Index.{text_of}
 use Rattle.role_expand.specs.declared.index.RoleKey.{RoleKey}
 use Rattle.role_expand.proofs.IndexLemmas.{none_before}
 use Rattle.role_expand.proofs.index.count_before.Goals as goal

@@ -1,8 +1,5 @@
-use Rattle.std.proofs.Common.{◌≡◌, ℕ, ◌+◌, ◌-◌, ◌<◌, ◌≤◌, ◌⊎◌, ◌++◌, ◌∷◌, true, false, List, Contains, length, slice_index_or, get_or, map, take}
-use Rattle.std.specs.Cmp.Lexicographic.{slice_cmp}
-use Rattle.std.specs.Ordering.{nat_cmp, is_lt}
-use Rattle.role_expand.specs.Index.{text_of, Begins, AreRising, IsUnder, AreLinks, HasKey, AreKeysOf}
-use Rattle.role_expand.specs.declared.index.RoleKey.{RoleKey}
+use Rattle.std.proofs.Common.{◌≡◌, length}
+use Rattle.role_expand.specs.Index.{AreLinks}
 use Rattle.role_expand.proofs.index.link_all.Given as goal
 
 abbrev pub invariant-loop-place : goal.invariant-loop-place

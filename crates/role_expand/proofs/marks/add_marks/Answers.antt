@@ -1,10 +1,8 @@
-use Rattle.std.proofs.Common.{◌≡◌, ◌++◌, ◌∷◌, [], List, ℕ, Some, None, refl, sym, ap, ◌∙◌, subst, arith, Contains}
+use Rattle.std.proofs.Common.{◌≡◌, ◌++◌, ◌∷◌, [], List, ℕ, Some, None, refl, sym, ◌∙◌, subst, arith, Contains}
 use Rattle.std.proofs.lemmas.List.{append_cancel_right}
-use Rattle.std.proofs.lemmas.List.Elements.{Contains-append_left, Contains-push}
+use Rattle.std.proofs.lemmas.List.Elements.{Contains-push}
 use Rattle.std.proofs.lemmas.Str.Pattern.{strip_suffix_char}
 use Rattle.scope_sets.specs.Scopes.{star}
-use Rattle.role_expand.specs.Index.{text_of}
-use Rattle.role_expand.specs.Roles.{RoleData, role_data}
 use Rattle.role_expand.specs.declared.index.RoleKey.{RoleKey}
 use Rattle.role_expand.proofs.marks.add_marks.Goals as goal
 

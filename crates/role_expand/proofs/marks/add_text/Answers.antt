@@ -1,5 +1,5 @@
-use Rattle.std.proofs.Common.{◌≡◌, ◌++◌, ◌∷◌, ◌⊎◌, [], List, ℕ, refl, sym, subst}
-use Rattle.std.proofs.lemmas.List.Elements.{Contains-append_left, Contains-push}
+use Rattle.std.proofs.Common.{◌≡◌, ◌⊎◌, List, ℕ, refl, sym, subst}
+use Rattle.std.proofs.lemmas.List.Elements.{Contains-push}
 use Rattle.role_expand.specs.Index.{text_of, Begins}
 use Rattle.role_expand.specs.declared.index.RoleKey.{RoleKey}
 use Rattle.role_expand.proofs.marks.add_text.Goals as goal

@@ -1,9 +1,8 @@
-use Rattle.std.proofs.Common.{◌≡◌, ◌++◌, ◌⊎◌, List, ℕ, Some, None, subst, Option}
+use Rattle.std.proofs.Common.{◌++◌, List, ℕ, Some, None, subst, Option}
 use Rattle.std.specs.Option.{MatchOption}
 use Rattle.std.proofs.lemmas.Str.Pattern.{split_text_parts}
 use Rattle.role_expand.specs.Roles.{hole, assume, SplitsAtHole}
 use Rattle.role_expand.specs.Cycles.{StartAlike, Reaches}
-use Rattle.role_expand.specs.Index.{Begins}
 use Rattle.role_expand.proofs.marks.hole_text.Goals as goal
 
 weaker : {X P P' : Type 0} {Q Q' : X → Type 0} (o : Option X) → MatchOption o P Q → (P → P') → ((x : X) → Q x → Q' x) → MatchOption o P' Q'

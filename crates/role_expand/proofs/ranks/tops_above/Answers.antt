@@ -1,4 +1,4 @@
-use Rattle.std.proofs.Common.{◌≡◌, ◌+◌, ◌<◌, ◌≤◌, ◌++◌, ◌∷◌, [], ◌∙◌, ℕ, List, length, get_or, sym, ap, arith, length-append}
+use Rattle.std.proofs.Common.{◌≤◌, ◌∷◌, [], ℕ, List, ap, arith, length-append}
 use Rattle.role_expand.specs.Marks.{rank_of}
 use Rattle.role_expand.specs.declared.index.RoleKey.{RoleKey}
 use Rattle.role_expand.proofs.RankLemmas.{tops_push}

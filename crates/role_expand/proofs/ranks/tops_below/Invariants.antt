@@ -1,7 +1,4 @@
-use Rattle.std.proofs.Common.{◌≡◌, ◌<◌, ◌≤◌, ◌⊎◌, ◌+◌, ℕ, length, slice_index, slice_index_or}
-use Rattle.role_expand.specs.Index.{text_of, Begins, IsUnder}
-use Rattle.role_expand.specs.Marks.{rank_of}
-use Rattle.role_expand.specs.declared.index.RoleKey.{RoleKey}
+use Rattle.std.proofs.Common.{◌≤◌, length}
 use Rattle.role_expand.proofs.RankLemmas.{AreTopsFrom}
 use Rattle.role_expand.proofs.ranks.tops_below.Given as goal
 

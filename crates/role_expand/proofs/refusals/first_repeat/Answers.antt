@@ -1,12 +1,11 @@
-use Rattle.std.proofs.Common.{rules, ◌≡◌, ◌≢◌, ◌<◌, ◌+◌, ◌∙◌, List, ℕ, Some, None, take, arith, subst, sym, ap, length, get_or}
-use Rattle.std.proofs.lemmas.List.{length-map, take-map, get_or-take, get_or-map}
+use Rattle.std.proofs.Common.{rules, ◌≡◌, ◌≢◌, ◌<◌, ◌∙◌, List, ℕ, Some, arith, subst, sym, length}
+use Rattle.std.proofs.lemmas.List.{length-map}
 use Rattle.std.proofs.lemmas.Map.Text.{btree_map_updates_text}
-use Rattle.std.proofs.lemmas.Option.{slice_get-get_or}
 use Rattle.std.specs.BTreeMap.{get_by_text}
-use Rattle.std.specs.List.{All, AllPairs, slice_get}
+use Rattle.std.specs.List.{slice_get}
 use Rattle.std.specs.String.{string_bytes}
 use Rattle.role_expand.specs.Roles.{RoleData, role_data, roles_data}
-use Rattle.role_expand.proofs.PlaceLemmas.{get_mapped, AllPairs_more, whole}
+use Rattle.role_expand.proofs.PlaceLemmas.{get_mapped, AllPairs_more}
 use Rattle.role_expand.proofs.RepeatLemmas.{IsPlaceOf, place_more, all_apart}
 use Rattle.role_expand.proofs.refusals.first_repeat.Goals as goal
 

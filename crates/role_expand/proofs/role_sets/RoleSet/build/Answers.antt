@@ -1,8 +1,8 @@
-use Rattle.std.proofs.Common.{◌≡◌, sym, subst, ap, ◌∙◌, List, rules}
+use Rattle.std.proofs.Common.{◌≡◌, rules}
 use Rattle.scope_sets.specs.declared.scopes.TheConstants.{LONGEST_SCOPE}
 use Rattle.role_expand.specs.Cycles.{IsAccepted}
 use Rattle.role_expand.specs.Index.{AreKeysOf}
-use Rattle.role_expand.specs.Roles.{RoleData, roles_data}
+use Rattle.role_expand.specs.Roles.{roles_data}
 use Rattle.role_expand.specs.Known.{known_data}
 use Rattle.role_expand.proofs.role_sets.RoleSet.build.Goals as goal
 
