@@ -240,6 +240,15 @@ replicate_zero zero k = refl
 replicate_zero (suc n) zero = refl
 replicate_zero (suc n) (suc k) = replicate_zero n k
 
+-- an order of lists by their first numbers, and where these are the same by the rest
+pub order_first : (a b : ℕ) (xs ys : List ℕ) → a ≤ b → (a ≡ b → is_gt (slice_cmp nat_cmp xs ys) ≡ false) → is_gt (slice_cmp nat_cmp (a ∷ xs) (b ∷ ys)) ≡ false
+order_first a b xs ys le rest =
+    elim (cases_order a b) [
+      | inl same ↦ rw (le-ltb a b (omega arith), eq-eqb a b same) (rest same)
+      | inr (inl less) ↦ rw (lt-ltb a b less)
+      | inr (inr more) ↦ absurd (omega arith)
+    ]
+
 -- what a walk to a place with a least number says
 module _ (roles : List RoleData) (target : ℕ) (steps : List ℕ) (s : AreSteps roles target steps) where
   -- a next place on a shortest walk
@@ -273,14 +282,6 @@ module _ (roles : List RoleData) (target : ℕ) (steps : List ℕ) (s : AreSteps
       by_length : (others : List ℕ) → length others ≡ 0 → is_gt (slice_cmp nat_cmp [] others) ≡ false
       by_length [] len = refl
       by_length (to ∷ others) len = absurd (omega arith)
-
-  order_first : (a b : ℕ) (xs ys : List ℕ) → a ≤ b → (a ≡ b → is_gt (slice_cmp nat_cmp xs ys) ≡ false) → is_gt (slice_cmp nat_cmp (a ∷ xs) (b ∷ ys)) ≡ false
-  order_first a b xs ys le rest =
-      elim (cases_order a b) [
-        | inl same ↦ rw (le-ltb a b (omega arith), eq-eqb a b same) (rest same)
-        | inr (inl less) ↦ rw (lt-ltb a b less)
-        | inr (inr more) ↦ absurd (omega arith)
-      ]
 
   -- one step more: the first place from which the least number of edges is left
   pub least_more : (at to left : ℕ) (rest : List ℕ) → get_or steps at 0 ≡ suc left → get_or steps to 0 ≡ left → EdgeAt roles at to → ((m : ℕ) → get_or steps m 0 ≡ left → EdgeAt roles at m → to ≤ m)

@@ -3,7 +3,12 @@ pub mod GrowthLemmas
 pub mod GivesLemmas
 pub mod ClosureLemmas
 pub mod PlaceLemmas
+pub mod IndexLemmas
 pub mod EdgeLemmas
+pub mod FoundLemmas
+pub mod RankLemmas
+pub mod RepeatLemmas
+pub mod GrantLemmas
 pub mod LevelLemmas
 pub mod SetLemmas
 pub mod StarLemmas
@@ -11,3 +16,4 @@ pub mod LengthLemmas
 pub mod RefusalLemmas
 pub mod DecisionLemmas
 pub mod ExistenceLemmas
+pub mod AcceptanceLemmas

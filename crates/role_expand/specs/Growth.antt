@@ -1,7 +1,7 @@
 -- What the private steps of an expansion add to the list of the scopes found so far.
-use Rattle.std.specs.Prelude.{◌≡◌, ℕ, ◌<◌, ◌≤◌, ◌⊎◌, List, [], ◌∷◌, ◌++◌, length, Contains}
+use Rattle.std.specs.Prelude.{◌≡◌, ℕ, ◌<◌, ◌≤◌, ◌⊎◌, List, [], ◌∷◌, ◌++◌, length, Contains, Some, slice_get}
 use Rattle.scope_sets.specs.Scopes.{star, Satisfies}
-use Rattle.role_expand.specs.Roles.{assume, FillsHole, EndsWithStar}
+use Rattle.role_expand.specs.Roles.{RoleData, assume, FillsHole, EndsWithStar, Gives}
 use Rattle.role_expand.specs.Closures.{IsEachOnce}
 use Rattle.role_expand.specs.declared.expansion.ExpandFault.{ExpandFault}
 use Rattle.role_expand.specs.declared.expansion.ExpandFault.TheVariants.{TooMany, NoMemory}
@@ -46,3 +46,11 @@ IsGrantedByFront held front scopes s = (parameter : List ℕ) × (held ≡ assum
 -- the same for a role granted with the parameter `*`
 abbrev pub IsGrantedWithStar : List ℕ → List ℕ → List (List ℕ) → List ℕ → Type 0
 IsGrantedWithStar held grant scopes s = Satisfies held grant × IsFilledFrom scopes (star ∷ []) s
+
+-- the role at a place gives this scope to whoever has that one
+abbrev pub GivenAt : List RoleData → List ℕ → ℕ → List ℕ → Type 0
+GivenAt roles held place s = (role : RoleData) × (slice_get roles place ≡ Some role) × Gives role held s
+
+-- the role at one of these places does
+abbrev pub GivenAtSome : List RoleData → List ℕ → List ℕ → List ℕ → Type 0
+GivenAtSome roles held places s = (place : ℕ) × Contains places place × GivenAt roles held place s

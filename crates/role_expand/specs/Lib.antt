@@ -2,6 +2,9 @@ pub mod Roles
 pub mod Closures
 pub mod Growth
 pub mod Cycles
+pub mod Found
+pub mod Index
+pub mod Marks
 pub mod Known
 pub mod Lengths
 pub mod Levels

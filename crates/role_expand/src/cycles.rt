@@ -5,17 +5,14 @@ ghost use Rattle.role_expand.specs.Roles.{role_data, roles_data, assume, HasHole
 ghost use Rattle.role_expand.specs.Cycles.{StartAlike, Reaches, HasEdge, EdgeAt, IsCycle, IsFirstCycle};
 ghost use Rattle.role_expand.specs.Levels.{LeadsInto, IsNextLevel, AreSteps, IsLeastWalk};
 
+use crate::granting::after_assume;
+use crate::index::link_all;
+use crate::marks::rising_marks;
+use crate::order::{get, rank_roles};
+use crate::ranks::slack_of;
 use crate::roles::Role;
 use scope_sets::{LONGEST_SCOPE, Scope};
 use std::alloc::{AllocError, Global};
-
-/// What follows `assume:` in a text that begins so.
-fn after_assume(text: &str) -> Option<&str>
-    ensures { MatchOption result ((rest : List ℕ) → text.now ≢ assume ++ rest)
-        (λ rest. text.now ≡ assume ++ rest.now) }
-{
-    text.strip_prefix("assume:")
-}
 
 /// Whether one of two texts begins with the other: the first, and `assume:` followed by the front.
 fn start_alike(before: &str, front: &str) -> bool
@@ -164,7 +161,27 @@ fn cycle_from(
     Ok(cycle)
 }
 
+/// For each role 0 where no cycle goes from it, as ranks tell, and else 1.
+fn may_cycle(alloc: Global, roles: &[Role]) -> Result<Vec<usize>, AllocError>
+    requires { All (HasRoleForm LONGEST_SCOPE) (roles_data roles.now) }
+    ensures { IfOk result (λ may. (i : ℕ) (rest : List ℕ) → slice_index may.items i ≡ 0
+        → ¬ IsCycle (roles_data roles.now) (i ∷ rest)) }
+{
+    let marks = rising_marks(alloc, roles)?;
+    let links = link_all(alloc, &marks)?;
+    let ranks = rank_roles(alloc, &marks, &links, roles.len())?;
+    if ranks.len() == roles.len()
+        && let Some(slack) = slack_of(alloc, &marks, &links, &ranks)?
+    {
+        return Ok(slack);
+    }
+    let may = vec![in alloc; 1; roles.len()]?;
+    Ok(may)
+}
+
 /// The shortest cycle of parameter edges from the first role that lies on one, of equal ones the first by its places.
+///
+/// Ranks tell which role is the first, in about n log n steps for n scopes: it alone is searched from.
 pub(crate) fn first_cycle(alloc: Global, roles: &[Role]) -> Result<Option<Vec<usize>>, AllocError>
     requires { All (HasRoleForm LONGEST_SCOPE) (roles_data roles.now) }
     ensures { IfOk result (λ answer.
@@ -172,7 +189,11 @@ pub(crate) fn first_cycle(alloc: Global, roles: &[Role]) -> Result<Option<Vec<us
         (λ cycle. (i : ℕ) × (rest : List ℕ) × (cycle.items ≡ i ∷ rest)
         × IsFirstCycle (roles_data roles.now) i rest)) }
 {
+    let may = may_cycle(alloc, roles)?;
     for place in 0..roles.len() {
+        if get(&may, place) == 0 {
+            continue;
+        }
         let steps = steps_to(alloc, roles, place)?;
         if steps[place] != 0 {
             return Ok(Some(cycle_from(alloc, roles, &steps, place)?));

@@ -3,9 +3,13 @@ ghost use Rattle.std.specs.Prelude.{◌≡◌, ℕ, ◌≤◌, ◌<◌, ◌^◌,
 ghost use Rattle.scope_sets.specs.Scopes.{IsPrintable};
 ghost use Rattle.role_expand.specs.Roles.{role_data, assume, HasHoleForm, HasRoleForm, FillsHole, Gives};
 ghost use Rattle.role_expand.specs.Closures.{GivenBy, IsAllDerivable, FailsToExpand};
-ghost use Rattle.role_expand.specs.Growth.{Gains, FailsToGain, IsFilledFrom, KeepsAfter, IsGrantedAsWritten, IsGrantedByFront, IsGrantedWithStar};
+ghost use Rattle.role_expand.specs.Index.{AreKeysOf};
+ghost use Rattle.role_expand.specs.Growth.{Gains, FailsToGain, IsFilledFrom, KeepsAfter, IsGrantedAsWritten, IsGrantedByFront, IsGrantedWithStar, GivenAt, GivenAtSome};
 ghost use Rattle.role_expand.specs.Known.{known_data};
 
+use crate::found::Found;
+use crate::granting::granting;
+use crate::index::RoleIndex;
 use crate::roles::KnownRole;
 use scope_sets::{LONGEST_SCOPE, Scope, satisfies};
 use std::alloc::{AllocError, AllocFailed, Global};
@@ -44,12 +48,12 @@ impl<T: Drop> From<AllocFailed<T>> for ExpandFault {
 }
 
 /// Puts a scope at the end of those found so far, unless it is there.
-fn add(found: &mut Vec<Scope>, scope: Scope) -> Result<(), ExpandFault>
+fn add(found: &mut Found, scope: Scope) -> Result<(), ExpandFault>
     ensures { MatchResult result
-        (λ _. Gains MOST_SCOPES (λ s. s ≡ scope) found.old.items found.new.items)
-        (FailsToGain MOST_SCOPES (λ s. s ≡ scope) found.old.items) }
+        (λ _. Gains MOST_SCOPES (λ s. s ≡ scope) found.old found.new)
+        (FailsToGain MOST_SCOPES (λ s. s ≡ scope) found.old) }
 {
-    if found.contains(&scope) {
+    if found.has(&scope) {
         return Ok(());
     }
     if found.len() >= MOST_SCOPES {
@@ -60,10 +64,10 @@ fn add(found: &mut Vec<Scope>, scope: Scope) -> Result<(), ExpandFault>
 }
 
 /// Adds each of these scopes.
-pub(crate) fn add_all(found: &mut Vec<Scope>, scopes: &[Scope]) -> Result<(), ExpandFault>
+pub(crate) fn add_all(found: &mut Found, scopes: &[Scope]) -> Result<(), ExpandFault>
     ensures { MatchResult result
-        (λ _. Gains MOST_SCOPES (Contains scopes.now) found.old.items found.new.items)
-        (FailsToGain MOST_SCOPES (Contains scopes.now) found.old.items) }
+        (λ _. Gains MOST_SCOPES (Contains scopes.now) found.old found.new)
+        (FailsToGain MOST_SCOPES (Contains scopes.now) found.old) }
 {
     for scope in scopes {
         add(found, scope.clone()?)?;
@@ -97,15 +101,15 @@ fn kept_after<'a>(parameter: &str, after: &'a str) -> &'a str
 /// Adds each of these scopes with the parameter in place of `<..>`.
 fn add_filled(
     alloc: Global,
-    found: &mut Vec<Scope>,
+    found: &mut Found,
     scopes: &[Scope],
     parameter: &str,
 ) -> Result<(), ExpandFault>
     requires printable { All IsPrintable parameter.now }
     requires holes { All HasHoleForm scopes.now }
     ensures { MatchResult result
-        (λ _. Gains MOST_SCOPES (IsFilledFrom scopes.now parameter.now) found.old.items found.new.items)
-        (FailsToGain MOST_SCOPES (IsFilledFrom scopes.now parameter.now) found.old.items) }
+        (λ _. Gains MOST_SCOPES (IsFilledFrom scopes.now parameter.now) found.old found.new)
+        (FailsToGain MOST_SCOPES (IsFilledFrom scopes.now parameter.now) found.old) }
 {
     for scope in scopes {
         add(found, fill(alloc, scope, parameter)?)?;
@@ -123,14 +127,14 @@ fn parameter_of<'a>(held: &'a str, front: &str) -> Option<&'a str>
 
 /// Adds these scopes as written, if the held scope satisfies the one that grants them.
 fn add_as_written(
-    found: &mut Vec<Scope>,
+    found: &mut Found,
     scopes: &[Scope],
     held: &Scope,
     grant: &Scope,
 ) -> Result<(), ExpandFault>
     ensures { MatchResult result
-        (λ _. Gains MOST_SCOPES (IsGrantedAsWritten held.now grant.now scopes.now) found.old.items found.new.items)
-        (FailsToGain MOST_SCOPES (IsGrantedAsWritten held.now grant.now scopes.now) found.old.items) }
+        (λ _. Gains MOST_SCOPES (IsGrantedAsWritten held.now grant.now scopes.now) found.old found.new)
+        (FailsToGain MOST_SCOPES (IsGrantedAsWritten held.now grant.now scopes.now) found.old) }
 {
     if !satisfies(held, grant) {
         return Ok(());
@@ -141,15 +145,15 @@ fn add_as_written(
 /// Adds these scopes with what follows `assume:` and the front in the held scope, if it begins so.
 fn add_by_front(
     alloc: Global,
-    found: &mut Vec<Scope>,
+    found: &mut Found,
     scopes: &[Scope],
     held: &Scope,
     front: &str,
 ) -> Result<(), ExpandFault>
     requires { All HasHoleForm scopes.now }
     ensures { MatchResult result
-        (λ _. Gains MOST_SCOPES (IsGrantedByFront held.now front.now scopes.now) found.old.items found.new.items)
-        (FailsToGain MOST_SCOPES (IsGrantedByFront held.now front.now scopes.now) found.old.items) }
+        (λ _. Gains MOST_SCOPES (IsGrantedByFront held.now front.now scopes.now) found.old found.new)
+        (FailsToGain MOST_SCOPES (IsGrantedByFront held.now front.now scopes.now) found.old) }
 {
     match parameter_of(held.as_str(), front) {
         None => Ok(()),
@@ -160,15 +164,15 @@ fn add_by_front(
 /// Adds these scopes with the parameter `*`, if the held scope satisfies the one that grants them.
 fn add_with_star(
     alloc: Global,
-    found: &mut Vec<Scope>,
+    found: &mut Found,
     scopes: &[Scope],
     held: &Scope,
     grant: &Scope,
 ) -> Result<(), ExpandFault>
     requires { All HasHoleForm scopes.now }
     ensures { MatchResult result
-        (λ _. Gains MOST_SCOPES (IsGrantedWithStar held.now grant.now scopes.now) found.old.items found.new.items)
-        (FailsToGain MOST_SCOPES (IsGrantedWithStar held.now grant.now scopes.now) found.old.items) }
+        (λ _. Gains MOST_SCOPES (IsGrantedWithStar held.now grant.now scopes.now) found.old found.new)
+        (FailsToGain MOST_SCOPES (IsGrantedWithStar held.now grant.now scopes.now) found.old) }
 {
     if !satisfies(held, grant) {
         return Ok(());
@@ -179,14 +183,14 @@ fn add_with_star(
 /// Adds all that a role gives to whoever has the held scope.
 pub(crate) fn add_given(
     alloc: Global,
-    found: &mut Vec<Scope>,
+    found: &mut Found,
     known: &KnownRole,
     held: &Scope,
 ) -> Result<(), ExpandFault>
     requires { HasRoleForm LONGEST_SCOPE (role_data known.now.role) }
     ensures { MatchResult result
-        (λ _. Gains MOST_SCOPES (Gives (role_data known.now.role) held.now) found.old.items found.new.items)
-        (FailsToGain MOST_SCOPES (Gives (role_data known.now.role) held.now) found.old.items) }
+        (λ _. Gains MOST_SCOPES (Gives (role_data known.now.role) held.now) found.old found.new)
+        (FailsToGain MOST_SCOPES (Gives (role_data known.now.role) held.now) found.old) }
 {
     let scopes = known.role.scopes.as_slice();
     match known.role.id.as_str().strip_suffix('*') {
@@ -198,22 +202,60 @@ pub(crate) fn add_given(
     }
 }
 
-/// Adds all that the roles give to whoever has the held scope.
-fn add_given_by_all(
+/// Adds all that the role at a place gives to whoever has the held scope.
+fn add_given_at(
     alloc: Global,
-    found: &mut Vec<Scope>,
+    found: &mut Found,
     roles: &[KnownRole],
+    place: usize,
     held: &Scope,
 ) -> Result<(), ExpandFault>
     requires { All (HasRoleForm LONGEST_SCOPE) (known_data roles.now) }
     ensures { MatchResult result
-        (λ _. Gains MOST_SCOPES (GivenBy (known_data roles.now) held.now) found.old.items found.new.items)
-        (FailsToGain MOST_SCOPES (GivenBy (known_data roles.now) held.now) found.old.items) }
+        (λ _. Gains MOST_SCOPES (GivenAt (known_data roles.now) held.now place) found.old found.new)
+        (FailsToGain MOST_SCOPES (GivenAt (known_data roles.now) held.now place) found.old) }
 {
-    for known in roles {
-        add_given(alloc, found, known, held)?;
+    if place < roles.len() {
+        return add_given(alloc, found, &roles[place], held);
     }
     Ok(())
+}
+
+/// Adds all that the roles at these places give to whoever has the held scope.
+fn add_given_at_all(
+    alloc: Global,
+    found: &mut Found,
+    roles: &[KnownRole],
+    places: &[usize],
+    held: &Scope,
+) -> Result<(), ExpandFault>
+    requires { All (HasRoleForm LONGEST_SCOPE) (known_data roles.now) }
+    ensures { MatchResult result
+        (λ _. Gains MOST_SCOPES (GivenAtSome (known_data roles.now) held.now places.now) found.old found.new)
+        (FailsToGain MOST_SCOPES (GivenAtSome (known_data roles.now) held.now places.now) found.old) }
+{
+    for place in places {
+        add_given_at(alloc, found, roles, *place, held)?;
+    }
+    Ok(())
+}
+
+/// Adds all that the roles give to whoever has the held scope.
+fn add_given_by_all(
+    alloc: Global,
+    found: &mut Found,
+    roles: &[KnownRole],
+    index: &RoleIndex,
+    held: &Scope,
+) -> Result<(), ExpandFault>
+    requires forms { All (HasRoleForm LONGEST_SCOPE) (known_data roles.now) }
+    requires keys { AreKeysOf (known_data roles.now) index.now }
+    ensures { MatchResult result
+        (λ _. Gains MOST_SCOPES (GivenBy (known_data roles.now) held.now) found.old found.new)
+        (FailsToGain MOST_SCOPES (GivenBy (known_data roles.now) held.now) found.old) }
+{
+    let places = granting(alloc, index, held)?;
+    add_given_at_all(alloc, found, roles, &places, held)
 }
 
 /// All scopes that are derived from the start list, in the order in which they are found: those of the list, and then, for each
@@ -221,20 +263,22 @@ fn add_given_by_all(
 pub(crate) fn derive_all(
     alloc: Global,
     roles: &[KnownRole],
+    index: &RoleIndex,
     start: &[Scope],
 ) -> Result<Vec<Scope>, ExpandFault>
-    requires { All (HasRoleForm LONGEST_SCOPE) (known_data roles.now) }
+    requires forms { All (HasRoleForm LONGEST_SCOPE) (known_data roles.now) }
+    requires keys { AreKeysOf (known_data roles.now) index.now }
     ensures { MatchResult result
         (λ found. IsAllDerivable MOST_SCOPES (known_data roles.now) start.now found.items)
         (FailsToExpand MOST_SCOPES (known_data roles.now) start.now) }
 {
-    let mut found = Vec::new(alloc);
+    let mut found = Found::new(alloc);
     add_all(&mut found, start)?;
     let mut next = 0;
     while next < found.len() {
-        let held = found[next].clone()?;
-        add_given_by_all(alloc, &mut found, roles, &held)?;
+        let held = found.at(next).clone()?;
+        add_given_by_all(alloc, &mut found, roles, index, &held)?;
         next += 1;
     }
-    Ok(found)
+    Ok(found.into_list())
 }

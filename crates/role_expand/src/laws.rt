@@ -1,12 +1,12 @@
 //! What follows from the definitions. The functions do nothing: each contract is a law.
-ghost use Rattle.std.specs.Prelude.{◌≡◌, ℕ, ◌≤◌, ◌⊎◌, List, Contains, length};
+ghost use Rattle.std.specs.Prelude.{◌≡◌, ◌≢◌, ℕ, ◌≤◌, ◌⊎◌, List, All, AllPairs, Contains, length};
 ghost use Rattle.scope_sets.specs.Scopes.{EndsWithTwoStars};
 ghost use Rattle.role_expand.specs.declared.expansion.TheConstants.{MOST_SCOPES};
-ghost use Rattle.role_expand.specs.Roles.{RoleData};
+ghost use Rattle.role_expand.specs.Roles.{RoleData, HasRoleForm};
 ghost use Rattle.role_expand.specs.Closures.{Derivable, IsClosure, HasMoreDerivable};
-ghost use Rattle.role_expand.specs.Cycles.{IsAccepted};
+ghost use Rattle.role_expand.specs.Cycles.{IsAccepted, IsFirstCycle};
 ghost use Rattle.role_expand.specs.Lengths.{length_bound};
-ghost use Rattle.role_expand.specs.Refusals.{Refuses, IsSameRefusal};
+ghost use Rattle.role_expand.specs.Refusals.{IsFirstBadRole, IsFirstRepeat, Refuses, IsSameRefusal};
 ghost use Rattle.role_expand.specs.declared.refusals.BuildFault.{BuildFault};
 ghost use Rattle.role_expand.specs.declared.refusals.BuildFault.TheVariants.{NoMemory};
 
@@ -52,6 +52,16 @@ pub fn the_refusal_is_one()
 pub fn an_accepted_list_is_not_refused()
     ensures { (longest : ℕ) (roles : List RoleData) (fault : BuildFault)
         → IsAccepted longest roles → Refuses longest roles fault → fault ≡ NoMemory }
+{}
+
+/// No list of roles is without either: it is accepted, or a role is off its form, or, where none is, an id comes twice, or, where
+/// none does, there is a first cycle.
+pub fn a_list_is_accepted_or_refused()
+    ensures { (longest : ℕ) (roles : List RoleData) → ¬ (¬ IsAccepted longest roles
+        × ((i : ℕ) → ¬ IsFirstBadRole longest roles i)
+        × (All (HasRoleForm longest) roles → (i j : ℕ) → ¬ IsFirstRepeat roles i j)
+        × (All (HasRoleForm longest) roles → AllPairs (λ p q. p.id ≢ q.id) roles
+        → (i : ℕ) (rest : List ℕ) → ¬ IsFirstCycle roles i rest)) }
 {}
 
 /// A start list expands to ten thousand scopes at most: what the contracts say of `MOST_SCOPES`, they say of that number.

@@ -6,7 +6,13 @@
 
 mod cycles;
 mod expansion;
+mod found;
+mod granting;
+mod index;
 pub mod laws;
+mod marks;
+mod order;
+mod ranks;
 mod refusals;
 mod role_sets;
 mod roles;

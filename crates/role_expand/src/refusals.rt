@@ -1,5 +1,5 @@
 //! Why a list of roles is no set of roles: a role off its form, an id twice.
-ghost use Rattle.std.specs.Prelude.{◌≡◌, ◌≢◌, ℕ, ◌↔◌, List, All, AllPairs, IsTrue, MatchOption, Some, slice_get};
+ghost use Rattle.std.specs.Prelude.{◌≡◌, ◌≢◌, ℕ, ◌↔◌, List, All, AllPairs, IfOk, IsTrue, MatchOption, Some, slice_get};
 ghost use Rattle.scope_sets.specs.Scopes.{HasHandedInForm};
 ghost use Rattle.role_expand.specs.Roles.{RoleData, role_data, roles_data, EndsWithStar, HasHoleForm, HasIdForm, HasRoleForm};
 ghost use Rattle.role_expand.specs.Refusals.{IsFirstBadRole, IsFirstRepeat};
@@ -7,7 +7,8 @@ ghost use Rattle.role_expand.specs.Refusals.{IsFirstBadRole, IsFirstRepeat};
 use crate::roles::Role;
 use scope_sets::scopes::is_printable;
 use scope_sets::{LONGEST_SCOPE, Scope};
-use std::alloc::{AllocError, AllocFailed};
+use std::alloc::{AllocError, AllocFailed, Global};
+use std::collections::BTreeMap;
 
 /// Why a list of roles is refused: the first of these that strikes.
 #[derive(Debug, PartialEq, Eq, Drop)]
@@ -102,28 +103,20 @@ pub(crate) fn first_bad_role(roles: &[Role]) -> Option<usize>
     None
 }
 
-/// The place of a role of this id.
-fn place_of(roles: &[Role], id: &str) -> Option<usize>
-    ensures { MatchOption result (All (λ role. role.id ≢ id.now) (roles_data roles.now))
-        (λ place. (role : RoleData) × (slice_get (roles_data roles.now) place ≡ Some role) × (role.id ≡ id.now)) }
-{
-    for (place, role) in roles.iter().enumerate() {
-        if role.id.as_str() == id {
-            return Some(place);
-        }
-    }
-    None
-}
-
 /// The first role whose id an earlier role has: the earlier place and its own.
-pub(crate) fn first_repeat(roles: &[Role]) -> Option<(usize, usize)>
-    ensures { MatchOption result (AllPairs (λ p q. p.id ≢ q.id) (roles_data roles.now))
-        (λ places. IsFirstRepeat (roles_data roles.now) places.0 places.1) }
+pub(crate) fn first_repeat(
+    alloc: Global,
+    roles: &[Role],
+) -> Result<Option<(usize, usize)>, AllocError>
+    ensures { IfOk result (λ answer. MatchOption answer (AllPairs (λ p q. p.id ≢ q.id) (roles_data roles.now))
+        (λ places. IsFirstRepeat (roles_data roles.now) places.0 places.1)) }
 {
+    let mut ids = BTreeMap::new(alloc);
     for (later, role) in roles.iter().enumerate() {
-        if let Some(earlier) = place_of(&roles[..later], role.id.as_str()) {
-            return Some((earlier, later));
+        if let Some(earlier) = ids.get(role.id.as_str()) {
+            return Ok(Some((*earlier, later)));
         }
+        ids.insert(role.id.clone()?, later)?;
     }
-    None
+    Ok(None)
 }

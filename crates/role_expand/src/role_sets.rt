@@ -7,6 +7,7 @@ ghost use Rattle.role_expand.specs.Known.{known_data};
 
 use crate::cycles::first_cycle;
 use crate::expansion::{ExpandFault, MOST_SCOPES, derive_all};
+use crate::index::RoleIndex;
 use crate::refusals::{BuildFault, first_bad_role, first_repeat};
 use crate::roles::{KnownRole, Role};
 use scope_sets::{LONGEST_SCOPE, Scope, ScopeSet};
@@ -20,6 +21,7 @@ use std::marker::Model;
 #[derive(Debug, Drop)]
 pub struct RoleSet {
     roles: Vec<KnownRole>,
+    index: RoleIndex,
 }
 
 impl Model for RoleSet {
@@ -27,13 +29,14 @@ impl Model for RoleSet {
     ghost use Rattle.scope_sets.specs.declared.scopes.TheConstants.{LONGEST_SCOPE};
     ghost use Rattle.role_expand.specs.Roles.{RoleData};
     ghost use Rattle.role_expand.specs.Cycles.{IsAccepted};
+    ghost use Rattle.role_expand.specs.Index.{AreKeysOf};
     ghost use Rattle.role_expand.specs.Known.{known_data};
 
     ghost Value = { List RoleData };
 
     ghost view = { λ s. known_data s.roles.items };
 
-    ghost invariant = { λ s. IsAccepted LONGEST_SCOPE (known_data s.roles.items) };
+    ghost invariant = { λ s. IsAccepted LONGEST_SCOPE (known_data s.roles.items) × AreKeysOf (known_data s.roles.items) s.index };
 }
 
 impl RoleSet {
@@ -46,14 +49,16 @@ impl RoleSet {
         if let Some(place) = first_bad_role(&roles) {
             return Err(BuildFault::BadRole(place));
         }
-        if let Some((earlier, later)) = first_repeat(&roles) {
+        if let Some((earlier, later)) = first_repeat(alloc, &roles)? {
             return Err(BuildFault::DuplicateRole(earlier, later));
         }
         if let Some(cycle) = first_cycle(alloc, &roles)? {
             return Err(BuildFault::ParameterCycle(cycle));
         }
+        let index = RoleIndex::build(alloc, &roles)?;
         Ok(RoleSet {
             roles: know_all(alloc, roles)?,
+            index,
         })
     }
 
@@ -67,13 +72,14 @@ impl RoleSet {
     /// All scopes that are derivable from the start list: those of the list, and what the roles give to whoever has one of them,
     /// again and again.
     ///
-    /// It follows each scope that it finds through all roles, and looks for each scope that they give among those found so far.
+    /// It follows each scope that it finds to the roles whose keys fit, and looks each scope that they give up among those found
+    /// so far: for n roles and a scope of m bytes that is about log2 n comparisons of texts, and one for each role that fits.
     pub fn expand(&self, alloc: Global, start: &[Scope]) -> Result<ScopeSet, ExpandFault>
         ensures closure { MatchResult result (IsClosure MOST_SCOPES self.now start.now)
             (FailsToExpand MOST_SCOPES self.now start.now) }
         ensures accepted { IsAccepted LONGEST_SCOPE self.now }
     {
-        let found = derive_all(alloc, &self.roles, start)?;
+        let found = derive_all(alloc, &self.roles, &self.index, start)?;
         Ok(ScopeSet::from_list(found))
     }
 }

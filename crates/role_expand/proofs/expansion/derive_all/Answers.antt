@@ -8,31 +8,31 @@ use Rattle.role_expand.proofs.expansion.derive_all.Goals as goal
 pub returns-in_err-add_all : goal.returns-in_err-add_all
 returns-in_err-add_all c =
     let p = err_from_is_err_and c.from_residual.result c.from_residual.ensures.1 in
-    rw (p.1, p.2) (fails_at_start (known_data c.args.roles.now) c.args.start.now MOST_SCOPES _ (rw c.new-found.ensures.items at c.in_err-add_all.ensures))
+    rw (p.1, p.2) (fails_at_start (known_data c.args.roles.now) c.args.start.now MOST_SCOPES _ (rw c.new-found.ensures at c.in_err-add_all.ensures))
 
 pub loop-next-init : goal.loop-next-init
-loop-next-init c = partly_begin (known_data c.args.roles.now) c.args.start.now MOST_SCOPES _ (rw c.new-found.ensures.items at c.in_ok-add_all.ensures)
+loop-next-init c = partly_begin (known_data c.args.roles.now) c.args.start.now MOST_SCOPES _ (rw c.new-found.ensures at c.in_ok-add_all.ensures)
 
 pub returns-in_err-add_given_by_all : goal.returns-in_err-add_given_by_all
 returns-in_err-add_given_by_all c =
     let p = err_from_is_err_and c.from_residual-in_err-add_given_by_all.result c.from_residual-in_err-add_given_by_all.ensures.1 in
-    let old : List (List ℕ) = c.loop-next.found.items in
+    let old : List (List ℕ) = c.loop-next.found in
     let n : ℕ = c.loop-next.next in
     let held : List ℕ = c.in_ok-held.held in
-    let lt : n < length old = omega (arith, c.loop-next.found.ok.0) in
-    let is : held ≡ get_or old n held = subst (λ (t : List ℕ). t ≡ get_or old n t) (sym c.in_ok-held.ensures.cases) c.index.ensures in
+    let lt : n < length old = omega (arith, c.len.ensures, c.loop-next-test.true) in
+    let is : held ≡ get_or old n held = subst (λ (t : List ℕ). t ≡ get_or old n t) (sym c.in_ok-held.ensures.cases) c.at.ensures in
     rw (p.1, p.2) (fails_at_scope (known_data c.args.roles.now) c.args.start.now MOST_SCOPES old n held _ c.loop-next.invariant lt is c.in_err-add_given_by_all.ensures)
 
 pub loop-next-preserved : goal.loop-next-preserved
 loop-next-preserved c =
-    let old : List (List ℕ) = c.loop-next.found.items in
+    let old : List (List ℕ) = c.loop-next.found in
     let n : ℕ = c.loop-next.next in
     let held : List ℕ = c.in_ok-held.held in
-    let lt : n < length old = omega (arith, c.loop-next.found.ok.0) in
-    let is : held ≡ get_or old n held = subst (λ (t : List ℕ). t ≡ get_or old n t) (sym c.in_ok-held.ensures.cases) c.index.ensures in
-    partly_more (known_data c.args.roles.now) c.args.start.now MOST_SCOPES old c.add_given_by_all.new.found.items n held c.loop-next.invariant lt is c.in_ok-add_given_by_all.ensures
+    let lt : n < length old = omega (arith, c.len.ensures, c.loop-next-test.true) in
+    let is : held ≡ get_or old n held = subst (λ (t : List ℕ). t ≡ get_or old n t) (sym c.in_ok-held.ensures.cases) c.at.ensures in
+    partly_more (known_data c.args.roles.now) c.args.start.now MOST_SCOPES old c.add_given_by_all.new.found n held c.loop-next.invariant lt is c.in_ok-add_given_by_all.ensures
 
 pub returns : goal.returns
 returns c =
-    let high : length c.loop-next.found.items ≤ c.loop-next.next = omega (arith, c.loop-next.found.ok.0) in
-    partly_end (known_data c.args.roles.now) c.args.start.now MOST_SCOPES _ c.loop-next.next c.loop-next.invariant high
+    let high : length c.loop-next.found ≤ c.loop-next.next = omega (arith, c.len.ensures, c.loop-next-test.false) in
+    rw c.into_list.ensures (partly_end (known_data c.args.roles.now) c.args.start.now MOST_SCOPES _ c.loop-next.next c.loop-next.invariant high)

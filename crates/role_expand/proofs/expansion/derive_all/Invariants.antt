@@ -5,7 +5,7 @@ use Rattle.role_expand.proofs.ClosureLemmas.{IsPartly}
 use Rattle.role_expand.proofs.expansion.derive_all.Given as goal
 
 abbrev pub invariant-loop-next : goal.invariant-loop-next
-invariant-loop-next l = IsPartly (known_data l.roles) l.start MOST_SCOPES l.found.items l.next
+invariant-loop-next l = IsPartly (known_data l.roles) l.start MOST_SCOPES l.found l.next
 
 abbrev pub decreases-loop-next : goal.decreases-loop-next
 decreases-loop-next l = MOST_SCOPES - l.next
