@@ -3,3 +3,4 @@ pub mod ValueLemmas
 pub mod RuleLemmas
 pub mod RowLemmas
 pub mod FarmLemmas
+pub mod FirstFaultLemmas

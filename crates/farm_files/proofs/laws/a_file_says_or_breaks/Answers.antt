@@ -1,4 +1,4 @@
-use Rattle.farm_files.proofs.FarmLemmas.{says_or_breaks}
+use Rattle.farm_files.proofs.FirstFaultLemmas.{says_or_breaks}
 use Rattle.farm_files.proofs.laws.a_file_says_or_breaks.Goals as goal
 
 pub returns : goal.returns
