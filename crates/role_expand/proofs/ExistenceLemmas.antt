@@ -115,14 +115,14 @@ module _ (most : ℕ) where
             adds_more (IsGrantedByFront held starred.0 role.scopes) (IsGrantedWithStar held (assume ++ role.id) role.scopes) (Gives role held) old
             (adds_by_front held starred.0 role.scopes old forms)
             (λ mid. adds_with_star held (assume ++ role.id) role.scopes mid forms)
-            (Gives-from_front role held (assume ++ role.id) refl starred.0 starred.1)
-            (Gives-from_star role held (assume ++ role.id) refl starred.0 starred.1)
-            (parts_from_Gives role held (assume ++ role.id) refl starred.0 starred.1)
+            (Gives-from_front role role.scopes (λ s. (λ h. h, λ h. h)) held (assume ++ role.id) refl starred.0 starred.1)
+            (Gives-from_star role role.scopes (λ s. (λ h. h, λ h. h)) held (assume ++ role.id) refl starred.0 starred.1)
+            (parts_from_Gives role role.scopes (λ s. (λ h. h, λ h. h)) held (assume ++ role.id) refl starred.0 starred.1)
         | inr plain ↦
             adds_same (IsGrantedAsWritten held (assume ++ role.id) role.scopes) (Gives role held) old
             (adds_as_written held (assume ++ role.id) role.scopes old)
-            (Gives-from_written role held (assume ++ role.id) refl (λ front e. plain (front, e)))
-            (written_from_Gives role held (assume ++ role.id) refl (λ front e. plain (front, e)))
+            (Gives-from_written role role.scopes (λ s. (λ h. h, λ h. h)) held (assume ++ role.id) refl (λ front e. plain (front, e)))
+            (written_from_Gives role role.scopes (λ s. (λ h. h, λ h. h)) held (assume ++ role.id) refl (λ front e. plain (front, e)))
       ]
 
   adds_given : (longest : ℕ) (roles : List RoleData) (held : List ℕ) (old : Scopes) → All (HasRoleForm longest) roles → Adds most (GivenBy roles held) old

@@ -192,7 +192,7 @@ pub(crate) fn add_given(
         (λ _. Gains MOST_SCOPES (Gives (role_data known.now.role) held.now) found.old found.new)
         (FailsToGain MOST_SCOPES (Gives (role_data known.now.role) held.now) found.old) }
 {
-    let scopes = known.role.scopes.as_slice();
+    let scopes = known.distinct.list();
     match known.role.id.as_str().strip_suffix('*') {
         None => add_as_written(found, scopes, held, &known.grant),
         Some(front) => {

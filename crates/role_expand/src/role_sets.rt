@@ -84,16 +84,29 @@ impl RoleSet {
     }
 }
 
-/// The role with the scope that grants it.
+/// The scopes again.
+fn copy_of(alloc: Global, scopes: &[Scope]) -> Result<Vec<Scope>, AllocError>
+    ensures { IfOk result (λ copy. copy.items ≡ scopes.now) }
+{
+    let mut copy = Vec::new(alloc);
+    for scope in scopes {
+        copy.push(scope.clone()?)?;
+    }
+    Ok(copy)
+}
+
+/// The role with the scope that grants it, and its scopes, each once.
 fn know(alloc: Global, role: Role) -> Result<KnownRole, AllocError>
     requires { HasRoleForm LONGEST_SCOPE (role_data role) }
     ensures { IfOk result (λ known. role_data known.role ≡ role_data role) }
 {
     let mut grant = String::from_str(alloc, "assume:")?;
     grant.push_str(role.id.as_str())?;
+    let scopes = copy_of(alloc, &role.scopes)?;
     Ok(KnownRole {
         role,
         grant: Scope::from_printable(grant),
+        distinct: ScopeSet::from_list(scopes),
     })
 }
 

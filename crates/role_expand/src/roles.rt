@@ -1,7 +1,9 @@
-ghost use Rattle.std.specs.Prelude.{◌≡◌, ◌++◌, string_bytes};
+ghost use Rattle.std.specs.Prelude.{◌≡◌, ◌++◌, ℕ, List, string_bytes};
+ghost use Rattle.std.specs.List.{list_any};
+ghost use Rattle.std.specs.Str.{bytes_eq};
 ghost use Rattle.role_expand.specs.Roles.{assume};
 
-use scope_sets::Scope;
+use scope_sets::{Scope, ScopeSet};
 
 /// A role: its id, and the scopes that it lists.
 #[derive(Debug, Drop)]
@@ -10,10 +12,12 @@ pub struct Role {
     pub scopes: Vec<Scope>,
 }
 
-/// A role, with the scope that grants it.
+/// A role, with the scope that grants it, and its scopes, each once.
 #[derive(Debug, Drop)]
 pub(crate) struct KnownRole {
     pub(crate) role: Role,
     pub(crate) grant: Scope,
+    pub(crate) distinct: ScopeSet,
     ghost granted_by: { grant ≡ assume ++ string_bytes role.id },
+    ghost listed: { (s : List ℕ) → list_any (bytes_eq s) distinct ≡ list_any (bytes_eq s) role.scopes.items },
 }
