@@ -49,18 +49,14 @@ pub(crate) trait Called {
 
     /// What the caller's scopes have to hold.
     fn policy(&self, alloc: Global, at: &Scene<'_>) -> Result<Expr, AllocError>
-        requires { (case self.now at.now).absent ≡ None }
         ensures { IfOk result (λ e. view e ≡ (case self.now at.now).policy) };
 
     /// The answer of the first of its own rules that strikes.
     fn rule(&self, alloc: Global, at: &Scene<'_>) -> Result<Option<Answer>, AllocError>
-        requires { (case self.now at.now).absent ≡ None }
         ensures { IfOk result (λ a. a ≡ first_rule (case self.now at.now).rules) };
 
     /// What it does.
     fn deed(&self, alloc: Global, at: &Scene<'_>) -> Result<Done, AllocError>
-        requires there { (case self.now at.now).absent ≡ None }
-        requires unruled { first_rule (case self.now at.now).rules ≡ None }
         ensures change { IfOk result (λ d. (case self.now at.now).deed.change ≡ None) }
         ensures body { IfOk result (λ d. document d.body ≡ (case self.now at.now).deed.body
             (applied at.now.state.contents at.now.moment (case self.now at.now).deed.change)) };
