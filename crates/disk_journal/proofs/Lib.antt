@@ -1,0 +1,7 @@
+pub mod TextLemmas
+pub mod RecordLemmas
+pub mod AppendLemmas
+pub mod FollowLemmas
+pub mod OpenLemmas
+pub mod LawLemmas
+pub mod MendLemmas

@@ -1,0 +1,23 @@
+use Rattle.disk_journal.proofs.MendLemmas.{asked, opened_ready, opened_stops}
+use Rattle.disk_journal.proofs.opening.open_disk.Goals as goal
+
+pub returns-in-Ok-mend-clause-ready : goal.returns-in-Ok-mend-clause-ready
+returns-in-Ok-mend-clause-ready g c tells =
+    let sync = c.in-Ok.ensures.syncs tells in
+    let found = rw c.in-Ok-End.field-0-is at c.in-Ok-End.ensures in
+    let ready = asked (g.D.Disk.contents c.args.disk.now) (g.D.Disk.contents c.sync.new.self) (g.D.Disk.contents c.read_disk.new.disk) (g.D.Disk.contents c.mend.new.disk) c.in-Ok-read_disk.file.items c.deref.result.now c.deref-2.result.now c.in-Ok-End.spans.items c.in-Ok-End.end _ sync sync.done (c.in-Ok-read_disk.ensures.still tells) (c.in-Ok-read_disk.ensures.bytes tells) c.deref.ensures.value c.deref-2.ensures.value found in
+    opened_ready (g.D.Disk.contents c.args.disk.now) (g.D.Disk.contents c.sync.new.self) (g.D.Disk.contents c.read_disk.new.disk) (g.D.Disk.contents c.mend.new.disk) c.in-Ok-read_disk.file.items c.deref.result.now c.deref-2.result.now c.in-Ok-End.spans.items c.in-Ok-End.end _ sync sync.done (c.in-Ok-read_disk.ensures.still tells) (c.in-Ok-read_disk.ensures.bytes tells) c.deref.ensures.value c.deref-2.ensures.value found _ (c.in-Ok-mend.ensures.mends tells ready.0 ready.1)
+
+pub returns-in-Ok-mend-clause-any_moment : goal.returns-in-Ok-mend-clause-any_moment
+returns-in-Ok-mend-clause-any_moment g c tells =
+    let sync = c.in-Ok.ensures.syncs tells in
+    let found = rw c.in-Ok-End.field-0-is at c.in-Ok-End.ensures in
+    let ready = asked (g.D.Disk.contents c.args.disk.now) (g.D.Disk.contents c.sync.new.self) (g.D.Disk.contents c.read_disk.new.disk) (g.D.Disk.contents c.mend.new.disk) c.in-Ok-read_disk.file.items c.deref.result.now c.deref-2.result.now c.in-Ok-End.spans.items c.in-Ok-End.end _ sync sync.done (c.in-Ok-read_disk.ensures.still tells) (c.in-Ok-read_disk.ensures.bytes tells) c.deref.ensures.value c.deref-2.ensures.value found in
+    opened_stops (g.D.Disk.contents c.args.disk.now) (g.D.Disk.contents c.sync.new.self) (g.D.Disk.contents c.read_disk.new.disk) (g.D.Disk.contents c.mend.new.disk) c.in-Ok-read_disk.file.items c.deref.result.now c.deref-2.result.now c.in-Ok-End.spans.items c.in-Ok-End.end _ sync sync.done (c.in-Ok-read_disk.ensures.still tells) (c.in-Ok-read_disk.ensures.bytes tells) c.deref.ensures.value c.deref-2.ensures.value found _ (c.in-Ok-mend.ensures.mends tells ready.0 ready.1)
+
+pub returns-in-Err-mend-clause-any_moment : goal.returns-in-Err-mend-clause-any_moment
+returns-in-Err-mend-clause-any_moment g c tells =
+    let sync = c.in-Ok.ensures.syncs tells in
+    let found = rw c.in-Ok-End.field-0-is at c.in-Ok-End.ensures in
+    let ready = asked (g.D.Disk.contents c.args.disk.now) (g.D.Disk.contents c.sync.new.self) (g.D.Disk.contents c.read_disk.new.disk) (g.D.Disk.contents c.mend.new.disk) c.in-Ok-read_disk.file.items c.deref.result.now c.deref-2.result.now c.in-Ok-End.spans.items c.in-Ok-End.end _ sync sync.done (c.in-Ok-read_disk.ensures.still tells) (c.in-Ok-read_disk.ensures.bytes tells) c.deref.ensures.value c.deref-2.ensures.value found in
+    opened_stops (g.D.Disk.contents c.args.disk.now) (g.D.Disk.contents c.sync.new.self) (g.D.Disk.contents c.read_disk.new.disk) (g.D.Disk.contents c.mend.new.disk) c.in-Ok-read_disk.file.items c.deref.result.now c.deref-2.result.now c.in-Ok-End.spans.items c.in-Ok-End.end _ sync sync.done (c.in-Ok-read_disk.ensures.still tells) (c.in-Ok-read_disk.ensures.bytes tells) c.deref.ensures.value c.deref-2.ensures.value found _ (c.in-Err-mend.ensures.mends tells ready.0 ready.1)

@@ -1,0 +1,9 @@
+pub mod Records
+pub mod Images
+pub mod Keeping
+pub mod Frames
+pub mod Bodies
+pub mod Following
+pub mod Opening
+pub mod Opened
+pub mod Journals

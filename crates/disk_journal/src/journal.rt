@@ -1,0 +1,92 @@
+//! A journal on a disk, and an append to it.
+ghost use Rattle.std.specs.Prelude.{◌≡◌, ◌<◌, ◌≤◌, ◌^◌, ℕ, List, [], ◌∷◌, Option, option_to_list, OnOk, OnErr, IfOk, IfErr};
+ghost use Rattle.causes.specs.Causes.{HasCause, Rose};
+ghost use Rattle.disk_base.specs.Contents.{StopsLeave};
+ghost use Rattle.disk_journal.specs.declared.fault.OpenFault.TheVariants.{Disk, Damaged};
+ghost use Rattle.disk_journal.specs.Records.{Opens, IsDamaged, placed};
+ghost use Rattle.disk_journal.specs.Images.{IsImage, IsWithin};
+ghost use Rattle.disk_journal.specs.Journals.{disk_after};
+ghost use Rattle.disk_journal.specs.Keeping.{IsReady, Keeps};
+
+use crate::bodies::Bodies;
+use crate::fault::{DiskFault, OpenFault};
+use crate::frames::Frame;
+use crate::opening::open_disk;
+use crate::put::put;
+use causes::Failed;
+use disk_base::Disk;
+use std::alloc::Global;
+
+/// An open gate's byte.
+pub(crate) const OPEN: u8 = 0xa5;
+
+/// A journal at work: bodies on a disk, one behind the other.
+#[derive(Drop)]
+pub struct Journal<D: Disk> {
+    pub(crate) disk: D,
+    // The place of the closed gate behind the bodies.
+    pub(crate) end: u64,
+    ghost within: { end < 2 ^ 63 },
+}
+
+impl<D: Disk> Journal<D> {
+    ghost use Rattle.disk_journal.specs.Opened.{opened_bodies, opened_places};
+
+    /// Opens the journal on a disk: syncs, reads all bytes once, follows the open records, and closes the gate behind them where it
+    /// is not. An `Err` hands the disk back.
+    ///
+    /// A stop in it leaves what a stop at its start might have left, or the same bodies, or these and the one pending behind them.
+    pub fn open(alloc: Global, disk: D) -> Result<(Self, Bodies), (OpenFault, D)>
+        ensures bodies { D.tells → IfOk result (λ o. Opens [] (D.contents disk).bytes (opened_bodies o.1)) }
+        ensures places { IfOk result (λ o. opened_places o.1 ≡ placed 0 (opened_bodies o.1)) }
+        ensures ready { D.tells → IfOk result (λ o. IsReady [] (D.contents o.0.disk) o.0.end (opened_bodies o.1)) }
+        ensures damaged { D.tells → (place : ℕ) → IfErr result (λ e. e.0 ≡ Damaged place → IsDamaged [] (D.contents disk).bytes place) }
+        ensures any_moment { D.tells → (bodies : List (List ℕ)) (pending : Option (List ℕ)) → IsImage [] bodies pending (D.contents disk).bytes
+            → StopsLeave (D.contents disk) (D.contents (disk_after (λ j. j.disk) result)) (IsWithin [] bodies (option_to_list pending)) }
+        ensures cause { IfErr result (λ e. e.0 ≡ Disk → Rose (D.faults disk) (D.faults e.1)) }
+        ensures later { D.faults disk ≤ D.faults (disk_after (λ j. j.disk) result) }
+        ensures kept { IfOk result (λ o. D.faults o.0.disk ≡ D.faults disk) }
+    {
+        let mut disk = disk;
+        match open_disk(alloc, &mut disk) {
+            Ok((end, bodies)) => Ok((Journal { disk, end }, bodies)),
+            Err(fault) => Err((fault, disk)),
+        }
+    }
+
+    /// The disk.
+    pub fn into_disk(self) -> D
+        ensures { result ≡ self.disk }
+    {
+        self.disk
+    }
+
+    /// Adds a body, in four calls of the disk: it is written behind the closed gate and synced, and then its gate is opened
+    /// and synced. A stop in any of them leaves the bodies that were there, or these and this one.
+    ///
+    /// A journal that answered `DiskFault` may append no more.
+    pub fn append<F: Frame>(&mut self, frame: &F) -> Result<(), DiskFault>
+        requires ready { D.tells → (bodies : List (List ℕ)) × IsReady [] (D.contents self.old.disk) self.old.end bodies }
+
+        // At `Ok` each image has the body.
+        ensures kept { D.tells → OnOk result (Keeps [] (D.contents self.old.disk) self.old.end (D.contents self.new.disk) self.new.end (F.body frame.now ∷ []) []) }
+
+        // At `Err` it may be there or not.
+        ensures failed { D.tells → OnErr result (Keeps [] (D.contents self.old.disk) self.old.end (D.contents self.new.disk) self.new.end [] (F.body frame.now ∷ [])) }
+
+        // It does not give up by itself.
+        ensures cause { HasCause (D.faults self.old.disk) (D.faults self.new.disk) result }
+    {
+        let text = frame.text();
+        match put(&mut self.disk, self.end + 1, text) {
+            Ok(()) => {}
+            Err(Failed) => return Err(DiskFault),
+        }
+        match put(&mut self.disk, self.end, &[OPEN]) {
+            Ok(()) => {}
+            Err(Failed) => return Err(DiskFault),
+        }
+        self.end += text.len() as u64;
+        Ok(())
+    }
+}

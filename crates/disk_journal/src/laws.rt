@@ -1,0 +1,20 @@
+//! Laws of the definitions. The functions do nothing: their contracts are the laws.
+ghost use Rattle.std.specs.Prelude.{◌≡◌, ℕ, List, [], ◌++◌, take, Option, None};
+ghost use Rattle.disk_journal.specs.Records.{Opens, IsDamaged};
+ghost use Rattle.disk_journal.specs.Images.{IsImage, IsWithin};
+
+/// A law: a file opens to one list of bodies, or is damaged at one place, and not both.
+pub fn files_open_once()
+    ensures bodies { (head file : List ℕ) (bodies others : List (List ℕ)) → Opens head file bodies → Opens head file others → bodies ≡ others }
+    ensures place { (head file : List ℕ) (place other : ℕ) → IsDamaged head file place → IsDamaged head file other → place ≡ other }
+    ensures whole { (head file : List ℕ) (bodies : List (List ℕ)) (place : ℕ) → Opens head file bodies → IsDamaged head file place → ⊥ }
+{}
+
+/// A law: what a stop may leave of a journal opens to its bodies, so it is never damaged, and what a stop in appends or in an opening
+/// leaves of it is such a file again. A file with nothing behind its head is one.
+pub fn images_open()
+    ensures opens { (head file : List ℕ) (bodies : List (List ℕ)) (pending : Option (List ℕ)) → IsImage head bodies pending file → Opens head file bodies }
+    ensures within { (head file : List ℕ) (bodies more : List (List ℕ)) → IsWithin head bodies more file
+        → (count : ℕ) × (pending : Option (List ℕ)) × IsImage head (bodies ++ take count more) pending file }
+    ensures empty { (head : List ℕ) → IsImage head [] None head }
+{}
