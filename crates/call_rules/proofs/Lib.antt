@@ -1,2 +1,0 @@
-pub mod PolicyLemmas
-pub mod PriorityLemmas
