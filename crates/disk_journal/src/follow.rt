@@ -1,5 +1,5 @@
 //! Following the open records of a file.
-ghost use Rattle.std.specs.Prelude.{◌≡◌, ℕ, ◌+◌, ◌<◌, ◌≤◌, ◌^◌, ◌⊎◌, List, [], ◌++◌, ◌∷◌, length, take, drop, map, IfSome, IsNone, IfOk, MatchOption, MatchResult};
+ghost use Rattle.std.specs.Prelude.{◌≡◌, ◌↔◌, IsTrue, ℕ, ◌+◌, ◌<◌, ◌≤◌, ◌^◌, ◌⊎◌, List, [], ◌++◌, ◌∷◌, length, take, drop, map, IfSome, IsNone, IfOk, MatchOption, MatchResult};
 ghost use Rattle.disk_journal.specs.Records.{sized};
 ghost use Rattle.disk_journal.specs.Following.{IsFollowed};
 
@@ -31,13 +31,20 @@ fn behind(file: &[u8], at: usize) -> &[u8]
     &file[at + 1..]
 }
 
+// Whether a gate is open.
+fn is_open(gate: u8) -> bool
+    ensures { IsTrue result ↔ (gate ≡ 165) }
+{
+    gate == OPEN
+}
+
 /// Follows the open records of a file from its start. Each byte of a length and each gate is read once, and no body is.
 pub(crate) fn follow(alloc: Global, file: &[u8]) -> Result<Followed, AllocError>
     ensures { IfOk result (IsFollowed file.now) }
 {
     let mut spans = Vec::new(alloc);
     let mut at = 0;
-    while at < file.len() && file[at] == OPEN {
+    while at < file.len() && is_open(file[at]) {
         match whole(behind(file, at)) {
             Some(size) => {
                 spans.push(Span { gate: at, size })?;

@@ -3,9 +3,6 @@ ghost use Rattle.std.specs.Prelude.{◌≡◌, ℕ, ◌<◌, ◌^◌, ◌++◌, 
 ghost use Rattle.disk_journal.specs.Records.{sized};
 ghost use Rattle.disk_journal.specs.Frames.{framed, IsFrame};
 
-/// The greatest length of a body to frame.
-pub const BODY_LIMIT: usize = 16_777_216;
-
 /// A body ready to be appended: behind its length, and with a closed gate behind it.
 pub trait Frame {
     // The body.

@@ -4,9 +4,12 @@ ghost use Rattle.std.specs.Prelude.{◌≡◌, ◌≤◌, length, IfOk};
 use crate::frames::{Frame, Framed, TickFrame};
 use std::alloc::{AllocError, Global};
 
-/// Frames a body.
+/// The greatest length of a body to frame.
+pub const BODY_LIMIT: usize = 16_777_216;
+
+/// Frames a body of at most `BODY_LIMIT` bytes.
 pub fn frame(alloc: Global, body: &[u8]) -> Result<Framed, AllocError>
-    requires { length body.now ≤ 16777216 }
+    requires { length body.now ≤ BODY_LIMIT }
     ensures { IfOk result (λ f. ⟦<Framed as Frame>⟧.body f ≡ body.now) }
 {
     let mut text = Vec::with_capacity(alloc, body.len() + 5)?;

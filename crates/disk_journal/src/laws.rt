@@ -3,6 +3,8 @@ ghost use Rattle.std.specs.Prelude.{◌≡◌, ℕ, List, [], ◌++◌, take, Op
 ghost use Rattle.disk_journal.specs.Records.{Opens, IsDamaged};
 ghost use Rattle.disk_journal.specs.Images.{IsImage, IsWithin};
 
+use crate::framing::BODY_LIMIT;
+
 /// A law: a file opens to one list of bodies, or is damaged at one place, and not both.
 pub fn files_open_once()
     ensures bodies { (head file : List ℕ) (bodies others : List (List ℕ)) → Opens head file bodies → Opens head file others → bodies ≡ others }
@@ -17,4 +19,9 @@ pub fn images_open()
     ensures within { (head file : List ℕ) (bodies more : List (List ℕ)) → IsWithin head bodies more file
         → (count : ℕ) × (pending : Option (List ℕ)) × IsImage head (bodies ++ take count more) pending file }
     ensures empty { (head : List ℕ) → IsImage head [] None head }
+{}
+
+/// A law: the greatest length of a body to frame is this number.
+pub fn the_body_limit()
+    ensures { BODY_LIMIT ≡ 16777216 }
 {}

@@ -19,10 +19,10 @@ mod spans;
 
 pub use bodies::Bodies;
 pub use fault::{DiskFault, OpenFault};
-pub use frames::{BODY_LIMIT, Frame, Framed, TickFrame};
-pub use framing::{frame, frame_tick};
+pub use frames::{Frame, Framed, TickFrame};
+pub use framing::{BODY_LIMIT, frame, frame_tick};
 pub use journal::Journal;
-pub use laws::{files_open_once, images_open};
+pub use laws::{files_open_once, images_open, the_body_limit};
 
 #[cfg(test)]
 mod tests;

@@ -1,0 +1,2 @@
+pub mod PolicyLemmas
+pub mod PriorityLemmas

@@ -1,0 +1,52 @@
+-- What each call asks of its caller's scopes: the table of calls (this project's profile, formed after the scopes of the Taskcluster reference's queue service).
+use Rattle.std.specs.Prelude.{ℕ, nat_le, List, [], ◌∷◌, ◌++◌, map, codes}
+use Rattle.std.specs.List.{filter}
+use Rattle.farm_text.specs.Slug.{slug_text}
+use Rattle.scope_sets.specs.Expressions.{Expression, one, all_of, any_of, no_members, members_of}
+use Rattle.task_defs.specs.Choices.{priority_name, priorities}
+use Rattle.task_defs.specs.Forms.{queue_name}
+use Rattle.task_defs.specs.declared.choices.Priority.{Priority}
+use Rattle.task_defs.specs.declared.choices.Priority.TheVariants.{Highest, VeryHigh, High, Medium, Low, VeryLow, Lowest}
+use Rattle.task_defs.specs.declared.names.TaskQueue.{TaskQueue}
+use Rattle.task_defs.specs.declared.task_def.TaskDef.{TaskDef}
+use Rattle.call_rules.specs.declared.calls.Call.{Call}
+use Rattle.call_rules.specs.declared.calls.Call.TheVariants.{Ping, Status, CreateTask}
+
+-- the place of a priority, from the highest
+abbrev pub rank : Priority → ℕ
+rank Highest = 0
+rank VeryHigh = 1
+rank High = 2
+rank Medium = 3
+rank Low = 4
+rank VeryLow = 5
+rank Lowest = 6
+
+-- the priorities from the highest down to this one
+abbrev pub from_highest : Priority → List Priority
+from_highest least = filter (λ p. nat_le (rank p) (rank least)) priorities
+
+-- the scope to create tasks of a priority in a queue
+abbrev pub create_scope : TaskQueue → Priority → List ℕ
+create_scope queue p = codes "queue:create-task:" ++ (priority_name p ++ 58 ∷ queue_name queue.provisioner_id queue.worker_type)
+
+-- what createTask asks: each of the task's scopes, its routes, its project, its scheduler, and one of its priority or a higher one in its queue
+abbrev pub create_policy : TaskDef → Expression
+create_policy def =
+    all_of (members_of (
+    map one def.scopes
+    ++ (map (λ route. one (codes "queue:route:" ++ route)) def.routes
+    ++ one (codes "queue:create-task:project:" ++ def.project_id)
+    ∷ one (codes "queue:scheduler-id:" ++ def.scheduler_id)
+    ∷ any_of (members_of (map (λ p. one (create_scope def.queue p)) (from_highest def.priority)))
+    ∷ [])))
+
+-- what status asks
+abbrev pub status_policy : List ℕ → Expression
+status_policy id = one (codes "queue:status:" ++ slug_text id)
+
+-- the table of calls, a line each
+abbrev pub policy : Call → Expression
+policy Ping = all_of no_members
+policy (Status id) = status_policy id
+policy (CreateTask def) = create_policy def.now

@@ -1,0 +1,43 @@
+//! The calls, and what each asks.
+ghost use Rattle.std.specs.Prelude.{◌≡◌, IfOk};
+ghost use Rattle.scope_sets.specs.Expressions.{view};
+ghost use Rattle.call_rules.specs.Policy.{policy, status_policy};
+
+use crate::create::create_policy;
+use crate::scopes::scope_of;
+use farm_text::SlugId;
+use scope_sets::Expr;
+use std::alloc::{AllocError, Global};
+use task_defs::TaskDef;
+
+/// A call, with what its scopes name.
+#[derive(Clone, Copy)]
+pub enum Call<'a> {
+    /// Whether the farm is there.
+    Ping,
+    /// The status of the task with this id.
+    Status(SlugId),
+    /// To make a task of this definition.
+    CreateTask(&'a TaskDef),
+}
+
+/// What the call asks of its caller's scopes.
+pub fn expression(alloc: Global, call: Call<'_>) -> Result<Expr, AllocError>
+    ensures { IfOk result (λ e. view e ≡ policy call.entry) }
+{
+    match call {
+        Call::Ping => Ok(Expr::AllOf(Vec::new(alloc))),
+        Call::Status(id) => status_scope(alloc, id),
+        Call::CreateTask(def) => create_policy(alloc, def),
+    }
+}
+
+/// The scope of a task's status.
+fn status_scope(alloc: Global, id: SlugId) -> Result<Expr, AllocError>
+    ensures { IfOk result (λ e. view e ≡ status_policy id) }
+{
+    // A slugid is printable, since these are the bytes of a version 4 UUID.
+    let _uuid = id.uuid();
+    let name = id.to_text(alloc)?;
+    Ok(Expr::One(scope_of(alloc, "queue:status:", name.as_str())?))
+}

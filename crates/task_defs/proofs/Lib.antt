@@ -1,0 +1,9 @@
+pub mod ValueLemmas
+pub mod TextLemmas
+pub mod KeyLemmas
+pub mod FaultLemmas
+pub mod QueueLemmas
+pub mod TimeLemmas
+pub mod FormLemmas
+pub mod DefinitionLemmas
+pub mod OneLemmas

@@ -1,0 +1,15 @@
+use Rattle.std.proofs.Common.{codes}
+use Rattle.farm_text.specs.Slug.{IsSlug}
+use Rattle.task_defs.specs.Values.{IsTextOf}
+use Rattle.task_defs.proofs.FaultLemmas.{ok_one, err_one}
+use Rattle.task_defs.proofs.stages.group.Goals as goal
+
+pub returns-in-Some : goal.returns-in-Some
+returns-in-Some c =
+    let found = c.in-Some.ensures in
+    (ok_one (IsTextOf IsSlug) _ _ (codes "taskGroupId") c.get.ensures found.0, rw (← c.get.ensures) found.1)
+
+pub returns-in-None : goal.returns-in-None
+returns-in-None c =
+    let ill = c.in-None.ensures in
+    err_one 4 (IsTextOf IsSlug) _ _ (codes "taskGroupId") _ c.get.ensures ill c.at.ensures

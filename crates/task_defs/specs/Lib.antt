@@ -1,0 +1,12 @@
+pub mod Forms
+pub mod Choices
+pub mod Documents
+pub mod Values
+pub mod Codes
+pub mod Faults
+pub mod Keys
+pub mod Lesser
+pub mod Rules
+pub mod Definitions
+pub mod Parts
+pub mod Alone

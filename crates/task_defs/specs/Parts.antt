@@ -1,0 +1,116 @@
+-- What the parts of the reader tell one another: all of it follows from the rules of a definition.
+use Rattle.std.specs.Prelude.{◌≡◌, ℕ, ◌+◌, min, pos, List, map, codes, Option, Some, None}
+use Rattle.farm_text.specs.Slug.{slug_text}
+use Rattle.farm_text.specs.Moment.{IsMomentText}
+use Rattle.farm_text.specs.DateTime.{IsDateTime}
+use Rattle.task_defs.specs.Forms.{queue_name}
+use Rattle.task_defs.specs.Choices.{priority_name, requires_name}
+use Rattle.task_defs.specs.Faults.{Holds}
+use Rattle.task_defs.specs.Keys.{KeyBreaks}
+use Rattle.task_defs.specs.Rules.{metadata_doc, QueueBreaks, NameBreaks, GroupBreaks, DependenciesBreak, RequiresBreaks, RoutesBreak, PriorityBreaks, RetriesBreak, MomentBreaks, DeadlineBreaks, ExpiresBreaks, ScopesBreak, MetadataBreaks}
+use Rattle.task_defs.specs.Definitions.{text_list, IsDefinition}
+use Rattle.task_defs.specs.declared.task_def.TaskDef.{TaskDef}
+use Rattle.farm_text.specs.Document.{Document, text, whole, object, Members, no_members, put}
+
+-- the document is the text of this moment, and of no other
+pub record IsOnlyMoment (d : Document) (m : ℕ) : Type 0 where
+  pub said : List ℕ
+  pub is : d ≡ text said
+  pub moment : IsDateTime m said
+  pub only : (n : ℕ) → IsDateTime n said → m ≡ n
+
+-- always
+abbrev pub Everything : Type 0
+Everything = Unit {0}
+
+-- never
+abbrev pub Nothing : Type 0
+Nothing = ⊥
+
+-- a value is the text of this moment, and of no other
+abbrev pub IsOnlyAt : Option Document → ℕ → Type 0
+IsOnlyAt value m = (v : Document) × (value ≡ Some v) × IsOnlyMoment v m
+
+-- when a task expires, as is said or by default
+abbrev pub expires_by : ℕ → Option ℕ → ℕ
+expires_by deadline (Some m) = m
+expires_by deadline None = min (deadline + 31_536_000_000) 253_370_764_799_999
+
+-- ---- the full form, put together
+
+-- with the moments' texts
+abbrev pub with_times : List ℕ → List ℕ → List ℕ → Members
+with_times created deadline expires = put (codes "expires") (text expires) (put (codes "deadline") (text deadline) (put (codes "created") (text created) no_members))
+
+-- the three moments of a definition, by their texts
+pub record HasTimes (def : TaskDef) (ms : Members) : Type 0 where
+  pub created : List ℕ
+  pub deadline : List ℕ
+  pub expires : List ℕ
+  pub created_text : IsMomentText def.created created
+  pub deadline_text : IsMomentText def.deadline deadline
+  pub expires_text : IsMomentText def.expires expires
+  pub is : ms ≡ with_times created deadline expires
+
+-- and with the names
+abbrev pub with_names : TaskDef → Members → Members
+with_names def ms =
+    put (codes "taskGroupId") (text (slug_text def.task_group_id)) (put (codes "schedulerId") (text def.scheduler_id) (put (codes "projectId") (text def.project_id) ms))
+
+-- and with the queue
+abbrev pub with_queue : TaskDef → Members → Members
+with_queue def ms =
+    put (codes "workerType") (text def.queue.worker_type)
+    (put (codes "taskQueueId") (text (queue_name def.queue.provisioner_id def.queue.worker_type)) (put (codes "provisionerId") (text def.queue.provisioner_id) ms))
+
+-- and with the lists
+abbrev pub with_lists : TaskDef → Members → Members
+with_lists def ms =
+    put (codes "scopes") (text_list def.scopes) (put (codes "routes") (text_list def.routes) (put (codes "dependencies") (text_list (map slug_text def.dependencies)) ms))
+
+-- and with the terms
+abbrev pub with_terms : TaskDef → Members → Members
+with_terms def ms =
+    put (codes "retries") (whole (pos def.retries)) (put (codes "requires") (text (requires_name def.requires_)) (put (codes "priority") (text (priority_name def.priority)) ms))
+
+-- and with the maps
+abbrev pub with_maps : TaskDef → Members → Members
+with_maps def ms =
+    put (codes "tags") (object def.tags) (put (codes "payload") (object def.payload) (put (codes "metadata") (metadata_doc def.metadata) (put (codes "extra") (object def.extra) ms)))
+
+-- ---- the rules, part by part
+
+-- rules 1 to 4 hold
+pub record HeadHolds (d : Document) : Type 0 where
+  pub keys : Holds (KeyBreaks d)
+  pub queue : Holds (QueueBreaks d)
+  pub names : Holds (NameBreaks d)
+  pub group : Holds (GroupBreaks d)
+
+-- rules 5 to 9 hold
+pub record TermsHold (d : Document) : Type 0 where
+  pub dependencies : Holds (DependenciesBreak d)
+  pub asked : Holds (RequiresBreaks d)
+  pub routes : Holds (RoutesBreak d)
+  pub priority : Holds (PriorityBreaks d)
+  pub retries : Holds (RetriesBreak d)
+
+-- rules 10 to 12 hold
+pub record SpanHolds (d : Document) : Type 0 where
+  pub moments : Holds (MomentBreaks d)
+  pub deadline : Holds (DeadlineBreaks d)
+  pub expires : Holds (ExpiresBreaks d)
+
+-- rule 13 holds, and 14 but for the length
+pub record RestHolds (d : Document) : Type 0 where
+  pub scopes : Holds (ScopesBreak d)
+  pub metadata : Holds (MetadataBreaks d)
+
+-- rules 1 to 14 hold but for the length, and this is the one definition that the document says
+pub record IsOnlyDefinition (d : Document) (id : List ℕ) (def : TaskDef) : Type 0 where
+  pub head : HeadHolds d
+  pub terms : TermsHold d
+  pub span : SpanHolds d
+  pub rest : RestHolds d
+  pub definition : IsDefinition d id def
+  pub only : (other : TaskDef) → IsDefinition d id other → def ≡ other

@@ -1,0 +1,146 @@
+//! What a definition says of a task in texts: its names, its metadata and its tags.
+ghost use Rattle.std.specs.Prelude.{◌≡◌, Some, codes, IfOk, MatchOption, MatchResult, option_and_then, option_map};
+ghost use Rattle.farm_text.specs.Document.{get};
+ghost use Rattle.farm_text.specs.Doc.{document};
+ghost use Rattle.task_defs.specs.Documents.{text_of};
+ghost use Rattle.task_defs.specs.Values.{text_or, members_or_none};
+ghost use Rattle.task_defs.specs.Keys.{KeyBreaks};
+ghost use Rattle.task_defs.specs.Faults.{Holds, Breaks};
+ghost use Rattle.task_defs.specs.Rules.{NameBreaks, MetadataBreaks, IsMetadata, metadata_doc};
+ghost use Rattle.task_defs.specs.declared.objects.Metadata.{Metadata as AnyMetadata};
+
+use crate::documents::{as_text, same_doc};
+use crate::fault::DefError;
+use crate::keys::value;
+use crate::names::{Identifier, ProjectName};
+use crate::objects::{Metadata, Tags};
+use crate::values;
+use farm_text::{Doc, Entries, Text};
+use std::alloc::{AllocError, Global};
+
+/// Who owns a task, and who schedules it.
+#[derive(Drop)]
+pub(crate) struct Owners {
+    pub(crate) project_id: ProjectName,
+    pub(crate) scheduler_id: Identifier,
+}
+
+/// The project and the scheduler.
+pub(crate) fn read_owners(alloc: Global, doc: &Doc) -> Result<Owners, DefError>
+    ensures { MatchResult result
+        (λ o. Holds (NameBreaks (document doc.now)) × (o.project_id ≡ text_or (codes "none") (get (codes "projectId") (document doc.now)))
+        × (o.scheduler_id ≡ text_or (codes "-") (get (codes "schedulerId") (document doc.now))))
+        (Breaks 3 (NameBreaks (document doc.now))) }
+{
+    let project_id = match values::project(alloc, doc.get("projectId"))? {
+        Some(project) => project,
+        None => return Err(DefError::at(alloc, 3, "projectId")),
+    };
+    match values::scheduler(alloc, doc.get("schedulerId"))? {
+        Some(scheduler_id) => Ok(Owners {
+            project_id,
+            scheduler_id,
+        }),
+        None => Err(DefError::at(alloc, 3, "schedulerId")),
+    }
+}
+
+impl Metadata {
+    /// The four texts as a map.
+    pub fn to_doc(&self, alloc: Global) -> Result<Doc, AllocError>
+        ensures { IfOk result (λ d. document d ≡ metadata_doc self.now) }
+    {
+        Ok(
+            Entries::new(alloc)
+                .with(
+                    alloc,
+                    "description",
+                    Doc::text(alloc, self.description.as_str())?,
+                )?
+                .with(alloc, "name", Doc::text(alloc, self.name.as_str())?)?
+                .with(alloc, "owner", Doc::text(alloc, self.owner.as_str())?)?
+                .with(alloc, "source", Doc::text(alloc, self.source.as_str())?)?
+                .into_doc(),
+        )
+    }
+}
+
+/// The text at a key, if one stands there.
+fn text_at<'a>(doc: &'a Doc, key: &str) -> Option<&'a str>
+    ensures { option_map (λ t. t.now) result ≡ option_and_then text_of (get key.now (document doc.now)) }
+{
+    match doc.get(key) {
+        Some(value) => as_text(value),
+        None => None,
+    }
+}
+
+/// The four texts of a value, or `None` where one is missing.
+fn four_texts(alloc: Global, value: &Doc) -> Result<Option<Metadata>, AllocError>
+    ensures { IfOk result (λ found. MatchOption found (¬ IsMetadata (document value.now))
+        (λ m. (other : AnyMetadata) → document value.now ≡ metadata_doc other → other ≡ m)) }
+{
+    let description = match text_at(value, "description") {
+        Some(text) => text,
+        None => return Ok(None),
+    };
+    let name = match text_at(value, "name") {
+        Some(text) => text,
+        None => return Ok(None),
+    };
+    let owner = match text_at(value, "owner") {
+        Some(text) => text,
+        None => return Ok(None),
+    };
+    let source = match text_at(value, "source") {
+        Some(text) => text,
+        None => return Ok(None),
+    };
+    Ok(Some(Metadata {
+        description: Text::from_str(alloc, description)?,
+        name: Text::from_str(alloc, name)?,
+        owner: Text::from_str(alloc, owner)?,
+        source: Text::from_str(alloc, source)?,
+    }))
+}
+
+/// The metadata that a value is, or `None` where it is none.
+pub(crate) fn read_metadata(alloc: Global, value: &Doc) -> Result<Option<Metadata>, AllocError>
+    ensures { IfOk result (λ found. MatchOption found (¬ IsMetadata (document value.now)) (λ m. document value.now ≡ metadata_doc m)) }
+{
+    let metadata = match four_texts(alloc, value)? {
+        Some(metadata) => metadata,
+        None => return Ok(None),
+    };
+    let whole = metadata.to_doc(alloc)?;
+    if same_doc(value, &whole) {
+        Ok(Some(metadata))
+    } else {
+        Ok(None)
+    }
+}
+
+/// Who made a task and what for, and its tags.
+#[derive(Drop)]
+pub(crate) struct Labels {
+    pub(crate) metadata: Metadata,
+    pub(crate) tags: Tags,
+}
+
+/// The metadata and the tags.
+pub(crate) fn read_labels(alloc: Global, doc: &Doc) -> Result<Labels, DefError>
+    requires { Holds (KeyBreaks (document doc.now)) }
+    ensures { MatchResult result
+        (λ l. Holds (MetadataBreaks (document doc.now)) × (get (codes "metadata") (document doc.now) ≡ Some (metadata_doc l.metadata))
+        × (l.tags ≡ members_or_none (get (codes "tags") (document doc.now))))
+        (Breaks 14 (MetadataBreaks (document doc.now))) }
+{
+    let metadata = match read_metadata(alloc, value(doc, "metadata"))? {
+        Some(metadata) => metadata,
+        None => return Err(DefError::at(alloc, 14, "metadata")),
+    };
+    match values::tags(alloc, doc.get("tags"))? {
+        Some(tags) => Ok(Labels { metadata, tags }),
+        None => Err(DefError::at(alloc, 14, "tags")),
+    }
+}
