@@ -1,5 +1,5 @@
 -- What a disk in memory tells.
-use Rattle.std.specs.Prelude.{◌≡◌, ℕ, ◌+◌, ◌-◌, ◌^◌, min, List, ◌⊎◌, ◌<◌, Contains, reverse, vec_len, vec_capacity}
+use Rattle.std.specs.Prelude.{◌≡◌, ℕ, ◌+◌, ◌-◌, ◌^◌, min, List, ◌⊎◌, ◌<◌, Contains, reverse, vec_len, vec_capacity, Result, OnErr}
 use Rattle.disk_base.specs.declared.memory.MemoryDisk.{MemoryDisk}
 use Rattle.disk_base.specs.Contents.{Contents}
 use Rattle.disk_base.specs.History.{Call}
@@ -45,3 +45,9 @@ IsChosen disk = Contains (failing_calls disk) (call_number disk)
 -- there is no room for a write of n bytes at `at`
 abbrev pub HasNoRoom : MemoryDisk → ℕ → ℕ → Type 0
 HasNoRoom disk at n = (calls_left disk ≡ 0) ⊎ (bytes_left disk < n) ⊎ (greatest_length disk < at + n)
+
+-- a call is counted: the calls that are to fail stay, its number is past, and one that failed is counted as a fault
+pub record CountsCall {T E : Type 0} (old new : MemoryDisk) (result : Result T E) : Type 0 where
+  pub failing : failing_calls new ≡ failing_calls old
+  pub number : call_number new ≡ next_number (call_number old)
+  pub count : OnErr result (memory_faults new ≡ next_number (memory_faults old))

@@ -171,7 +171,7 @@ impl MemoryDisk {
 }
 
 impl Disk for MemoryDisk {
-    ghost use Rattle.disk_base.specs.Memory.{memory_contents, memory_faults, failing_calls, call_number, calls_left, bytes_left, greatest_length, next_number, IsChosen, HasNoRoom};
+    ghost use Rattle.disk_base.specs.Memory.{memory_contents, memory_faults, failing_calls, call_number, calls_left, bytes_left, greatest_length, IsChosen, HasNoRoom, CountsCall};
 
     ghost tells = { Unit {0} };
 
@@ -186,9 +186,7 @@ impl Disk for MemoryDisk {
 
         // It fails just where it was chosen.
         ensures fails { IsErr result ↔ IsChosen self.old }
-        ensures failing { failing_calls self.new ≡ failing_calls self.old }
-        ensures number { call_number self.new ≡ next_number (call_number self.old) }
-        ensures count { OnErr result (memory_faults self.new ≡ next_number (memory_faults self.old)) }
+        ensures counted { CountsCall self.old self.new result }
     {
         let call = self.calls;
         self.calls = call.saturating_add(1);
@@ -210,9 +208,7 @@ impl Disk for MemoryDisk {
         // Where there is room a stop may leave the range in any state, done or not.
         ensures torn { ¬ HasNoRoom self.old at (length bytes.now) → (image : List ℕ)
             → After (Torn at (length bytes.now)) (memory_contents self.old) image → LeftNow (memory_contents self.new) image }
-        ensures failing { failing_calls self.new ≡ failing_calls self.old }
-        ensures number { call_number self.new ≡ next_number (call_number self.old) }
-        ensures count { OnErr result (memory_faults self.new ≡ next_number (memory_faults self.old)) }
+        ensures counted { CountsCall self.old self.new result }
     {
         let call = self.calls;
         self.calls = call.saturating_add(1);
@@ -240,9 +236,7 @@ impl Disk for MemoryDisk {
         // Where there is room a stop may leave any length between, done or not.
         ensures short { ¬ (calls_left self.old ≡ 0) → (image : List ℕ)
             → After (Shortened size) (memory_contents self.old) image → LeftNow (memory_contents self.new) image }
-        ensures failing { failing_calls self.new ≡ failing_calls self.old }
-        ensures number { call_number self.new ≡ next_number (call_number self.old) }
-        ensures count { OnErr result (memory_faults self.new ≡ next_number (memory_faults self.old)) }
+        ensures counted { CountsCall self.old self.new result }
     {
         let call = self.calls;
         self.calls = call.saturating_add(1);
@@ -266,9 +260,7 @@ impl Disk for MemoryDisk {
 
         // It fails just where it was chosen or finds no room to be kept.
         ensures fails { IsErr result ↔ (IsChosen self.old ⊎ (calls_left self.old ≡ 0)) }
-        ensures failing { failing_calls self.new ≡ failing_calls self.old }
-        ensures number { call_number self.new ≡ next_number (call_number self.old) }
-        ensures count { OnErr result (memory_faults self.new ≡ next_number (memory_faults self.old)) }
+        ensures counted { CountsCall self.old self.new result }
     {
         let call = self.calls;
         self.calls = call.saturating_add(1);

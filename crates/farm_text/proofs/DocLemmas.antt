@@ -11,6 +11,7 @@ use Rattle.json.specs.Token.{Token}
 use Rattle.json.specs.Tree.{json_tokens, items_tokens, members_tokens}
 use Rattle.serde_json.specs.Written.{outline, items_outline, members_outline}
 use Rattle.std.specs.Int.{w64}
+use Rattle.std.proofs.lemmas.Bool.Decides.{nat_tests}
 use Rattle.json.specs.Json as json
 use Rattle.json.specs.Lex.{tokens}
 use Rattle.json.specs.Tree as tree
@@ -18,7 +19,7 @@ use Rattle.json.proofs.Printed.Trees.{value-json_tokens}
 use Rattle.serde_json.specs.Data.{Data, number, put as put_data, depth, items_depth, members_depth}
 use Rattle.serde_json.specs.Read.{of_json, read, max_depth}
 use Rattle.serde_json.proofs.Numbers.{number_of-decimal, number_of-negative}
-use Rattle.farm_text.specs.Written.{ReadsBack}
+use Rattle.farm_text.specs.Written.{ReadsBack, IsWhole, AreWhole, MembersWhole}
 use Rattle.farm_text.specs.Document.{null, boolean, whole, text, Items, no_items, item, no_members, Document, array, object, items_of, Members, member, members_of, put, member_at, data_of, items_data, members_data}
 use Rattle.farm_text.specs.Doc.{document, documents, entries_of}
 use Rattle.farm_text.specs.declared.doc.Doc.{Doc, the_lemmas}
@@ -99,6 +100,17 @@ members_data-put k d (member l e ms) = members_data-match_ordering (slice_cmp na
 pub ReadsBack-whole : (z : ℤ) → FitsSigned w64 z → ReadsBack (whole z)
 ReadsBack-whole (pos n) fits = ap (option_map number) (number_of-decimal n (omega (arith, fits)))
 ReadsBack-whole (negsuc n) fits = ap (option_map number) (number_of-negative n (omega (arith, fits)))
+
+-- and so it is no number that is not whole
+pub IsWhole-whole : (z : ℤ) → FitsSigned w64 z → IsWhole (whole z)
+IsWhole-whole (pos n) fits = grind (arith, nat_tests, fits)
+IsWhole-whole (negsuc n) fits = refl
+
+pub AreWhole-item : (d : Document) (ds : Items) → IsWhole d → AreWhole ds → AreWhole (item d ds)
+AreWhole-item d ds is are = λ place. rw is (are (suc place))
+
+pub MembersWhole-member : (k : List ℕ) (d : Document) (ms : Members) → IsWhole d → MembersWhole ms → MembersWhole (member k d ms)
+MembersWhole-member k d ms is are = rw is are
 
 mutual
   depth-outline : (d : Document) → tree.depth (outline (data_of d)) ≡ depth (data_of d)

@@ -6,4 +6,5 @@ pub mod DrawLemmas
 mod PointerLemmas
 mod ReadingLemmas
 mod DateTimeLemmas
+pub mod OneMomentLemmas
 mod DataLemmas

@@ -29,6 +29,12 @@ pub fn written_moments_are_read_back()
         → IsMomentText millis text → IsDateTime millis text }
 {}
 
+/// A text is the date-time of one moment, and what is written of a moment is written of no other.
+pub fn a_text_has_one_moment()
+    ensures read { (m n : ℕ) (text : List ℕ) → IsDateTime m text → IsDateTime n text → m ≡ n }
+    ensures written { (m n : ℕ) (text : List ℕ) → IsMomentText m text → IsMomentText n text → m ≡ n }
+{}
+
 // The moment of a local time, if it lies where moments are read.
 fn moment(days: i32, seconds: u32, thousandths: u32, offset: i32) -> Option<Moment>
     requires seconds { seconds < 86_400 }

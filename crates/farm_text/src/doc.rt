@@ -1,10 +1,10 @@
-ghost use Rattle.std.specs.Prelude.{◌≡◌, ◌≤◌, ◌++◌, OnOk, IfOk, option_map};
+ghost use Rattle.std.specs.Prelude.{◌≡◌, ◌≤◌, [], ◌++◌, OnOk, IfOk, option_map};
 ghost use Rattle.json.specs.Tree.{json_tokens, items_tokens, members_tokens};
 ghost use Rattle.serde_json.specs.Written.{outline, items_outline, members_outline};
 ghost use Rattle.farm_text.specs.Document.{data_of, items_data, members_data, document_text, items_of, members_of, whole, get, text as plain_text};
 ghost use Rattle.farm_text.specs.Doc.{document, documents, entries_of};
-ghost use Rattle.farm_text.specs.Reading.{IsJson};
-ghost use Rattle.farm_text.specs.Written.{ReadsBack, ItemsReadBack, MembersReadBack};
+ghost use Rattle.farm_text.specs.Reading.{IsJson, unwhole};
+ghost use Rattle.farm_text.specs.Written.{ReadsBack, ItemsReadBack, MembersReadBack, IsWhole, AreWhole, MembersWhole};
 ghost use Rattle.serde_json.specs.Data.{depth};
 
 use crate::text::Text;
@@ -42,11 +42,12 @@ impl Doc {
         }
     }
 
-    /// The document as JSON without spaces.
+    /// The document as JSON without spaces. `read` gives it back, and never says that a number in it is not whole.
     pub fn write(&self, alloc: Global) -> Result<Text, AllocError>
         ensures text { IfOk result (λ t. t ≡ document_text (document self.now)) }
         ensures reads_back { IfOk result (λ t. depth (data_of (document self.now)) ≤ 127
             → IsJson t (data_of (document self.now))) }
+        ensures whole { IfOk result (λ _. unwhole (data_of (document self.now)) ≡ []) }
     {
         let mut out = Writer::new(Vec::with_capacity(alloc, 128)?);
         write_value(self, &mut out)?;
@@ -71,6 +72,7 @@ fn write_value(doc: &Doc, out: &mut Writer) -> Result<(), AllocError>
         ≡ out.old.tokens ++ json_tokens (outline (data_of (document doc.now)))) }
     ensures before { out.new.before ≡ out.old.before }
     ensures reads_back { OnOk result (ReadsBack (document doc.now)) }
+    ensures whole { OnOk result (IsWhole (document doc.now)) }
 {
     match doc {
         Doc::Null => out.null(),
@@ -93,6 +95,7 @@ fn write_whole(n: i64, out: &mut Writer) -> Result<(), AllocError>
         ≡ out.old.tokens ++ json_tokens (outline (data_of (whole n)))) }
     ensures before { out.new.before ≡ out.old.before }
     ensures reads_back { ReadsBack (whole n) }
+    ensures whole { IsWhole (whole n) }
 {
     out.i64(n)
 }
@@ -103,6 +106,7 @@ fn write_items(items: &Vec<Doc>, out: &mut Writer) -> Result<(), AllocError>
         ++ items_tokens (items_outline (items_data (items_of (documents items.now.items))))) }
     ensures before { out.new.before ≡ out.old.before }
     ensures reads_back { OnOk result (ItemsReadBack (items_of (documents items.now.items))) }
+    ensures whole { OnOk result (AreWhole (items_of (documents items.now.items))) }
 {
     for item in items {
         write_value(item, out)?;
@@ -116,6 +120,7 @@ fn write_members(members: &BTreeMap<String, Doc>, out: &mut Writer) -> Result<()
         ++ members_tokens (members_outline (members_data (members_of (entries_of members.now.entries))))) }
     ensures before { out.new.before ≡ out.old.before }
     ensures reads_back { OnOk result (MembersReadBack (members_of (entries_of members.now.entries))) }
+    ensures whole { OnOk result (MembersWhole (members_of (entries_of members.now.entries))) }
 {
     for (key, member) in members.iter() {
         out.key(key.as_str())?;

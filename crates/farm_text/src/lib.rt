@@ -15,7 +15,7 @@ mod tests;
 mod text;
 
 pub use clock::{Clock, HostClock, ListClock};
-pub use date_time::{read_moment, written_moments_are_read_back};
+pub use date_time::{a_text_has_one_moment, read_moment, written_moments_are_read_back};
 pub use doc::Doc;
 pub use draws::{Draws, HostDraws, ListDraws};
 pub use entries::Entries;

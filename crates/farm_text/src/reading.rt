@@ -1,5 +1,7 @@
 //! Documents from their JSON text.
 ghost use Rattle.std.specs.Prelude.{◌≡◌, ℕ, ◌≤◌, List, [], ◌∷◌, ◌++◌, Err, IfOk};
+ghost use Rattle.std.specs.BTreeMap.{insert_entry};
+ghost use Rattle.std.specs.String.{string_cmp};
 ghost use Rattle.serde_json.specs.Data.{Data, depth};
 ghost use Rattle.serde_json.specs.View.{view, items_view, members_view};
 ghost use Rattle.farm_text.specs.Document.{Document, data_of, items_data, members_data, items_of, members_of};
@@ -13,7 +15,7 @@ use crate::doc::Doc;
 use crate::pointer::{Part, pointer};
 use crate::text::Text;
 use serde_json::{Map, Value};
-use std::alloc::{AllocError, AllocFailed, Global};
+use std::alloc::{AllocError, Global};
 use std::collections::BTreeMap;
 
 /// Why no document was read.
@@ -92,17 +94,6 @@ impl From<AllocError> for Unread {
     }
 }
 
-impl<T: Drop> From<AllocFailed<T>> for Unread {
-    ghost use Rattle.std.specs.Prelude.{◌≡◌};
-    ghost use Rattle.farm_text.specs.declared.reading.Unread.{Unread};
-
-    ghost from_gives = { λ _ fault. fault ≡ Unread.NoMemory };
-
-    fn from(_error: AllocFailed<T>) -> Unread {
-        Unread::NoMemory
-    }
-}
-
 impl Unread {
     // The same fault, seen one step further out.
     fn under(self, part: Part) -> Unread
@@ -151,7 +142,7 @@ fn whole_items(alloc: Global, items: Vec<Value>) -> Result<Vec<Doc>, Unread>
     let mut docs = Vec::with_capacity(alloc, items.len())?;
     'items: for item in items {
         match whole(alloc, item) {
-            Ok(doc) => docs.push(doc)?,
+            Ok(doc) => keep_item(&mut docs, doc)?,
             Err(unread) => return Err(unread.under(Part::Index(docs.len()))),
         }
     }
@@ -173,9 +164,25 @@ fn whole_members(
     let mut docs = BTreeMap::new(alloc);
     'members: for (key, member) in members {
         match whole(alloc, member) {
-            Ok(doc) => drop(docs.insert(key, doc)?),
+            Ok(doc) => keep_member(&mut docs, key, doc)?,
             Err(unread) => return Err(unread.under(Part::Key(key))),
         }
     }
     Ok(docs)
+}
+
+// Puts a document at the end of the items.
+fn keep_item(docs: &mut Vec<Doc>, doc: Doc) -> Result<(), AllocError>
+    ensures { IfOk result (λ _. docs.new.items ≡ docs.old.items ++ doc ∷ []) }
+{
+    docs.push(doc)?;
+    Ok(())
+}
+
+// Puts a document at its key.
+fn keep_member(docs: &mut BTreeMap<String, Doc>, key: String, doc: Doc) -> Result<(), AllocError>
+    ensures { IfOk result (λ _. docs.new.entries ≡ insert_entry string_cmp docs.old.entries key doc) }
+{
+    drop(docs.insert(key, doc)?);
+    Ok(())
 }

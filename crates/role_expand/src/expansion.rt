@@ -12,7 +12,7 @@ use crate::granting::granting;
 use crate::index::RoleIndex;
 use crate::roles::KnownRole;
 use scope_sets::{LONGEST_SCOPE, Scope, satisfies};
-use std::alloc::{AllocError, AllocFailed, Global};
+use std::alloc::{AllocError, Global};
 
 /// The greatest number of scopes that a start list may expand to.
 pub const MOST_SCOPES: usize = 10_000;
@@ -32,17 +32,6 @@ impl From<AllocError> for ExpandFault {
     ghost from_gives = { λ _ fault. fault ≡ ExpandFault.NoMemory };
 
     fn from(_error: AllocError) -> ExpandFault {
-        ExpandFault::NoMemory
-    }
-}
-
-impl<T: Drop> From<AllocFailed<T>> for ExpandFault {
-    ghost use Rattle.std.specs.Prelude.{◌≡◌};
-    ghost use Rattle.role_expand.specs.declared.expansion.ExpandFault.{ExpandFault};
-
-    ghost from_gives = { λ _ fault. fault ≡ ExpandFault.NoMemory };
-
-    fn from(_error: AllocFailed<T>) -> ExpandFault {
         ExpandFault::NoMemory
     }
 }

@@ -1,10 +1,8 @@
 //! The scopes that are found so far.
-ghost use Rattle.std.specs.Prelude.{◌≡◌, ℕ, ◌<◌, ◌++◌, ◌∷◌, [], ◌↔◌, List, Contains, IsTrue, MatchResult, length, slice_index_or};
-ghost use Rattle.role_expand.specs.declared.expansion.ExpandFault.TheVariants.{NoMemory};
+ghost use Rattle.std.specs.Prelude.{◌≡◌, ℕ, ◌<◌, ◌++◌, ◌∷◌, [], ◌↔◌, List, Contains, IsTrue, IfOk, length, slice_index_or};
 
-use crate::expansion::ExpandFault;
 use scope_sets::Scope;
-use std::alloc::Global;
+use std::alloc::{AllocError, Global};
 use std::collections::BTreeSet;
 use std::marker::Model;
 
@@ -60,16 +58,16 @@ impl Found {
     }
 
     /// Puts a scope at the end.
-    pub(crate) fn push(&mut self, scope: Scope) -> Result<(), ExpandFault>
-        ensures { MatchResult result (λ _. self.new ≡ self.old ++ scope ∷ []) (λ fault. fault ≡ NoMemory) }
+    pub(crate) fn push(&mut self, scope: Scope) -> Result<(), AllocError>
+        ensures { IfOk result (λ _. self.new ≡ self.old ++ scope ∷ []) }
     {
         let copy = scope.clone()?;
         self.list.push(scope)?;
         match self.set.insert(copy) {
             Ok(_) => Ok(()),
-            Err(_) => {
+            Err(full) => {
                 self.list.pop();
-                Err(ExpandFault::NoMemory)
+                Err(AllocError::from(full))
             }
         }
     }

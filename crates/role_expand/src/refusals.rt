@@ -7,7 +7,7 @@ ghost use Rattle.role_expand.specs.Refusals.{IsFirstBadRole, IsFirstRepeat};
 use crate::roles::Role;
 use scope_sets::scopes::is_printable;
 use scope_sets::{LONGEST_SCOPE, Scope};
-use std::alloc::{AllocError, AllocFailed, Global};
+use std::alloc::{AllocError, Global};
 use std::collections::BTreeMap;
 
 /// Why a list of roles is refused: the first of these that strikes.
@@ -29,17 +29,6 @@ impl From<AllocError> for BuildFault {
     ghost from_gives = { λ _ fault. fault ≡ BuildFault.NoMemory };
 
     fn from(_error: AllocError) -> BuildFault {
-        BuildFault::NoMemory
-    }
-}
-
-impl<T: Drop> From<AllocFailed<T>> for BuildFault {
-    ghost use Rattle.std.specs.Prelude.{◌≡◌};
-    ghost use Rattle.role_expand.specs.declared.refusals.BuildFault.{BuildFault};
-
-    ghost from_gives = { λ _ fault. fault ≡ BuildFault.NoMemory };
-
-    fn from(_error: AllocFailed<T>) -> BuildFault {
         BuildFault::NoMemory
     }
 }

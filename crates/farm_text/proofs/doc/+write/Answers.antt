@@ -10,7 +10,8 @@ use Rattle.serde_json.specs.Read.{of_members}
 use Rattle.serde_json.specs.Written.{members_outline}
 use Rattle.farm_text.specs.Document.{members_data}
 use Rattle.farm_text.specs.Doc.{document}
-use Rattle.farm_text.proofs.DocLemmas.{Entry, tokens_of, item_tokens_of, member_tokens_of, members_in, document-List, document-Map, members_data-put, put_last}
+use Rattle.farm_text.specs.Reading.{unwhole_members}
+use Rattle.farm_text.proofs.DocLemmas.{Entry, tokens_of, item_tokens_of, member_tokens_of, members_in, document-List, document-Map, members_data-put, put_last, MembersWhole-member}
 use Rattle.farm_text.proofs.doc.+write.Goals as goal
 
 pub write_value-returns-in_ok-begin_array-in-List-clause-ok : goal.write_value-returns-in_ok-begin_array-in-List-clause-ok
@@ -30,7 +31,7 @@ write_value-returns-in_ok-begin_object-in-Map-clause-ok t c =
 pub write_members-loop-key-preserved : goal.write_members-loop-key-preserved
 write_members-loop-key-preserved t c =
     let l = c.loop-key in
-    let (before, so_far, (done, whole, back)) = l.invariant in
+    let (before, so_far, (done, whole, back), fits) = l.invariant in
     let e : Entry = (c.in-Some.key.now, c.in-Some.member.now) in
     let k = string_bytes e.0 in
     let left = c.next.new.self in
@@ -51,4 +52,5 @@ write_members-loop-key-preserved t c =
             ∙ ap (option_and_then (λ d. of_members (members_outline (members_data (members_in left))) (json.put k d (members_data (members_in done))))) reads
             ∙ ap (of_members (members_outline (members_data (members_in left)))) placed ∙ rest),
       ),
+      λ rest. fits (ap (λ es. unwhole_members (members_data (members_in es))) step ∙ MembersWhole-member k (document e.1) (members_in left) c.in_ok-write_value.ensures.whole rest),
     )

@@ -22,7 +22,7 @@ whole_items-items-preserved t c =
     let d = c.in-Ok.doc in
     let left = into_iter_items c.next.new.self in
     let next : into_iter_items c.items.item-iterator ≡ v ∷ left = grind (arith, common_steps) in
-    let pushed : c.push.new.self.items ≡ c.items.docs.items ++ d ∷ [] = grind (arith, common_steps) in (
+    let pushed : c.keep_item.new.docs.items ≡ c.items.docs.items ++ d ∷ [] = c.in_ok-keep_item-in-Ok.ensures in (
       done ++ v ∷ [],
       all ∙ ap (λ vs. done ++ vs) next ∙ sym (append_assoc done (v ∷ []) left),
       rw pushed (grind (arith, common_steps, len)),
@@ -62,7 +62,7 @@ whole_members-members-preserved t c =
     let next : c.members.key-iterator ≡ e ∷ left = grind (arith, common_steps) in
     let all : c.args.members.entries ≡ done ++ e ∷ left = whole ∙ ap (λ es. done ++ es) next in
     let sorted = rw all at c.into_iter-key-iterator.ensures.into_iter_gives.5 in
-    let entries = c.in_ok-insert-in-Ok.ensures.entries ∙ insert_last c.members.docs.entries done e left d keys sorted in (
+    let entries = c.in_ok-keep_member-in-Ok.ensures ∙ insert_last c.members.docs.entries done e left d keys sorted in (
       done ++ e ∷ [],
       all ∙ sym (append_assoc done (e ∷ []) left),
       rw entries (keys_of-last c.members.docs.entries done e.0 d e.1 keys),

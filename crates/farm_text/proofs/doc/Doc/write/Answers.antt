@@ -21,4 +21,5 @@ returns c =
         subst IsUtf8 (sym bytes) c.into_inner-bytes.ensures.utf8,
         read_tokens d _ (ap tokens bytes ∙ c.into_inner-bytes.ensures.reads_back ∙ written) c.in_ok-write_value.ensures.reads_back shallow,
       );
+      whole = c.in_ok-write_value.ensures.whole;
     }
