@@ -6,6 +6,5 @@ pub mod DrawLemmas
 mod PointerLemmas
 mod ReadingLemmas
 mod DateTimeLemmas
-pub mod CalendarLemmas
 pub mod OneMomentLemmas
 mod DataLemmas

@@ -1,7 +1,6 @@
 pub mod Document
 pub mod Digits
 pub mod Doc
-pub mod Calendar
 pub mod DateTime
 pub mod Draws
 pub mod Entries

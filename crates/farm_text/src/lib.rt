@@ -20,8 +20,7 @@ pub use doc::Doc;
 pub use draws::{Draws, HostDraws, ListDraws};
 pub use entries::Entries;
 pub use moment::{
-    LAST_MOMENT, LAST_TOLD_MOMENT, Moment, moment_texts_are_one, moments_have_texts,
-    the_last_moments, write_moment,
+    LAST_MOMENT, LAST_TOLD_MOMENT, Moment, moment_texts_are_one, the_last_moments, write_moment,
 };
 pub use reading::{ReadFault, a_text_is_of_one_document};
 pub use slug::{SlugId, slugs_are_texts_of_uuids};

@@ -1,6 +1,5 @@
 ghost use Rattle.std.specs.Prelude.{◌≡◌, ℕ, List, ◌+◌, ◌%◌, ◌≤◌, ◌↔◌, min, pos, IsSome, IfSome, IfOk};
 ghost use Rattle.jiff_core.specs.Calendar.{IsCivilDate, days_from_civil};
-ghost use Rattle.farm_text.specs.Calendar.{moment_text};
 ghost use Rattle.farm_text.specs.Moment.{IsMomentText, last_digits};
 ghost use Rattle.farm_text.specs.declared.moment.TheConstants.{LAST_MOMENT, LAST_TOLD_MOMENT};
 
@@ -152,13 +151,6 @@ fn four_digits(n: u16) -> [u8; 4]
 /// A moment has one text.
 pub fn moment_texts_are_one()
     ensures { (millis : ℕ) (a b : List ℕ) → IsMomentText millis a → IsMomentText millis b → a ≡ b }
-{}
-
-/// The text of each moment is the one that the calendar gives, counted out.
-pub fn moments_have_texts()
-    ensures is { (millis : ℕ) → millis ≤ LAST_MOMENT → IsMomentText millis (moment_text millis) }
-    ensures one { (millis : ℕ) (text : List ℕ) → millis ≤ LAST_MOMENT → IsMomentText millis text
-        → text ≡ moment_text millis }
 {}
 
 /// The last moments: what the contracts say of the two constants, they say of these numbers.
