@@ -1,0 +1,4 @@
+mod FieldLemmas
+mod LoopLemmas
+mod PartLemmas
+mod ClaimLemmas
