@@ -28,10 +28,7 @@ pub(crate) fn whole_id(fields: &[u8]) -> Result<SlugId, Unread>
 }
 
 /// The id of a task that is made, and the text of its definition.
-#[tactic(
-    auto,
-    unfolding(crate::specs::Reading::creation_at, crate::specs::Reading::id_at)
-)]
+#[tactic(auto, unfolding(crate::specs::Reading::creation_at, crate::specs::Reading::id_at))]
 pub(crate) fn creation_parts(fields: &[u8]) -> Result<(SlugId, &[u8]), Unread>
     ensures { Gives (λ x. (x.0, x.1.now)) result (all_of (creation_at fields.now)) }
 {
@@ -45,10 +42,7 @@ pub(crate) fn creation_parts(fields: &[u8]) -> Result<(SlugId, &[u8]), Unread>
 }
 
 /// The fields of a reclaim.
-#[tactic(
-    auto,
-    unfolding(crate::specs::Reading::reclaim_at, crate::specs::Reading::id_at, crate::specs::Reading::moment_at)
-)]
+#[tactic(auto, unfolding(crate::specs::Reading::reclaim_at, crate::specs::Reading::id_at, crate::specs::Reading::moment_at))]
 pub(crate) fn reclaim(fields: &[u8]) -> Result<Reclaim, Unread>
     ensures { Gives (λ r. r) result (all_of (reclaim_at fields.now)) }
 {
@@ -68,10 +62,7 @@ pub(crate) fn reclaim(fields: &[u8]) -> Result<Reclaim, Unread>
 }
 
 /// The fields of a resolution.
-#[tactic(
-    auto,
-    unfolding(crate::specs::Reading::resolution_at, crate::specs::Reading::id_at, crate::specs::Reading::report_at)
-)]
+#[tactic(auto, unfolding(crate::specs::Reading::resolution_at, crate::specs::Reading::id_at, crate::specs::Reading::report_at))]
 pub(crate) fn resolution(fields: &[u8]) -> Result<Resolution, Unread>
     ensures { Gives (λ r. r) result (all_of (resolution_at fields.now)) }
 {
@@ -87,10 +78,7 @@ pub(crate) fn resolution(fields: &[u8]) -> Result<Resolution, Unread>
 }
 
 /// The fields of a claim, whatever its worker's texts are.
-#[tactic(
-    auto,
-    unfolding(crate::specs::Reading::claim_at, crate::specs::Reading::moment_at)
-)]
+#[tactic(auto, unfolding(crate::specs::Reading::claim_at, crate::specs::Reading::moment_at))]
 fn claim_parts(alloc: Global, fields: &[u8]) -> Result<(Moment, &[u8], &[u8], RunNames), Unread>
     ensures { Gives (λ x. (x.0, (x.1.now, (x.2.now, x.3)))) result (all_of (claim_at fields.now)) }
 {

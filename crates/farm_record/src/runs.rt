@@ -9,10 +9,7 @@ use crate::unread::Unread;
 use std::alloc::{AllocError, Global};
 
 /// A run's name.
-#[tactic(
-    auto,
-    unfolding(crate::specs::Reading::run_at, crate::specs::Reading::id_at)
-)]
+#[tactic(auto, unfolding(crate::specs::Reading::run_at, crate::specs::Reading::id_at))]
 fn run_of(bytes: &[u8]) -> Result<(RunName, &[u8]), Unread>
     ensures { Gives (λ x. (x.0, x.1.now)) result (run_at bytes.now) }
 {
