@@ -2,3 +2,4 @@ mod FieldLemmas
 mod LoopLemmas
 mod PartLemmas
 mod ClaimLemmas
+mod KindLemmas

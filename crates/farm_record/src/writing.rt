@@ -1,8 +1,8 @@
 //! The records of changes, written.
-ghost use Rattle.std.specs.Prelude.{◌≡◌, ◌++◌, ◌∷◌, [], ℕ, List, length, OnOk, IfOk};
+ghost use Rattle.std.specs.Prelude.{◌≡◌, ◌<◌, ◌++◌, ◌∷◌, [], ℕ, List, length, OnOk, IfOk};
 ghost use Rattle.std.specs.List.{flat_map};
 ghost use Rattle.std.specs.Int.{w32, to_be_bytes};
-ghost use Rattle.farm_record.specs.Fields.{moment_text, sized, run_text, AreRuns, runs_text, IsClaim, claim_text, IsReclaim, reclaim_text, report_number, IsResolution, resolution_text};
+ghost use Rattle.farm_record.specs.Fields.{IsMoment, moment_text, sized, run_text, AreRuns, runs_text, IsClaim, claim_text, IsReclaim, reclaim_text, report_number, IsResolution, resolution_text};
 ghost use Rattle.farm_record.specs.Records.{kind_number, HasFields, IsSpelled, IsRecord, IsSaid, tick_at};
 ghost use Rattle.farm_record.specs.Writing.{IsWrittenText};
 ghost use Rattle.farm_text.specs.Slug.{IsUuid4};
@@ -23,7 +23,8 @@ fn put_id(out: &mut Vec<u8>, id: SlugId) -> Result<(), AllocError>
 
 /// Writes a moment: its milliseconds in eight bytes.
 fn put_moment(out: &mut Vec<u8>, moment: Moment) -> Result<(), AllocError>
-    ensures { OnOk result (out.new.items ≡ out.old.items ++ moment_text moment) }
+    ensures within { IsMoment moment }
+    ensures text { OnOk result (out.new.items ≡ out.old.items ++ moment_text moment) }
 {
     out.extend_from_slice(&moment.millis().to_be_bytes())
 }
@@ -40,7 +41,7 @@ fn put_sized(out: &mut Vec<u8>, text: &[u8]) -> Result<(), AllocError>
 /// Writes a run: its task's id and its number.
 fn put_run(out: &mut Vec<u8>, id: SlugId, run: u8) -> Result<(), AllocError>
     ensures text { OnOk result (out.new.items ≡ out.old.items ++ (id ++ run ∷ [])) }
-    ensures id { IsUuid4 id }
+    ensures run { IsUuid4 id × (run < 256) }
 {
     put_id(out, id)?;
     out.push(run)?;
