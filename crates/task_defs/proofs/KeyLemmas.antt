@@ -30,7 +30,7 @@ at_cases Greater d v rest e = inr e
 tied : (a : List ℕ) → slice_cmp nat_cmp a a ≡ Equal
 tied a = tied_itself nat_list_cmp_total a
 
-bytes_same : (a b : List ℕ) → bytes_eq a b ≡ true → a ≡ b
+pub bytes_same : (a b : List ℕ) → bytes_eq a b ≡ true → a ≡ b
 bytes_same a b h = (bytes_eq-Decides a b).0 h
 
 pub same_key : (a b : List ℕ) → slice_cmp nat_cmp a b ≡ Equal → a ≡ b
@@ -116,7 +116,7 @@ required_rises d = elim (has (codes "workerType") d) as (λ w. rises (required_b
   | false ↦ elim (has (codes "provisionerId") d) as (λ p. rises (required_by false p) ≡ true) [ true ↦ refl | false ↦ refl ]
 ]
 
-or_cases : (a b : Bool) → (a || b) ≡ true → (a ≡ true) ⊎ (b ≡ true)
+pub or_cases : (a b : Bool) → (a || b) ≡ true → (a ≡ true) ⊎ (b ≡ true)
 or_cases true b e = inl refl
 or_cases false b e = inr e
 

@@ -7,3 +7,6 @@ pub mod TimeLemmas
 pub mod FormLemmas
 pub mod DefinitionLemmas
 pub mod OneLemmas
+pub mod IdLemmas
+pub mod FullLemmas
+pub mod SaysLemmas

@@ -3,7 +3,7 @@ ghost use Rattle.std.specs.Prelude.{◌≡◌};
 ghost use Rattle.task_defs.specs.Faults.{Tells};
 
 use farm_text::Text;
-use std::alloc::{AllocError, AllocFailed, Global};
+use std::alloc::{AllocError, Global};
 use std::fmt;
 
 /// A rule that a definition breaks, and the first key, in rising order, that shows it. What is no map at all, and what is too long as a
@@ -79,17 +79,6 @@ impl From<AllocError> for DefError {
     ghost from_gives = { λ _ error. error ≡ DefError.NoMemory };
 
     fn from(_error: AllocError) -> DefError {
-        DefError::NoMemory
-    }
-}
-
-impl<T: Drop> From<AllocFailed<T>> for DefError {
-    ghost use Rattle.std.specs.Prelude.{◌≡◌};
-    ghost use Rattle.task_defs.specs.declared.fault.DefError.{DefError};
-
-    ghost from_gives = { λ _ error. error ≡ DefError.NoMemory };
-
-    fn from(_error: AllocFailed<T>) -> DefError {
         DefError::NoMemory
     }
 }

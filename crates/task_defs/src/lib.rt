@@ -25,7 +25,10 @@ mod values;
 pub use alone::check_alone;
 pub use choices::{Priority, Requires};
 pub use fault::{DefError, DefFault};
-pub use laws::{the_fault_is_one, the_full_form_is_one, the_longest_definition};
+pub use laws::{
+    a_full_form_says_its_definition, equal_full_forms_are_of_equal_definitions, the_fault_is_one,
+    the_full_form_is_one, the_longest_definition,
+};
 pub use lists::{Dependencies, Routes, Scopes};
 pub use names::{Identifier, ProjectName, Route, TaskQueue};
 pub use objects::{Metadata, Object, Tags};
