@@ -3,3 +3,5 @@ mod LoopLemmas
 mod PartLemmas
 mod ClaimLemmas
 mod KindLemmas
+mod DefinitionLemmas
+mod RecordLemmas

@@ -8,10 +8,11 @@ ghost use Rattle.farm_record.specs.Writing.{IsWrittenText};
 ghost use Rattle.farm_text.specs.Slug.{IsUuid4};
 
 use crate::change::{Change, Claim, Creation, Kind, Reclaim, Report, Resolution, RunName};
-use crate::definition::definition_text;
+use crate::definition::full_text;
 use crate::run_names::RunNames;
 use farm_text::{Moment, SlugId};
 use std::alloc::{AllocError, Global};
+use task_defs::a_full_form_says_its_definition;
 
 /// Writes an id: its sixteen bytes.
 fn put_id(out: &mut Vec<u8>, id: SlugId) -> Result<(), AllocError>
@@ -112,7 +113,8 @@ fn put_creation(alloc: Global, out: &mut Vec<u8>, creation: &Creation) -> Result
     ensures { OnOk result (IsUuid4 creation.now.id × ((text : List ℕ) × IsWrittenText creation.now text
         × (out.new.items ≡ out.old.items ++ (creation.now.id ++ sized text)))) }
 {
-    let text = definition_text(alloc, creation)?;
+    a_full_form_says_its_definition();
+    let text = full_text(alloc, &creation.definition)?;
     put_id(out, creation.id)?;
     put_sized(out, text.as_bytes())
 }
