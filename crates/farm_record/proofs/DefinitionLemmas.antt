@@ -1,5 +1,6 @@
 -- Which text a definition has, and what is read of a text.
-use Rattle.std.proofs.Common.{◌≡◌, ℕ, ◌<◌, ◌≤◌, Bool, true, List, [], ◌∷◌, length, map, codes, Option, Some, None, Ok, Err, Result, nat_le, refl, sym, ap, subst, ◌∙◌, arith}
+use Rattle.std.proofs.Common.{◌≡◌, ℕ, ◌<◌, ◌≤◌, Bool, true, List, [], ◌∷◌, length, map, codes, Option, Some, None, Ok, Err, Result, nat_le, refl, sym, ap, subst, ◌∙◌, arith, inl, inr}
+use Rattle.std.proofs.lemmas.Bool.{cases_lt}
 use Rattle.std.proofs.lemmas.Option.{same_Some}
 use Rattle.serde_json.specs.Data.{Data, depth}
 use Rattle.farm_text.specs.Slug.{IsUuid4, slug_text}
@@ -13,6 +14,7 @@ use Rattle.task_defs.specs.Definitions.{IsFullForm, Says, full_form, text_list, 
 use Rattle.task_defs.specs.declared.fault.DefFault.{DefFault}
 use Rattle.task_defs.specs.declared.task_def.TaskDef.{TaskDef}
 use Rattle.task_defs.proofs.FullLemmas.{fit_in, members_nest, texts_nest}
+use Rattle.farm_record.specs.declared.change.Creation.{Creation}
 use Rattle.farm_record.specs.declared.unread.Unread.TheVariants.{NotARecord}
 use Rattle.farm_record.specs.Records.{IsDefinitionText}
 use Rattle.farm_record.specs.Reading.{Reads, Refuses}
@@ -34,12 +36,22 @@ form_shallow : (def : TaskDef) (created deadline expires : List ℕ) → nesting
 form_shallow def created deadline expires extra payload tags =
     omega (arith, extra, payload, tags, texts_small (map slug_text def.dependencies), texts_small def.routes, texts_small def.scopes)
 
-pub shallow : (d : Document) (id : List ℕ) (def : TaskDef) (full : Document) → Says d id def → IsFullForm def full → depth (data_of full) ≤ 127
-shallow d id def full says form =
+pub shallow : (d : Document) (id : List ℕ) (def : TaskDef) (form_doc : Document) → Says d id def → IsFullForm def form_doc → depth (data_of form_doc) ≤ 127
+shallow d id def form_doc says form =
     let holds = says.sound.0 in
     let is = says.definition in
     subst (λ (x : Document). nesting x ≤ 127) (sym form.is) (form_shallow def form.created form.deadline form.expires
     (map_small (codes "extra") d def.extra holds is.extra) (map_small (codes "payload") d def.payload holds is.payload) (map_small (codes "tags") d def.tags holds is.tags))
+
+-- and it is no longer than a definition may be
+pub short : (d : Document) (id : List ℕ) (def : TaskDef) (form_doc : Document) → Says d id def → IsFullForm def form_doc → length (document_text form_doc) ≤ 8388608
+short d id def form_doc says form = elim (cases_lt 8388608 (length (document_text form_doc))) [
+  | inl lt ↦ absurd (says.sound.1.1.1.1.1.1.1.1.1.1.1.1.1.1.0 [] (refl, record { def = def; full = form_doc; definition = says.definition; form = form; long = lt }))
+  | inr le ↦ le
+]
+
+pub short_text : (c : Creation) (text : List ℕ) → IsDefinitionText c text → length text ≤ 8388608
+short_text c text w = subst (λ (t : List ℕ). length t ≤ 8388608) (sym w.spelled) (short w.full c.id c.definition w.full w.says w.form)
 
 -- ---- the laws that these lemmas stand on, each proved by a function with no body
 
@@ -77,7 +89,8 @@ module _ (text id : List ℕ) where
   not_json none = λ def w. none (data_of w.full) w.json
 
   pub not_whole : (path : List ℕ) → (d : Data) × IsJson text d × ((more : List (List ℕ)) × (unwhole d ≡ path ∷ more)) → Refuses IsOf NotARecord
-  not_whole path (d, json, more, some) = λ def w.
+  not_whole path (d, json, told) = λ def w.
+      let (more, some) = told in
       let same : d ≡ data_of w.full = same_Some d (data_of w.full) (sym json.1 ∙ w.json.1) in
       let nothing : path ∷ more ≡ [] = sym some ∙ ap unwhole same ∙ w.whole in absurd cc
 

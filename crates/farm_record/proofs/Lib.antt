@@ -5,3 +5,5 @@ mod ClaimLemmas
 mod KindLemmas
 mod DefinitionLemmas
 mod RecordLemmas
+mod CreateLemmas
+mod LawLemmas

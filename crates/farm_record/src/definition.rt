@@ -1,5 +1,5 @@
 //! The definition of a task that is made, as a text.
-ghost use Rattle.std.specs.Prelude.{◌≡◌, IfOk};
+ghost use Rattle.std.specs.Prelude.{◌≡◌, ◌↔◌, IsTrue, IfOk};
 ghost use Rattle.farm_text.specs.Slug.{IsUuid4};
 ghost use Rattle.farm_record.specs.Records.{IsDefinitionText};
 ghost use Rattle.farm_record.specs.Reading.{Reads};
@@ -44,7 +44,7 @@ pub(crate) fn definition(alloc: Global, id: SlugId, text: &[u8]) -> Result<TaskD
     };
     match full_text(alloc, &def) {
         Ok(full) => {
-            if full.as_bytes() == text {
+            if is_same(full.as_bytes(), text) {
                 Ok(def)
             } else {
                 Err(Unread::NotARecord)
@@ -52,4 +52,11 @@ pub(crate) fn definition(alloc: Global, id: SlugId, text: &[u8]) -> Result<TaskD
         }
         Err(AllocError) => Err(Unread::NoMemory),
     }
+}
+
+/// Whether two texts are the same.
+fn is_same(a: &[u8], b: &[u8]) -> bool
+    ensures { IsTrue result ↔ (a.now ≡ b.now) }
+{
+    a == b
 }

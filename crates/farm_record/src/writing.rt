@@ -116,7 +116,8 @@ fn put_creation(alloc: Global, out: &mut Vec<u8>, creation: &Creation) -> Result
     a_full_form_says_its_definition();
     let text = full_text(alloc, &creation.definition)?;
     put_id(out, creation.id)?;
-    put_sized(out, text.as_bytes())
+    put_sized(out, text.as_bytes())?;
+    Ok(())
 }
 
 /// Writes the fields of a change.
