@@ -7,3 +7,4 @@ mod DefinitionLemmas
 mod RecordLemmas
 mod CreateLemmas
 mod LawLemmas
+mod WriteLemmas

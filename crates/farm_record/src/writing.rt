@@ -2,6 +2,7 @@
 ghost use Rattle.std.specs.Prelude.{◌≡◌, ◌<◌, ◌++◌, ◌∷◌, [], ℕ, List, length, OnOk, IfOk};
 ghost use Rattle.std.specs.List.{flat_map};
 ghost use Rattle.std.specs.Int.{w32, to_be_bytes};
+ghost use Rattle.farm_record.specs.declared.change.Kind.TheVariants as kinds;
 ghost use Rattle.farm_record.specs.Fields.{IsMoment, moment_text, sized, run_text, AreRuns, runs_text, IsClaim, claim_text, IsReclaim, reclaim_text, report_number, IsResolution, resolution_text};
 ghost use Rattle.farm_record.specs.Records.{kind_number, HasFields, IsSpelled, IsRecord, IsSaid, tick_at};
 ghost use Rattle.farm_record.specs.Writing.{IsWrittenText};
@@ -70,7 +71,8 @@ fn put_claim(out: &mut Vec<u8>, claim: &Claim) -> Result<(), AllocError>
     put_moment(out, claim.taken_until)?;
     put_sized(out, claim.worker_group.as_str().as_bytes())?;
     put_sized(out, claim.worker_id.as_str().as_bytes())?;
-    put_runs(out, &claim.runs)
+    put_runs(out, &claim.runs)?;
+    Ok(())
 }
 
 /// Writes the fields of a reclaim.
@@ -110,8 +112,7 @@ fn put_resolution(out: &mut Vec<u8>, resolution: &Resolution) -> Result<(), Allo
 
 /// Writes the fields of a task that is made.
 fn put_creation(alloc: Global, out: &mut Vec<u8>, creation: &Creation) -> Result<(), AllocError>
-    ensures { OnOk result (IsUuid4 creation.now.id × ((text : List ℕ) × IsWrittenText creation.now text
-        × (out.new.items ≡ out.old.items ++ (creation.now.id ++ sized text)))) }
+    ensures { OnOk result ((fields : List ℕ) × HasFields IsWrittenText (kinds.Create creation.now) fields × (out.new.items ≡ out.old.items ++ fields)) }
 {
     a_full_form_says_its_definition();
     let text = full_text(alloc, &creation.definition)?;
