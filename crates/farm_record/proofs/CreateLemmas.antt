@@ -1,5 +1,5 @@
 -- A creation is read where its id is, and its definition's text.
-use Rattle.std.proofs.Common.{◌≡◌, ℕ, ◌^◌, ◌<◌, ◌≤◌, List, ◌++◌, length, Option, Some, None, Ok, Err, Result, refl, sym, ap, subst, ◌∙◌, arith}
+use Rattle.std.proofs.Common.{◌≡◌, ℕ, List, Some, Ok, refl, sym, ap, subst, ◌∙◌, arith}
 use Rattle.std.proofs.lemmas.Option.{some_pair_parts}
 use Rattle.farm_text.specs.Slug.{IsUuid4}
 use Rattle.task_defs.specs.declared.task_def.TaskDef.{TaskDef}
@@ -7,7 +7,6 @@ use Rattle.farm_record.specs.declared.change.Creation.{Creation}
 use Rattle.farm_record.specs.declared.change.Kind.TheVariants as kinds
 use Rattle.farm_record.specs.declared.unread.Unread.{Unread}
 use Rattle.farm_record.specs.declared.unread.Unread.TheVariants.{NotARecord, NoMemory}
-use Rattle.farm_record.specs.Fields.{sized}
 use Rattle.farm_record.specs.Records.{HasFields, IsDefinitionText}
 use Rattle.farm_record.specs.Reading.{Fails, Refuses, Reads, all_of, creation_at, IsKind}
 use Rattle.farm_record.proofs.FieldLemmas.{IsBytes}

@@ -1,6 +1,5 @@
 -- Which kind of change has which number, and what is read of it.
-use Rattle.std.proofs.Common.{◌≡◌, ℕ, ◌<◌, List, [], ◌∷◌, ◌++◌, length, Option, Some, None, Ok, Err, Result, refl, sym, ap, ◌∙◌, arith}
-use Rattle.farm_text.specs.Slug.{IsUuid4}
+use Rattle.std.proofs.Common.{◌≡◌, ℕ, List, Some, Ok, Err, refl, sym, ap, ◌∙◌, arith}
 use Rattle.farm_record.specs.declared.change.Claim.{Claim}
 use Rattle.farm_record.specs.declared.change.Creation.{Creation}
 use Rattle.farm_record.specs.declared.change.Kind.{Kind}
@@ -9,10 +8,9 @@ use Rattle.farm_record.specs.declared.change.Reclaim.{Reclaim}
 use Rattle.farm_record.specs.declared.change.Resolution.{Resolution}
 use Rattle.farm_record.specs.declared.unread.Unread.{Unread}
 use Rattle.farm_record.specs.declared.unread.Unread.TheVariants.{NotARecord, NoMemory}
-use Rattle.farm_record.specs.Fields.{IsReclaim, reclaim_text, IsResolution, resolution_text}
 use Rattle.farm_record.specs.Records.{HasFields, IsDefinitionText}
 use Rattle.farm_record.specs.Reading.{Fails, Refuses, Reads, all_of, id_at, reclaim_at, resolution_at, IsKind}
-use Rattle.farm_record.proofs.FieldLemmas.{IsBytes, Spells, spells_id}
+use Rattle.farm_record.proofs.FieldLemmas.{IsBytes, spells_id}
 use Rattle.farm_record.proofs.PartLemmas.{spells_reclaim, spells_resolution, reads_all}
 
 -- ---- the kind of a number

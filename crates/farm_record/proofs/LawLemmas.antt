@@ -1,5 +1,5 @@
 -- A record is of one change, a change has one record, no record begins another, and each is short.
-use Rattle.std.proofs.Common.{◌≡◌, ℕ, ◌+◌, ◌*◌, ◌^◌, ◌<◌, ◌≤◌, List, [], ◌∷◌, ◌++◌, length, Option, Some, None, refl, sym, ap, subst, ◌∙◌, append_assoc, arith, length-append}
+use Rattle.std.proofs.Common.{◌≡◌, ℕ, ◌+◌, ◌*◌, ◌≤◌, List, [], ◌∷◌, ◌++◌, length, Option, Some, refl, sym, ap, subst, ◌∙◌, append_assoc, arith, length-append}
 use Rattle.std.specs.List.{flat_map, AllByRecursion}
 use Rattle.std.specs.Int.{w32, to_be_bytes}
 use Rattle.std.proofs.lemmas.List.{append-nil}
@@ -18,7 +18,7 @@ use Rattle.farm_record.specs.declared.change.Kind.TheVariants as kinds
 use Rattle.farm_record.specs.declared.change.RunName.{RunName}
 use Rattle.farm_record.specs.Fields.{moment_text, sized, IsRun, run_text, IsClaim, claim_text, report_number}
 use Rattle.farm_record.specs.Records.{kind_number, HasFields, IsDefinitionText, IsRecord}
-use Rattle.farm_record.specs.Reading.{byte_at, moment_at, id_at, claim_at, reclaim_at, resolution_at, creation_at, IsKind}
+use Rattle.farm_record.specs.Reading.{byte_at, moment_at, id_at, claim_at, reclaim_at, resolution_at, creation_at}
 use Rattle.farm_record.proofs.FieldLemmas.{Spells, spells_moment, spells_id}
 use Rattle.farm_record.proofs.PartLemmas.{spells_claim, spells_reclaim, spells_resolution, spells_creation}
 use Rattle.farm_record.proofs.KindLemmas.{only_create, only_schedule, only_rerun, only_cancel, only_claim, only_reclaim, only_resolve}

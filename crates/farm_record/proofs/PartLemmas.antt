@@ -1,5 +1,5 @@
 -- What is read of each kind's fields is what was written of them.
-use Rattle.std.proofs.Common.{◌≡◌, ℕ, zero, suc, ◌+◌, ◌^◌, ◌<◌, ◌≤◌, Bool, true, false, cond, eqb, leb, List, [], ◌∷◌, ◌++◌, length, Option, Some, None, Ok, Err, Result, refl, sym, ap, subst, ◌∙◌, append_assoc, arith}
+use Rattle.std.proofs.Common.{◌≡◌, ℕ, zero, suc, ◌^◌, ◌<◌, ◌≤◌, Bool, true, false, cond, eqb, leb, List, [], ◌∷◌, ◌++◌, length, Option, Some, None, Ok, Err, Result, refl, sym, ap, subst, ◌∙◌, append_assoc, arith}
 use Rattle.std.specs.Prelude.{◌&&◌}
 use Rattle.std.specs.List.{flat_map, AllByRecursion}
 use Rattle.std.specs.Int.{w32, to_be_bytes}
@@ -16,8 +16,8 @@ use Rattle.farm_record.specs.declared.change.RunName.{RunName}
 use Rattle.farm_record.specs.declared.unread.Unread.{Unread}
 use Rattle.farm_record.specs.declared.unread.Unread.TheVariants.{NotARecord, NoMemory}
 use Rattle.farm_record.specs.Fields.{IsMoment, moment_text, sized, IsRun, run_text, AreRuns, runs_text, IsReclaim, reclaim_text, report_number, IsResolution, resolution_text}
-use Rattle.farm_record.specs.Reading.{◌>>=◌, Gives, Reads, pair_at, map_at, all_of, byte_at, number_at, moment_at, id_at, sized_at, run_at, names_at, runs_at, claim_at, reclaim_at, report_in, report_at, resolution_at, creation_at}
-use Rattle.farm_record.proofs.FieldLemmas.{IsBytes, bind_some, guard_yes, guard_none, some_is, Takes, Spells, Spells-pair, Spells-map, wide32, spells_byte, spells_number, spells_moment, spells_sized, spells_id}
+use Rattle.farm_record.specs.Reading.{◌>>=◌, Gives, Reads, pair_at, all_of, byte_at, number_at, moment_at, id_at, sized_at, run_at, names_at, runs_at, claim_at, reclaim_at, report_in, report_at, resolution_at, creation_at}
+use Rattle.farm_record.proofs.FieldLemmas.{IsBytes, bind_some, guard_yes, some_is, Takes, Spells, Spells-pair, Spells-map, wide32, spells_byte, spells_number, spells_moment, spells_sized, spells_id}
 
 -- ---- runs
 

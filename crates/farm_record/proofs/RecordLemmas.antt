@@ -1,5 +1,5 @@
 -- A record is read where its number, its moment and its fields are.
-use Rattle.std.proofs.Common.{◌≡◌, ℕ, ◌^◌, ◌<◌, ◌≤◌, List, [], ◌∷◌, ◌++◌, length, Option, Some, None, Ok, Err, Result, refl, sym, ap, subst, ◌∙◌, arith}
+use Rattle.std.proofs.Common.{◌≡◌, ℕ, List, ◌∷◌, ◌++◌, Some, None, Ok, refl, sym, ap, subst, ◌∙◌}
 use Rattle.std.specs.Prelude.{◌↔◌}
 use Rattle.std.specs.Int.{w64}
 use Rattle.std.proofs.lemmas.Option.{some_pair_parts, same_Some}
@@ -7,9 +7,9 @@ use Rattle.farm_record.specs.declared.change.Change.{Change}
 use Rattle.farm_record.specs.declared.change.Kind.{Kind}
 use Rattle.farm_record.specs.declared.unread.Unread.{Unread}
 use Rattle.farm_record.specs.declared.unread.Unread.TheVariants.{NotARecord, NoMemory}
-use Rattle.farm_record.specs.Fields.{IsMoment, moment_text}
+use Rattle.farm_record.specs.Fields.{moment_text}
 use Rattle.farm_record.specs.Records.{kind_number, HasFields, IsRecord, IsDefinitionText}
-use Rattle.farm_record.specs.Reading.{◌>>=◌, Fails, Refuses, Reads, byte_at, number_at, moment_in, moment_at, IsKind}
+use Rattle.farm_record.specs.Reading.{Fails, Refuses, Reads, byte_at, number_at, moment_in, moment_at, IsKind}
 use Rattle.farm_record.proofs.FieldLemmas.{IsBytes, spells_byte, spells_moment}
 use Rattle.farm_record.proofs.PartLemmas.{none_is}
 

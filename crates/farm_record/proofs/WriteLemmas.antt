@@ -1,6 +1,5 @@
 -- What is written, joined.
 use Rattle.std.proofs.Common.{◌≡◌, ℕ, List, [], ◌∷◌, ◌++◌, ap, ◌∙◌, append_assoc}
-use Rattle.farm_record.specs.declared.change.Creation.{Creation}
 use Rattle.farm_record.specs.declared.change.Kind.{Kind}
 use Rattle.farm_record.specs.declared.change.Kind.TheVariants as kinds
 use Rattle.farm_record.specs.Records.{HasFields, IsFullText, IsDefinitionText, IsSaid}

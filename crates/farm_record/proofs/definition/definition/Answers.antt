@@ -1,4 +1,4 @@
-use Rattle.std.proofs.Common.{◌≡◌, ◌∙◌, sym, ap, subst, Err, refl}
+use Rattle.std.proofs.Common.{◌∙◌, sym, ap, subst, Err}
 use Rattle.std.proofs.lemmas.Bool.{false≢true}
 use Rattle.farm_text.specs.Doc.{document}
 use Rattle.task_defs.specs.Faults.{Refuses}

@@ -1,4 +1,4 @@
-use Rattle.std.proofs.Common.{◌≡◌, subst}
+use Rattle.std.proofs.Common.{subst}
 use Rattle.std.specs.Str.{IsUtf8}
 use Rattle.farm_record.proofs.ClaimLemmas.{identifier_utf8}
 use Rattle.farm_record.proofs.parts.identifier.Goals as goal

@@ -1,4 +1,4 @@
-use Rattle.std.proofs.Common.{◌≡◌, ◌-◌, ◌+◌, length}
+use Rattle.std.proofs.Common.{◌≡◌, ◌-◌, length}
 use Rattle.farm_record.specs.Reading.{names_at}
 use Rattle.farm_record.proofs.LoopLemmas.{with_front}
 use Rattle.farm_record.proofs.runs.names_of.Given as goal

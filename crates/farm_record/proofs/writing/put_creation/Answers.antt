@@ -1,4 +1,4 @@
-use Rattle.std.proofs.Common.{◌≡◌, ◌++◌, List, ℕ, refl, ap, ◌∙◌, append_assoc}
+use Rattle.std.proofs.Common.{◌++◌, List, ℕ, refl, ap, ◌∙◌, append_assoc}
 use Rattle.farm_record.specs.Fields.{sized}
 use Rattle.farm_record.proofs.DefinitionLemmas.{written}
 use Rattle.farm_record.proofs.writing.put_creation.Goals as goal
