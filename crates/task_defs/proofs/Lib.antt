@@ -10,3 +10,4 @@ pub mod OneLemmas
 pub mod IdLemmas
 pub mod FullLemmas
 pub mod SaysLemmas
+pub mod LengthLemmas

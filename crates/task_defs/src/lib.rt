@@ -9,6 +9,7 @@ mod full_form;
 mod keys;
 mod labels;
 mod laws;
+mod lengths;
 mod lists;
 mod names;
 mod objects;

@@ -15,6 +15,7 @@ use crate::choices::{Priority, Requires};
 use crate::fault::DefError;
 use crate::keys::check_keys;
 use crate::labels::{read_labels, read_owners};
+use crate::lengths::most_bytes;
 use crate::lists::{Dependencies, Routes, Scopes};
 use crate::names::{Identifier, ProjectName, TaskQueue};
 use crate::objects::{Metadata, Object, Tags};
@@ -75,8 +76,16 @@ fn read_head(alloc: Global, doc: &Doc, id: SlugId) -> Result<Head, DefError>
 fn is_too_long(alloc: Global, def: &TaskDef) -> Result<bool, AllocError>
     ensures { IfOk result (λ long. (full : Document) × IsFullForm def.now full × (IsTrue long ↔ (LONGEST_DEFINITION < length (document_text full)))) }
 {
-    let text = def.doc(alloc)?.write(alloc)?;
-    Ok(text.len() > LONGEST_DEFINITION)
+    let full = def.doc(alloc)?;
+    // What is surely short is not written.
+    Ok(most_bytes(&full) > LONGEST_DEFINITION && is_long(alloc, &full)?)
+}
+
+/// Whether the text of a document has more bytes than a definition may have.
+fn is_long(alloc: Global, doc: &Doc) -> Result<bool, AllocError>
+    ensures { IfOk result (λ long. IsTrue long ↔ (LONGEST_DEFINITION < length (document_text (document doc.now)))) }
+{
+    Ok(doc.write(alloc)?.len() > LONGEST_DEFINITION)
 }
 
 /// What the task waits for, where it is told, and how it is run.

@@ -1,8 +1,7 @@
 //! Definitions that were worked by hand, in full form or with the first rule that they break.
 use crate::{DefError, TaskDef, check_alone, read_task, same};
 use farm_text::{Doc, SlugId};
-use std::alloc::Global;
-use std::test::Fail;
+use std::alloc::{AllocError, Global};
 
 mod limits;
 
@@ -16,87 +15,55 @@ const PLAIN: &str =
 const PLAIN_IN_FULL: &str =
     r#"{"created":"2024-01-01T00:00:00.000Z","deadline":"2024-01-02T00:00:00.000Z","dependencies":[],"expires":"2025-01-01T00:00:00.000Z","extra":{},"metadata":{"description":"d","name":"n","owner":"o@example.com","source":"https://example.com/"},"payload":{},"priority":"lowest","projectId":"none","provisionerId":"prov","requires":"all-completed","retries":5,"routes":[],"schedulerId":"-","scopes":[],"tags":{},"taskGroupId":"AAAAAAAAQACAAAAAAAAAAA","taskQueueId":"prov/wt","workerType":"wt"}"#;
 
-fn document(alloc: Global, text: &str) -> Result<Doc, Fail> {
-    Ok(Doc::read(alloc, text.as_bytes()).map_err(|_| "no document")?)
-}
-
-/// What a document says for the first task.
-fn read(alloc: Global, doc: &Doc) -> Result<Result<TaskDef, DefError>, Fail> {
-    let id = SlugId::read(FIRST_TASK).ok_or("no slugid")?;
-    Ok(read_task(alloc, doc, id))
-}
-
-/// The text of the smallest definition with these members more.
-fn with_members(alloc: Global, members: &str) -> Result<String, Fail> {
-    Ok(format!(in alloc; "{PLAIN}{members}}}")?)
-}
-
-/// The definition that the smallest one with these members more says.
-fn definition(alloc: Global, members: &str) -> Result<TaskDef, Fail> {
-    let text = with_members(alloc, members)?;
-    let doc = document(alloc, text.as_str())?;
-    Ok(read(alloc, &doc)?.map_err(|_| "no definition")?)
-}
-
-/// The rule that a document breaks, and the key that shows it, with a space between them.
-fn told(alloc: Global, doc: &Doc) -> Result<String, Fail> {
-    match read(alloc, doc)? {
-        Ok(_) => Err(Fail::from("it is a definition")),
-        Err(DefError::Fault(fault)) => Ok(format!(in alloc;
-            "{} {}",
-            fault.rule,
-            fault.key.as_str()
-        )?),
-        Err(DefError::NoMemory) => Err(Fail::from("no memory")),
+/// A row's definition: the smallest one with these members more, or the text itself where it does not begin with a comma.
+fn whole(alloc: Global, row: &str) -> Result<String, AllocError> {
+    if row.is_empty() || row.starts_with(',') {
+        format!(in alloc; "{PLAIN}{row}}}")
+    } else {
+        String::from_str(alloc, row)
     }
 }
 
-#[test]
-fn the_plain_definition_in_full_form(rt: HostRuntime) -> Result<(), Fail> {
-    let alloc = rt.alloc();
-    let def = definition(alloc, "")?;
-    let full = def.doc(alloc)?;
-    assert_eq!(rt; full.write(alloc)?.as_str(), PLAIN_IN_FULL);
-    let again = read(alloc, &full)?.map_err(|_| "no definition")?;
-    assert!(rt; same(&def, &again));
-    Ok(())
+/// The definition that a row says for the first task.
+fn read(alloc: Global, row: &str) -> Result<TaskDef, DefError> {
+    let text = whole(alloc, row)?;
+    match Doc::read(alloc, text.as_str().as_bytes()) {
+        Ok(doc) => match SlugId::read(FIRST_TASK) {
+            Some(id) => read_task(alloc, &doc, id),
+            None => Err(DefError::NoMemory),
+        },
+        Err(_) => Err(DefError::NoMemory),
+    }
 }
 
-/// A key of the full form, its value there, and the members that the smallest definition gains for it.
-const SAID: &str = r#"priority|"lowest"|,"priority":"normal"
-priority|"very-high"|,"priority":"very-high"
-requires|"all-resolved"|,"requires":"all-resolved"
-retries|0|,"retries":0
-retries|49|,"retries":49
-extra|{"a":{},"b":[1]}|,"extra":{"b":[1],"a":{}}
-tags|{"os":"linux"}|,"tags":{"os":"linux"}
-routes|["b","a b"]|,"routes":["b","a b"]
-scopes|["b:*","a"]|,"scopes":["b:*","a"]
-projectId|"a.b/c"|,"projectId":"a.b/c"
-schedulerId|"s_1-"|,"schedulerId":"s_1-"
-dependencies|["AAAAAAAAQACAAAAAAAAAAw"]|,"dependencies":["AAAAAAAAQACAAAAAAAAAAw"]
-taskGroupId|"AAAAAAAAQACAAAAAAAAAAQ"|,"taskGroupId":"AAAAAAAAQACAAAAAAAAAAQ"
-taskQueueId|"prov/wt"|,"provisionerId":"prov","workerType":"wt"
-created|"2024-01-01T00:00:00.000Z"|,"created":"2024-01-01T01:00:00.0009+01:00"
-expires|"2025-01-05T00:00:00.000Z"|,"deadline":"2024-01-06T00:00:00Z"
-expires|"2024-01-02T00:00:00.001Z"|,"expires":"2024-01-02T00:00:00.001Z"
-expires|"9998-12-31T23:59:59.999Z"|,"created":"9998-06-01T00:00:00Z","deadline":"9998-06-02T00:00:00Z"
-retries|7|,"retries":3,"retries":7
-created|"2023-12-28T00:00:00.000Z"|,"created":"2023-12-28T00:00:00Z"
-created|"2024-01-01T23:00:00.000Z"|,"created":"2024-01-01T18:00:00-05:00""#;
-
-/// What each key says, in full form.
-#[test]
-fn what_members_say(rt: HostRuntime) -> Result<(), Fail> {
-    let alloc = rt.alloc();
-    for row in SAID.split('\n') {
-        let (key, rest) = row.split_once('|').ok_or("no key")?;
-        let (value, members) = rest.split_once('|').ok_or("no members")?;
-        let full = definition(alloc, members)?.doc(alloc)?;
-        let found = full.get(key).ok_or("no value")?.write(alloc)?;
-        assert_eq!(rt; found.as_str(), value, "{members}");
+/// The rule that a row breaks and the key that shows it, with a space between them, or `ok`.
+fn outcome(alloc: Global, row: &str) -> Result<String, AllocError> {
+    match read(alloc, row) {
+        Ok(_) => String::from_str(alloc, "ok"),
+        Err(DefError::Fault(fault)) => {
+            format!(in alloc; "{} {}", fault.rule, fault.key.as_str())
+        }
+        Err(DefError::NoMemory) => String::from_str(alloc, "no document"),
     }
-    Ok(())
+}
+
+/// Whether a row has this outcome.
+fn has_outcome(alloc: Global, wanted: &str, row: &str) -> bool {
+    match outcome(alloc, row) {
+        Ok(found) => found.as_str() == wanted,
+        Err(_) => false,
+    }
+}
+
+/// The first of some rows whose outcome is not the one that it begins with, or `none`.
+fn first_other(alloc: Global, rows: &str) -> &str {
+    for row in rows.split('\n') {
+        match row.split_once('|') {
+            Some((wanted, members)) if has_outcome(alloc, wanted, members) => {}
+            _ => return row,
+        }
+    }
+    "none"
 }
 
 /// The rule and key, and the document that is refused for them.
@@ -110,16 +77,9 @@ const DOCUMENTS: &str = r#"1 |[]
 1 payload|{"created":"","deadline":"","metadata":{}}
 1 taskQueueId|{"created":"","deadline":"","metadata":{},"payload":{}}"#;
 
-/// The rule and key that are told of whole documents.
 #[test]
-fn documents_that_are_refused(rt: HostRuntime) -> Result<(), Fail> {
-    let alloc = rt.alloc();
-    for row in DOCUMENTS.split('\n') {
-        let (fault, text) = row.split_once('|').ok_or("no document")?;
-        let doc = document(alloc, text)?;
-        assert_eq!(rt; told(alloc, &doc)?.as_str(), fault, "{text}");
-    }
-    Ok(())
+fn documents_that_are_refused(rt: HostRuntime) {
+    assert_eq!(rt; first_other(rt.alloc(), DOCUMENTS), "none");
 }
 
 /// The rule and key, and the members that the smallest definition gains for them: the first four rules.
@@ -149,6 +109,11 @@ const NAMES: &str = r#"1 aaa|,"aaa":1,"zzz":1
 1 extra|,"extra":null
 1 taskGroupId|,"taskGroupId":1,"taskQueueId":"x""#;
 
+#[test]
+fn names_that_are_refused(rt: HostRuntime) {
+    assert_eq!(rt; first_other(rt.alloc(), NAMES), "none");
+}
+
 /// The same for rules 5 to 9.
 const TERMS: &str = r#"5 dependencies|,"dependencies":["x"]
 5 dependencies|,"dependencies":["AAAAAAAAQACAAAAAAAAAAw","AAAAAAAAQACAAAAAAAAAAw"]
@@ -164,6 +129,11 @@ const TERMS: &str = r#"5 dependencies|,"dependencies":["x"]
 9 retries|,"retries":50
 9 retries|,"retries":-1
 9 retries|,"retries":50,"created":"""#;
+
+#[test]
+fn terms_that_are_refused(rt: HostRuntime) {
+    assert_eq!(rt; first_other(rt.alloc(), TERMS), "none");
+}
 
 /// The same for rules 10 to 14.
 const MOMENTS_AND_LABELS: &str = r#"10 created|,"created":"","deadline":""
@@ -187,36 +157,64 @@ const MOMENTS_AND_LABELS: &str = r#"10 created|,"created":"","deadline":""
 11 deadline|,"created":"2023-12-27T23:59:59.999Z"
 14 tags|,"tags":{"a":null}"#;
 
-/// The first row of which another rule or key is told than it has, with what is told; the empty text where there is none.
-fn first_other(alloc: Global, rows: &str) -> Result<String, Fail> {
-    for row in rows.split('\n') {
-        let (fault, members) = row.split_once('|').ok_or("no members")?;
-        let text = with_members(alloc, members)?;
-        let doc = document(alloc, text.as_str())?;
-        let found = told(alloc, &doc)?;
-        if found.as_str() != fault {
-            return Ok(format!(in alloc; "{row}: {}", found.as_str())?);
+#[test]
+fn moments_and_labels_that_are_refused(rt: HostRuntime) {
+    assert_eq!(rt; first_other(rt.alloc(), MOMENTS_AND_LABELS), "none");
+}
+
+/// The full form of a definition, as text.
+fn full_text(alloc: Global, def: &TaskDef) -> Result<String, AllocError> {
+    Ok(def.doc(alloc)?.write(alloc)?.into_string())
+}
+
+/// Whether the full form of what a row says has this text in it.
+fn says(alloc: Global, row: &str, part: &str) -> bool {
+    match read(alloc, row) {
+        Ok(def) => match full_text(alloc, &def) {
+            Ok(text) => text.as_str().contains(part),
+            Err(_) => false,
+        },
+        Err(_) => false,
+    }
+}
+
+#[test]
+fn the_plain_definition_in_full_form(rt: HostRuntime) {
+    assert!(rt; says(rt.alloc(), "", PLAIN_IN_FULL));
+    assert!(rt; says(rt.alloc(), PLAIN_IN_FULL, PLAIN_IN_FULL));
+}
+
+/// A member of the full form, and the members that the smallest definition gains for it.
+const SAID: &str = r#""priority":"lowest"|,"priority":"normal"
+"priority":"very-high"|,"priority":"very-high"
+"requires":"all-resolved"|,"requires":"all-resolved"
+"retries":0|,"retries":0
+"retries":49|,"retries":49
+"extra":{"a":{},"b":[1]}|,"extra":{"b":[1],"a":{}}
+"tags":{"os":"linux"}|,"tags":{"os":"linux"}
+"routes":["b","a b"]|,"routes":["b","a b"]
+"scopes":["b:*","a"]|,"scopes":["b:*","a"]
+"projectId":"a.b/c"|,"projectId":"a.b/c"
+"schedulerId":"s_1-"|,"schedulerId":"s_1-"
+"dependencies":["AAAAAAAAQACAAAAAAAAAAw"]|,"dependencies":["AAAAAAAAQACAAAAAAAAAAw"]
+"taskGroupId":"AAAAAAAAQACAAAAAAAAAAQ"|,"taskGroupId":"AAAAAAAAQACAAAAAAAAAAQ"
+"taskQueueId":"prov/wt"|,"provisionerId":"prov","workerType":"wt"
+"created":"2024-01-01T00:00:00.000Z"|,"created":"2024-01-01T01:00:00.0009+01:00"
+"expires":"2025-01-05T00:00:00.000Z"|,"deadline":"2024-01-06T00:00:00Z"
+"expires":"2024-01-02T00:00:00.001Z"|,"expires":"2024-01-02T00:00:00.001Z"
+"expires":"9998-12-31T23:59:59.999Z"|,"created":"9998-06-01T00:00:00Z","deadline":"9998-06-02T00:00:00Z"
+"retries":7|,"retries":3,"retries":7
+"created":"2023-12-28T00:00:00.000Z"|,"created":"2023-12-28T00:00:00Z"
+"created":"2024-01-01T23:00:00.000Z"|,"created":"2024-01-01T18:00:00-05:00""#;
+
+#[test]
+fn what_members_say(rt: HostRuntime) {
+    for row in SAID.split('\n') {
+        match row.split_once('|') {
+            Some((part, members)) => assert!(rt; says(rt.alloc(), members, part), "{row}"),
+            None => assert!(rt; false, "{row}"),
         }
     }
-    Ok(String::new(alloc))
-}
-
-#[test]
-fn names_that_are_refused(rt: HostRuntime) -> Result<(), Fail> {
-    assert_eq!(rt; first_other(rt.alloc(), NAMES)?.as_str(), "");
-    Ok(())
-}
-
-#[test]
-fn terms_that_are_refused(rt: HostRuntime) -> Result<(), Fail> {
-    assert_eq!(rt; first_other(rt.alloc(), TERMS)?.as_str(), "");
-    Ok(())
-}
-
-#[test]
-fn moments_and_labels_that_are_refused(rt: HostRuntime) -> Result<(), Fail> {
-    assert_eq!(rt; first_other(rt.alloc(), MOMENTS_AND_LABELS)?.as_str(), "");
-    Ok(())
 }
 
 /// One member more or another value, and the definition is another.
@@ -238,42 +236,50 @@ const OTHERS: &str = r#","tags":{"a":"b"}
 ,"expires":"2024-12-31T23:59:59.999Z"
 ,"metadata":{"description":"d","name":"n","owner":"o@example.com","source":"x"}"#;
 
+/// Whether two rows say the same definition.
+fn alike(alloc: Global, first: &str, second: &str) -> bool {
+    match (read(alloc, first), read(alloc, second)) {
+        (Ok(a), Ok(b)) => same(&a, &b),
+        _ => false,
+    }
+}
+
 #[test]
-fn definitions_that_differ(rt: HostRuntime) -> Result<(), Fail> {
-    let alloc = rt.alloc();
-    let plain = definition(alloc, "")?;
+fn definitions_that_differ(rt: HostRuntime) {
     for members in OTHERS.split('\n') {
-        let other = definition(alloc, members)?;
-        assert!(rt; !same(&plain, &other), "{members}");
-        assert!(rt; same(&other, &definition(alloc, members)?), "{members}");
+        assert!(rt; !alike(rt.alloc(), "", members), "{members}");
+        assert!(rt; alike(rt.alloc(), members, members), "{members}");
     }
     assert!(rt;
-        same(
-            &plain,
-            &definition(alloc, ",\"retries\":5,\"tags\":{},\"priority\":\"normal\"")?
+        alike(
+            rt.alloc(),
+            "",
+            ",\"retries\":5,\"tags\":{},\"priority\":\"normal\""
         )
     );
-    Ok(())
 }
 
-/// The rule that a definition breaks while a task stands alone, or 0.
-fn alone(alloc: Global, members: &str) -> Result<u8, Fail> {
-    let def = definition(alloc, members)?;
-    let id = SlugId::read(FIRST_TASK).ok_or("no slugid")?;
-    match check_alone(alloc, &def, id) {
-        Ok(()) => Ok(0),
-        Err(DefError::Fault(fault)) => Ok(fault.rule),
-        Err(DefError::NoMemory) => Err(Fail::from("no memory")),
+/// The rule that a row's definition breaks while a task stands alone, or 0.
+fn alone(alloc: Global, row: &str) -> u8 {
+    match (read(alloc, row), SlugId::read(FIRST_TASK)) {
+        (Ok(def), Some(id)) => match check_alone(alloc, &def, id) {
+            Ok(()) => 0,
+            Err(DefError::Fault(fault)) => fault.rule,
+            Err(DefError::NoMemory) => 99,
+        },
+        _ => 99,
     }
 }
 
 #[test]
-fn tasks_that_are_not_alone(rt: HostRuntime) -> Result<(), Fail> {
-    let alloc = rt.alloc();
-    let group = ",\"taskGroupId\":\"AAAAAAAAQACAAAAAAAAAAQ\"";
-    let dependency = ",\"dependencies\":[\"AAAAAAAAQACAAAAAAAAAAw\"]";
-    assert_eq!(rt; alone(alloc, "")?, 0);
-    assert_eq!(rt; alone(alloc, group)?, 4);
-    assert_eq!(rt; alone(alloc, dependency)?, 5);
-    Ok(())
+fn tasks_that_are_not_alone(rt: HostRuntime) {
+    assert_eq!(rt; alone(rt.alloc(), ""), 0);
+    assert_eq!(rt;
+        alone(rt.alloc(), ",\"taskGroupId\":\"AAAAAAAAQACAAAAAAAAAAQ\""),
+        4
+    );
+    assert_eq!(rt;
+        alone(rt.alloc(), ",\"dependencies\":[\"AAAAAAAAQACAAAAAAAAAAw\"]"),
+        5
+    );
 }

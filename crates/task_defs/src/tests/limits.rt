@@ -1,107 +1,68 @@
 //! Definitions at their limits, and one past them.
-use super::{definition, read, told};
-use crate::DefError;
-use farm_text::{Doc, Text};
-use std::alloc::Global;
-use std::collections::BTreeMap;
-use std::test::Fail;
+use super::outcome;
+use std::alloc::{AllocError, Global};
 
-/// The document of the smallest definition.
-fn plain(alloc: Global) -> Result<BTreeMap<String, Doc>, Fail> {
-    let text = super::with_members(alloc, "")?;
-    match super::document(alloc, text.as_str())? {
-        Doc::Map(members) => Ok(members),
-        _ => Err(Fail::from("no map")),
-    }
-}
-
-/// So many texts: a front of so many bytes, and a number of four digits.
-fn texts(alloc: Global, count: u16, front: usize) -> Result<Doc, Fail> {
-    let mut items = Vec::new(alloc);
+/// A key with a list of so many texts of so many bytes, each of which begins with a number of four digits, as a member.
+fn texts(alloc: Global, key: &str, count: u16, len: usize) -> Result<String, AllocError> {
+    let mut member = format!(in alloc; ",\"{key}\":[")?;
     for n in 0..count {
-        let mut bytes = vec![in alloc; b'x'; front]?;
-        for place in [1000, 100, 10, 1] {
-            bytes.push(b'0' + (n / place % 10) as u8)?;
+        member.push_str(if n == 0 { "\"" } else { ",\"" })?;
+        member.push_str(format!(in alloc; "{:04}", n)?.as_str())?;
+        for _ in 4..len {
+            member.push_str("x")?;
         }
-        let text = String::from_utf8(bytes).map_err(|_| "not UTF-8")?;
-        items.push(Doc::Text(Text::from_string(text)))?;
+        member.push_str("\"")?;
     }
-    Ok(Doc::List(items))
+    member.push_str("]")?;
+    Ok(member)
 }
 
-/// What is told of the smallest definition with this value at a key: `ok`, or the rule and the key.
-fn with_value(alloc: Global, key: &str, value: Doc) -> Result<String, Fail> {
-    let mut members = plain(alloc)?;
-    drop(members.insert(String::from_str(alloc, key)?, value)?);
-    let doc = Doc::Map(members);
-    match read(alloc, &doc)? {
-        Ok(_) => Ok(String::from_str(alloc, "ok")?),
-        Err(_) => told(alloc, &doc),
+/// Whether the smallest definition with these texts has this outcome.
+fn are(alloc: Global, key: &str, count: u16, len: usize, wanted: &str) -> bool {
+    match texts(alloc, key, count, len) {
+        Ok(member) => super::has_outcome(alloc, wanted, member.as_str()),
+        Err(_) => false,
     }
 }
 
 #[test]
-fn so_many_routes_and_scopes(rt: HostRuntime) -> Result<(), Fail> {
-    let alloc = rt.alloc();
-    for (key, count, front, outcome) in [
-        ("routes", 64, 245, "ok"),
-        ("routes", 65, 0, "7 routes"),
-        ("routes", 1, 246, "7 routes"),
-        ("scopes", 1000, 4092, "ok"),
-        ("scopes", 1001, 0, "13 scopes"),
-        ("scopes", 1, 4093, "13 scopes"),
-    ] {
-        let found = with_value(alloc, key, texts(alloc, count, front)?)?;
-        assert_eq!(rt; found.as_str(), outcome, "{key} {count} {front}");
-    }
-    Ok(())
+fn so_many_routes(rt: HostRuntime) {
+    assert!(rt; are(rt.alloc(), "routes", 64, 249, "ok"));
+    assert!(rt; are(rt.alloc(), "routes", 65, 4, "7 routes"));
+    assert!(rt; are(rt.alloc(), "routes", 1, 250, "7 routes"));
 }
 
-/// Lists inside each other.
-fn nested(alloc: Global, depth: usize) -> Result<Doc, Fail> {
-    let mut doc = Doc::List(Vec::new(alloc));
-    for _ in 1..depth {
-        doc = Doc::List(vec![in alloc; doc]?);
-    }
-    Ok(doc)
-}
-
-/// A payload with one member.
-fn payload(alloc: Global, value: Doc) -> Result<Doc, Fail> {
-    let mut members = BTreeMap::new(alloc);
-    drop(members.insert(String::from_str(alloc, "a")?, value)?);
-    Ok(Doc::Map(members))
-}
-
-/// The definition is one map, the payload another.
 #[test]
-fn so_deep(rt: HostRuntime) -> Result<(), Fail> {
-    let alloc = rt.alloc();
-    let deepest = payload(alloc, nested(alloc, 125)?)?;
-    assert_eq!(rt; with_value(alloc, "payload", deepest)?.as_str(), "ok");
-    let deeper = payload(alloc, nested(alloc, 126)?)?;
-    assert_eq!(rt; with_value(alloc, "payload", deeper)?.as_str(), "1 payload");
-    Ok(())
+fn so_many_scopes(rt: HostRuntime) {
+    assert!(rt; are(rt.alloc(), "scopes", 1000, 30, "ok"));
+    assert!(rt; are(rt.alloc(), "scopes", 1001, 4, "13 scopes"));
+    assert!(rt; are(rt.alloc(), "scopes", 1, 4096, "ok"));
+    assert!(rt; are(rt.alloc(), "scopes", 1, 4097, "13 scopes"));
 }
 
-/// A text of so many quotes, each of which is written in two bytes, and of so many bytes more.
-fn long_text(alloc: Global, quotes: usize, more: usize) -> Result<Doc, Fail> {
-    let mut bytes = vec![in alloc; b'"'; quotes]?;
-    for _ in 0..more {
-        bytes.push(b'x')?;
+/// A payload with so many lists inside each other, as a member.
+fn lists(alloc: Global, depth: usize) -> Result<String, AllocError> {
+    let mut member = String::from_str(alloc, ",\"payload\":{\"a\":")?;
+    for _ in 0..depth {
+        member.push_str("[")?;
     }
-    let text = String::from_utf8(bytes).map_err(|_| "not UTF-8")?;
-    payload(alloc, Doc::Text(Text::from_string(text)))
+    for _ in 0..depth {
+        member.push_str("]")?;
+    }
+    member.push_str("}")?;
+    Ok(member)
 }
 
-/// The smallest definition has 487 bytes in full form, and 493 with the member `"a":""` in its payload, so 8,388,115 bytes are left.
+/// The outcome of the smallest definition with such a payload. The definition is one map, the payload another.
+fn deep(alloc: Global, depth: usize) -> Result<String, AllocError> {
+    let member = lists(alloc, depth)?;
+    outcome(alloc, member.as_str())
+}
+
 #[test]
-fn so_long(rt: HostRuntime) -> Result<(), Fail> {
-    let alloc = rt.alloc();
-    assert_eq!(rt; definition(alloc, "")?.doc(alloc)?.write(alloc)?.len(), 487);
-    let longest = long_text(alloc, 4_194_057, 1)?;
-    assert_eq!(rt; with_value(alloc, "payload", longest)?.as_str(), "ok");
-    let longer = long_text(alloc, 4_194_057, 2)?;
-    assert_eq!(rt; with_value(alloc, "payload", longer)?.as_str(), "14 ");
+fn so_deep(rt: HostRuntime) -> Result<(), AllocError> {
+    assert_eq!(rt; deep(rt.alloc(), 125)?.as_str(), "ok");
+    // No document nests deeper than 127.
+    assert_eq!(rt; deep(rt.alloc(), 126)?.as_str(), "no document");
     Ok(())
 }
