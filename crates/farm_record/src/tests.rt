@@ -240,9 +240,21 @@ fn creates_that_are_none(rt: HostRuntime) -> Result<(), Fail> {
     Ok(())
 }
 
+#[test]
+fn definitions_that_are_none(rt: HostRuntime) -> Result<(), Fail> {
+    let alloc = rt.alloc();
+    let not_json = create(alloc, "00000001", "{")?;
+    assert!(rt; is_refused(alloc, &not_json)?);
+    let not_whole = create(alloc, "00000003", "1.5")?;
+    assert!(rt; is_refused(alloc, &not_whole)?);
+    let not_said = create(alloc, "00000002", "{}")?;
+    assert!(rt; is_refused(alloc, &not_said)?);
+    Ok(())
+}
+
 /// Bytes that are no record, a line each: no kind, no such kind, a moment cut short, a byte behind a tick, a moment past the last one,
 /// an id of version 1, one of another variant, a report of no number, one past the last, a byte behind a report, a claim of no run,
-/// a group that is empty, a worker that is no identifier, and a run cut short.
+/// a group that is empty, a worker that is no identifier, one that is not UTF-8, and a run cut short.
 const NO_RECORDS: &str = "-
 00 0000018cc251f400
 09 0000018cc251f400
@@ -257,6 +269,7 @@ const NO_RECORDS: &str = "-
 06 0000018cc251f400 0000018cc2644380 00000001 67 00000001 77 00000000
 06 0000018cc251f400 0000018cc2644380 00000000 00000001 77 00000001 00000000000040008000000000000000 00
 06 0000018cc251f400 0000018cc2644380 00000001 67 00000001 2f 00000001 00000000000040008000000000000000 00
+06 0000018cc251f400 0000018cc2644380 00000001 67 00000001 ff 00000001 00000000000040008000000000000000 00
 06 0000018cc251f400 0000018cc2644380 00000001 67 00000001 77 00000001 00000000000040008000000000000000";
 
 #[test]
