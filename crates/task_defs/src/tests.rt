@@ -167,13 +167,18 @@ fn full_text(alloc: Global, def: &TaskDef) -> Result<String, AllocError> {
     Ok(def.doc(alloc)?.write(alloc)?.into_string())
 }
 
+/// Whether the full form of a definition has this text in it.
+fn has_part(alloc: Global, def: &TaskDef, part: &str) -> bool {
+    match full_text(alloc, def) {
+        Ok(text) => text.as_str().contains(part),
+        Err(_) => false,
+    }
+}
+
 /// Whether the full form of what a row says has this text in it.
 fn says(alloc: Global, row: &str, part: &str) -> bool {
     match read(alloc, row) {
-        Ok(def) => match full_text(alloc, &def) {
-            Ok(text) => text.as_str().contains(part),
-            Err(_) => false,
-        },
+        Ok(def) => has_part(alloc, &def, part),
         Err(_) => false,
     }
 }
@@ -236,11 +241,19 @@ const OTHERS: &str = r#","tags":{"a":"b"}
 ,"expires":"2024-12-31T23:59:59.999Z"
 ,"metadata":{"description":"d","name":"n","owner":"o@example.com","source":"x"}"#;
 
+/// Whether a row says this definition.
+fn says_it(alloc: Global, def: &TaskDef, row: &str) -> bool {
+    match read(alloc, row) {
+        Ok(other) => same(def, &other),
+        Err(_) => false,
+    }
+}
+
 /// Whether two rows say the same definition.
 fn alike(alloc: Global, first: &str, second: &str) -> bool {
-    match (read(alloc, first), read(alloc, second)) {
-        (Ok(a), Ok(b)) => same(&a, &b),
-        _ => false,
+    match read(alloc, first) {
+        Ok(def) => says_it(alloc, &def, second),
+        Err(_) => false,
     }
 }
 
@@ -259,15 +272,23 @@ fn definitions_that_differ(rt: HostRuntime) {
     );
 }
 
-/// The rule that a row's definition breaks while a task stands alone, or 0.
-fn alone(alloc: Global, row: &str) -> u8 {
-    match (read(alloc, row), SlugId::read(FIRST_TASK)) {
-        (Ok(def), Some(id)) => match check_alone(alloc, &def, id) {
+/// The rule that a definition breaks while the first task stands alone, or 0.
+fn alone_rule(alloc: Global, def: &TaskDef) -> u8 {
+    match SlugId::read(FIRST_TASK) {
+        Some(id) => match check_alone(alloc, def, id) {
             Ok(()) => 0,
             Err(DefError::Fault(fault)) => fault.rule,
-            Err(DefError::NoMemory) => 99,
+            Err(DefError::NoMemory) => 98,
         },
-        _ => 99,
+        None => 99,
+    }
+}
+
+/// The same of a row's definition.
+fn alone(alloc: Global, row: &str) -> u8 {
+    match read(alloc, row) {
+        Ok(def) => alone_rule(alloc, &def),
+        Err(_) => 97,
     }
 }
 

@@ -2,16 +2,21 @@
 use super::outcome;
 use std::alloc::{AllocError, Global};
 
-/// A key with a list of so many texts of so many bytes, each of which begins with a number of four digits, as a member.
+/// A text of so many bytes, which begins with a number of four digits, after a comma where one is wanted.
+fn add_text(alloc: Global, member: &mut String, n: u16, len: usize) -> Result<(), AllocError> {
+    member.push_str(if n == 0 { "\"" } else { ",\"" })?;
+    member.push_str(format!(in alloc; "{:04}", n)?.as_str())?;
+    for _ in 4..len {
+        member.push_str("x")?;
+    }
+    member.push_str("\"")
+}
+
+/// A key with a list of so many such texts, as a member.
 fn texts(alloc: Global, key: &str, count: u16, len: usize) -> Result<String, AllocError> {
     let mut member = format!(in alloc; ",\"{key}\":[")?;
     for n in 0..count {
-        member.push_str(if n == 0 { "\"" } else { ",\"" })?;
-        member.push_str(format!(in alloc; "{:04}", n)?.as_str())?;
-        for _ in 4..len {
-            member.push_str("x")?;
-        }
-        member.push_str("\"")?;
+        add_text(alloc, &mut member, n, len)?;
     }
     member.push_str("]")?;
     Ok(member)
