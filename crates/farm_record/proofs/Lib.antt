@@ -1,0 +1,10 @@
+mod FieldLemmas
+mod LoopLemmas
+mod PartLemmas
+mod ClaimLemmas
+mod KindLemmas
+mod DefinitionLemmas
+mod RecordLemmas
+mod CreateLemmas
+mod LawLemmas
+mod WriteLemmas

@@ -1,0 +1,62 @@
+//! The definition of a task that is made, as a text.
+ghost use Rattle.std.specs.Prelude.{◌≡◌, ◌↔◌, IsTrue, IfOk};
+ghost use Rattle.farm_text.specs.Slug.{IsUuid4};
+ghost use Rattle.farm_record.specs.Records.{IsDefinitionText};
+ghost use Rattle.farm_record.specs.Reading.{Reads};
+ghost use Rattle.farm_record.specs.Writing.{IsFullOf};
+
+use crate::unread::Unread;
+use farm_text::{Doc, ReadFault, SlugId, Text, a_text_is_of_one_document};
+use std::alloc::{AllocError, Global};
+use task_defs::{
+    DefError, TaskDef, a_full_form_says_its_definition, read_task, the_fault_is_one,
+    the_full_form_is_one,
+};
+
+/// The text of a definition: its full form as JSON without spaces.
+pub(crate) fn full_text(alloc: Global, def: &TaskDef) -> Result<Text, AllocError>
+    ensures { IfOk result (IsFullOf def.now) }
+{
+    let full = def.doc(alloc)?;
+    let text = full.write(alloc)?;
+    Ok(text)
+}
+
+/// The definition whose text this is, for the task of this id.
+pub(crate) fn definition(alloc: Global, id: SlugId, text: &[u8]) -> Result<TaskDef, Unread>
+    requires { IsUuid4 id }
+    ensures { Reads (λ def. IsDefinitionText (record { id = id; definition = def }) text.now) result }
+{
+    a_text_is_of_one_document();
+    a_full_form_says_its_definition();
+    the_fault_is_one();
+    the_full_form_is_one();
+    let doc = match Doc::read(alloc, text) {
+        Ok(doc) => doc,
+        Err(ReadFault::NoMemory) => return Err(Unread::NoMemory),
+        Err(ReadFault::NotJson) => return Err(Unread::NotARecord),
+        Err(ReadFault::NotWhole(_)) => return Err(Unread::NotARecord),
+    };
+    let def = match read_task(alloc, &doc, id) {
+        Ok(def) => def,
+        Err(DefError::NoMemory) => return Err(Unread::NoMemory),
+        Err(DefError::Fault(_)) => return Err(Unread::NotARecord),
+    };
+    match full_text(alloc, &def) {
+        Ok(full) => {
+            if is_same(full.as_bytes(), text) {
+                Ok(def)
+            } else {
+                Err(Unread::NotARecord)
+            }
+        }
+        Err(AllocError) => Err(Unread::NoMemory),
+    }
+}
+
+/// Whether two texts are the same.
+fn is_same(a: &[u8], b: &[u8]) -> bool
+    ensures { IsTrue result ↔ (a.now ≡ b.now) }
+{
+    a == b
+}
