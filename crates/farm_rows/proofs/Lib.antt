@@ -1,0 +1,5 @@
+pub mod AdvanceLemmas
+pub mod DueLemmas
+pub mod IdLemmas
+pub mod RoomLemmas
+pub mod SweepLemmas

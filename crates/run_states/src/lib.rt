@@ -4,8 +4,10 @@
 //! which it ends are those of the queue service in the Taskcluster reference; each stands here once some call makes it.
 #![tactic(auto)]
 
+mod laws;
 mod row;
 mod run;
 
+pub use laws::{a_deadline_resolves, later_goes_on, runs_stay};
 pub use row::{MOST_RUNS, TaskRow};
 pub use run::{Outcome, ReasonCreated, ReasonResolved, Run, RunState};
