@@ -1,9 +1,9 @@
 -- Turn by turn, an advance is one pass over the tasks; and so the laws of advances.
-use Rattle.std.proofs.Common.{◌≡◌, ℕ, zero, suc, ◌≤◌, ◌<◌, ◌+◌, max, Bool, true, false, List, [], ◌∷◌, map, length, Option, Some, None, refl, ap, sym, ◌∙◌, arith, ◌⊎◌, inl, inr}
-use Rattle.run_states.specs.Rows.{Row, exceeded}
+use Rattle.std.proofs.Common.{◌≡◌, ℕ, zero, suc, ◌≤◌, max, false, List, map, length, Option, Some, None, refl, ap, sym, ◌∙◌, arith}
+use Rattle.run_states.specs.Rows.{Row}
 use Rattle.run_states.specs.Later.{RowsLater}
 use Rattle.farm_rows.specs.Contents.{Contents, HaveOwnIds}
-use Rattle.farm_rows.specs.Due.{all_due_moments, is_due, first_due, meets_deadline, change_first, resolved_at, turn, turns, after_first, advance}
+use Rattle.farm_rows.specs.Due.{all_due_moments, is_due, first_due, resolved_at, turn, turns, after_first, advance}
 use Rattle.farm_rows.specs.Sweep.{swept}
 use Rattle.farm_rows.proofs.DueLemmas.{first_due-meets, first_due-none}
 use Rattle.farm_rows.proofs.SweepLemmas.{none-due, idle, together, turn-swept, turn-fewer, all-stay, same-ids}

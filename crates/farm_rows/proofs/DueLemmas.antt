@@ -1,10 +1,9 @@
 -- The least of some numbers, and what passes a test of them.
-use Rattle.std.proofs.Common.{◌⊎◌, inl, inr, ◌≡◌, ℕ, ◌≤◌, ◌<◌, min, Bool, true, false, not, ◌&&◌, ◌||◌, cond, List, [], ◌∷◌, ◌++◌, Option, Some, None, refl, ap, sym, subst, ◌∙◌, arith, filter, nat_le, ◌==◌}
-use Rattle.std.specs.List.{list_any, fold, reduce, flat_map}
-use Rattle.std.specs.Option.{option_map_or}
+use Rattle.std.proofs.Common.{◌⊎◌, inl, inr, ◌≡◌, ℕ, ◌≤◌, ◌<◌, min, Bool, true, false, ◌||◌, List, [], ◌∷◌, Option, Some, None, refl, ap, sym, subst, ◌∙◌, arith, filter, nat_le, ◌==◌}
+use Rattle.std.specs.List.{list_any, fold, reduce}
 use Rattle.std.proofs.lemmas.Bool.{leb-true, leb-false, le-leb, lt-leb, eq-eqb, eqb-true, or_cases}
 use Rattle.std.proofs.Math.Bool.{or-true}
-use Rattle.run_states.specs.Rows.{Row, is_resolved, due_moments}
+use Rattle.run_states.specs.Rows.{Row, is_resolved}
 use Rattle.farm_rows.specs.Contents.{Contents}
 use Rattle.farm_rows.specs.Due.{all_due_moments, is_due, first_due, meets_deadline}
 
@@ -54,6 +53,7 @@ least-among x [] = rw (eq-eqb x x refl) refl
 least-among x (y ∷ ys) = by (or_cases (min x y == least) (list_any (λ d. d == least) ys) (least-among (min x y) ys)) where
   least : ℕ
   least = fold min (min x y) ys
+
   by : ((min x y == least) ≡ true) ⊎ (list_any (λ d. d == least) ys ≡ true) → ((x == least) || ((y == least) || list_any (λ d. d == least) ys)) ≡ true
   by (inl is) = sym (or-assoc (x == least) (y == least) (list_any (λ d. d == least) ys)) ∙ rw (min-among x y least is) refl
   by (inr is) = rw is (ap (λ b. (x == least) || b) (or-true (y == least)) ∙ or-true (x == least))
@@ -73,9 +73,11 @@ among-filter test at [] is = cc
 among-filter test at (x ∷ xs) is = by (among-filter test at xs) (test x) refl where
   later : (list_any (λ d. d == at) (filter test xs) ≡ true → (test at ≡ true) × (list_any (λ d. d == at) xs ≡ true)) → list_any (λ d. d == at) (filter test xs) ≡ true → (test at ≡ true) × (list_any (λ d. d == at) (x ∷ xs) ≡ true)
   later rest h = let more = rest h in (more.0, rw more.1 (or-true (x == at)))
+
   here : (list_any (λ d. d == at) (filter test xs) ≡ true → (test at ≡ true) × (list_any (λ d. d == at) xs ≡ true)) → test x ≡ true → ((x == at) ≡ true) ⊎ (list_any (λ d. d == at) (filter test xs) ≡ true) → (test at ≡ true) × (list_any (λ d. d == at) (x ∷ xs) ≡ true)
   here rest passes (inl e) = (ap test (sym (eqb-true x at e)) ∙ passes, rw e refl)
   here rest passes (inr h) = later rest h
+
   by : (list_any (λ d. d == at) (filter test xs) ≡ true → (test at ≡ true) × (list_any (λ d. d == at) xs ≡ true)) → (b : Bool) → test x ≡ b → (test at ≡ true) × (list_any (λ d. d == at) (x ∷ xs) ≡ true)
   by rest true passes = here rest passes (or_cases (x == at) (list_any (λ d. d == at) (filter test xs)) (rw passes at is))
   by rest false fails = later rest (rw fails at is)
@@ -105,6 +107,7 @@ meets-due at (row ∷ rows) is = by (meets-due at rows) (is_resolved row) refl w
   one : (list_any (λ d. d == at) (all_due_moments rows) ≡ true → list_any (meets_deadline at) rows ≡ true) → is_resolved row ≡ false → ((row.definition.deadline == at) ≡ true) ⊎ (list_any (λ d. d == at) (all_due_moments rows) ≡ true) → list_any (meets_deadline at) (row ∷ rows) ≡ true
   one rest open_ (inl e) = rw (open_, e) refl
   one rest open_ (inr h) = rw (rest h) (or-true (meets_deadline at row))
+
   by : (list_any (λ d. d == at) (all_due_moments rows) ≡ true → list_any (meets_deadline at) rows ≡ true) → (b : Bool) → is_resolved row ≡ b → list_any (meets_deadline at) (row ∷ rows) ≡ true
   by rest true resolved = rw resolved (rest (rw resolved at is))
   by rest false open_ = one rest open_ (or_cases (row.definition.deadline == at) (list_any (λ d. d == at) (all_due_moments rows)) (rw open_ at is))

@@ -1,9 +1,8 @@
 -- A task is created once: what ids tell.
-use Rattle.std.proofs.Common.{◌≡◌, ℕ, Bool, true, false, not, ◌&&◌, cond, List, [], ◌∷◌, ◌++◌, map, length, Option, Some, None, is_none, refl, ap, sym, ◌∙◌, find, bytes_eq, ◌==◌, ◌+◌, codes, nat_le, nat_lt}
-use Rattle.std.specs.List.{list_any, IsDistinct}
-use Rattle.std.specs.Option.{option_or}
+use Rattle.std.proofs.Common.{◌≡◌, ℕ, Bool, true, false, not, ◌&&◌, List, [], ◌∷◌, ◌++◌, map, length, Option, Some, None, is_none, refl, sym, ◌∙◌, bytes_eq, ◌==◌, codes, nat_le, nat_lt}
+use Rattle.std.specs.List.{list_any}
 use Rattle.std.specs.Cmp.Lexicographic.{nat_list_eq_equiv}
-use Rattle.std.proofs.lemmas.Bool.{and_parts, ltb-true, leb-true, not-true}
+use Rattle.std.proofs.lemmas.Bool.{and_parts}
 use Rattle.std.proofs.lemmas.List.Folds.{find-append}
 use Rattle.std.proofs.lemmas.Map.Keys.{IsDistinct-push}
 use Rattle.std.proofs.lemmas.Slice.Eq.{bytes_eq-Decides}
@@ -18,10 +17,10 @@ use Rattle.run_states.proofs.LaterLemmas.{RowLater-refl, RowsLater-refl}
 use Rattle.farm_record.specs.declared.change.Change.{Change}
 use Rattle.farm_record.specs.declared.change.Creation.{Creation}
 use Rattle.farm_record.specs.declared.change.Kind.{Kind}
-use Rattle.farm_record.specs.declared.change.Kind.TheVariants.{Tick, Create, Schedule, Rerun, Cancel, Claim, Reclaim, Resolve}
+use Rattle.farm_record.specs.declared.change.Kind.TheVariants.{Tick, Create}
 use Rattle.farm_rows.specs.Contents.{Contents, row_with, HaveOwnIds}
 use Rattle.farm_rows.specs.Due.{is_due}
-use Rattle.farm_rows.specs.Changes.{is_alone, may_create, may_be, creating, may_apply, created, after_kind, applied}
+use Rattle.farm_rows.specs.Changes.{is_alone, may_create, creating, may_apply, after_kind, applied}
 use Rattle.farm_rows.proofs.AdvanceLemmas.{advance-stays, advance-ids}
 
 bytes_eq-refl : (bs : List ℕ) → bytes_eq bs bs ≡ true
@@ -35,7 +34,6 @@ bytes_eq-other a b no_ = by (bytes_eq b a) refl where
   by false is = is
 
 -- ---- what may be created
-
 
 none_is : {A : Type 0} (o : Option A) → is_none o ≡ true → o ≡ None
 none_is None is = refl

@@ -3,3 +3,4 @@ pub mod DueLemmas
 pub mod IdLemmas
 pub mod RoomLemmas
 pub mod SweepLemmas
+pub mod TableLemmas

@@ -1,5 +1,5 @@
 -- What a tick leaves of each task, and what the tables keep besides their contents. The contracts of private functions alone speak of these.
-use Rattle.std.specs.Prelude.{◌≡◌, ℕ, ◌≤◌, min, Bool, not, ◌&&◌, nat_le, List, length, Option, if◌then◌else◌}
+use Rattle.std.specs.Prelude.{◌≡◌, ℕ, ◌≤◌, min, not, ◌&&◌, nat_le, List, length, Option, if◌then◌else◌}
 use Rattle.std.specs.List.{reduce}
 use Rattle.farm_text.specs.declared.moment.TheConstants.{LAST_TOLD_MOMENT}
 use Rattle.run_states.specs.Rows.{Row, is_resolved, exceeded}

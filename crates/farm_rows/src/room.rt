@@ -1,5 +1,5 @@
 //! Room for the tasks, which is taken before it is needed: a list that is longer stands ready wherever the tables are full.
-ghost use Rattle.std.specs.Prelude.{◌≡◌, ◌+◌, ◌≤◌, [], max, vec_len, vec_capacity, IfOk};
+ghost use Rattle.std.specs.Prelude.{◌≡◌, ◌+◌, ◌<◌, ◌≤◌, [], ◌∷◌, ◌++◌, max, vec_len, vec_capacity, IfOk};
 ghost use Rattle.farm_rows.specs.Plans.{room_for};
 
 use run_states::TaskRow;
@@ -33,10 +33,24 @@ pub(crate) fn grown(alloc: Global, stand: usize) -> Result<Vec<TaskRow>, AllocEr
     }
 }
 
+/// Adds a task to the tasks, which move into a list without tasks, where that has more room.
+pub(crate) fn add(rows: &mut Vec<TaskRow>, grown: Vec<TaskRow>, row: TaskRow)
+    requires empty { grown.items ≡ [] }
+    requires room { vec_len rows.old < max (vec_capacity rows.old) (vec_capacity grown) }
+    ensures items { rows.new.items ≡ rows.old.items ++ row ∷ [] }
+    ensures capacity { max (vec_capacity rows.old) (vec_capacity grown) ≤ vec_capacity rows.new }
+{
+    make_room(rows, grown);
+    if rows.push(row).is_err() {
+        unreachable!();
+    }
+}
+
 /// Moves the tasks into a list without tasks, where that has more room.
-pub(crate) fn make_room(rows: &mut Vec<TaskRow>, mut grown: Vec<TaskRow>)
+fn make_room(rows: &mut Vec<TaskRow>, mut grown: Vec<TaskRow>)
     requires { grown.items ≡ [] }
     ensures items { rows.new.items ≡ rows.old.items }
+    ensures len { vec_len rows.new ≡ vec_len rows.old }
     ensures capacity { max (vec_capacity rows.old) (vec_capacity grown) ≤ vec_capacity rows.new }
 {
     if grown.capacity() > rows.capacity() {

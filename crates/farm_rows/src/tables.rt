@@ -1,14 +1,15 @@
 //! The tables of a farm's tasks.
-ghost use Rattle.std.specs.Prelude.{◌≡◌, ◌<◌, ◌≤◌, false, Some, length, slice_get, option_copied, IfOk, MatchOption};
+ghost use Rattle.std.specs.Prelude.{◌≡◌, ◌<◌, ◌≤◌, false, Some, length, map, slice_get, option_copied, IfOk, MatchOption};
 ghost use Rattle.farm_text.specs.declared.moment.TheConstants.{LAST_TOLD_MOMENT};
 ghost use Rattle.farm_rows.specs.Contents.{no_contents, row_with, counts_of};
 ghost use Rattle.farm_rows.specs.Due.{is_due, advance};
 ghost use Rattle.farm_rows.specs.Changes.{is_alone, creating, may_apply, applied};
 ghost use Rattle.farm_rows.specs.Plans.{IsPlanOn};
+ghost use Rattle.farm_rows.specs.Sweep.{swept};
 
 use crate::counts::RowCounts;
 use crate::plan::TaskPlan;
-use crate::room::{grown, make_room};
+use crate::room::{add, grown};
 use crate::sweep::{earlier, soonest, sweep};
 use farm_record::{Change, Creation, Kind};
 use farm_text::{LAST_TOLD_MOMENT, Moment, SlugId};
@@ -88,11 +89,19 @@ impl TaskTables {
         requires { moment ≤ LAST_TOLD_MOMENT }
         ensures { self.new ≡ advance self.old moment }
     {
-        if self.due(moment) {
-            sweep(&mut self.rows, moment);
-            self.soonest = soonest(&self.rows);
-        }
+        self.sweep(moment);
         self.last = self.last.max(moment);
+    }
+
+    /// Resolves all that is due at this moment, each at its own moment.
+    fn sweep(&mut self, moment: Moment)
+        ensures { self.new ≡ record self.old { rows = map (swept moment) self.old.rows } }
+    {
+        if !self.due(moment) {
+            return;
+        }
+        sweep(&mut self.rows, moment);
+        self.soonest = soonest(&self.rows);
     }
 
     /// The task with this id.
@@ -150,10 +159,7 @@ impl TaskTables {
         let TaskPlan { at, mut row, grown } = plan;
         row.schedule(at, self.next);
         let soonest = earlier(self.soonest, row.definition().deadline);
-        make_room(&mut self.rows, grown);
-        if self.rows.push(row).is_err() {
-            unreachable!();
-        }
+        add(&mut self.rows, grown, row);
         self.soonest = soonest;
         self.next += 1;
         self.last = at;

@@ -1,14 +1,12 @@
 -- What happens to a task leaves its runs xs they were made, and once they have an outcome unchanged.
 use Rattle.std.proofs.Common.{◌≡◌, ℕ, Bool, true, false, List, [], ◌∷◌, Option, Some, None, is_some, refl, sym, ◌∙◌, ap}
 use Rattle.std.specs.List.{last_or}
-use Rattle.run_states.specs.declared.run.Outcome.{Outcome}
 use Rattle.run_states.specs.declared.run.ReasonResolved.{ReasonResolved}
 use Rattle.run_states.specs.declared.run.ReasonResolved.TheVariants.{DeadlineExceeded}
 use Rattle.run_states.specs.declared.run.Run.{Run}
 use Rattle.run_states.specs.Runs.{ended, change_last}
-use Rattle.run_states.specs.Rows.{Row, has_ended, is_resolved, first_run, scheduled, runs_exceeded, exceeded, due_moments}
+use Rattle.run_states.specs.Rows.{Row, has_ended, is_resolved, first_run, scheduled, runs_exceeded, exceeded}
 use Rattle.run_states.specs.Later.{RunLater, RunsLater, RowLater, RowsLater}
-use Rattle.run_states.proofs.RunLemmas.{last-change}
 
 -- ---- later is later
 

@@ -1,5 +1,5 @@
 -- The last of a list, by its place; and what changes where it is changed.
-use Rattle.std.proofs.Common.{◌≡◌, ℕ, zero, suc, Bool, true, false, ◌-◌, List, [], ◌∷◌, ◌++◌, length, Option, Some, None, refl, ap, sym, ◌∙◌, slice_index_or, slice_set, arith, option_map}
+use Rattle.std.proofs.Common.{◌≡◌, ℕ, suc, false, ◌-◌, List, [], ◌∷◌, length, Option, None, refl, ap, ◌∙◌, slice_index_or, slice_set, arith, option_map}
 use Rattle.std.specs.List.{last_or, slice_get}
 use Rattle.run_states.specs.declared.run.ReasonResolved.TheVariants.{DeadlineExceeded}
 use Rattle.run_states.specs.declared.run.Run.{Run}

@@ -1,5 +1,5 @@
 -- The row of a task, and what happens to it (the queue service of the Taskcluster reference).
-use Rattle.std.specs.Prelude.{ℕ, Bool, true, false, List, [], ◌∷◌, ◌++◌, Option, Some, None, option_map, is_some, if◌then◌else◌}
+use Rattle.std.specs.Prelude.{ℕ, Bool, false, List, [], ◌∷◌, Option, Some, None, option_map, is_some, if◌then◌else◌}
 use Rattle.std.specs.List.{last_or}
 use Rattle.task_defs.specs.declared.task_def.TaskDef.{TaskDef}
 use Rattle.run_states.specs.declared.run.ReasonCreated.TheVariants.{Scheduled}

@@ -2,7 +2,7 @@
 use Rattle.std.specs.Prelude.{ℕ, List, [], ◌∷◌, Option, Some, None}
 use Rattle.run_states.specs.declared.run.Outcome.{Outcome}
 use Rattle.run_states.specs.declared.run.ReasonCreated.{ReasonCreated}
-use Rattle.run_states.specs.declared.run.ReasonCreated.TheVariants.{Scheduled, Exception as MadeAsException}
+use Rattle.run_states.specs.declared.run.ReasonCreated.TheVariants.{Exception as MadeAsException}
 use Rattle.run_states.specs.declared.run.ReasonResolved.{ReasonResolved}
 use Rattle.run_states.specs.declared.run.Run.{Run}
 use Rattle.run_states.specs.declared.run.RunState.{RunState}

@@ -1,4 +1,4 @@
-use Rattle.std.proofs.Common.{◌≡◌, ap, sym, ◌∙◌, arith}
+use Rattle.std.proofs.Common.{ap, sym, ◌∙◌, arith}
 use Rattle.farm_rows.specs.Plans.{room_for}
 use Rattle.farm_rows.proofs.RoomLemmas.{room-0, room-64, room-512, room-4096, room-32768, room-262144, room-most}
 use Rattle.farm_rows.proofs.room.room_for.Goals as goal
