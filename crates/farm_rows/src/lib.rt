@@ -18,3 +18,6 @@ pub use laws::{
 };
 pub use plan::TaskPlan;
 pub use tables::{MOST_TASKS, TaskTables};
+
+#[cfg(test)]
+mod tests;

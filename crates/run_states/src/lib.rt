@@ -11,3 +11,6 @@ mod run;
 pub use laws::{a_deadline_resolves, later_goes_on, runs_stay};
 pub use row::{MOST_RUNS, TaskRow};
 pub use run::{Outcome, ReasonCreated, ReasonResolved, Run, RunState};
+
+#[cfg(test)]
+mod tests;
