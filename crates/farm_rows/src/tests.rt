@@ -1,10 +1,8 @@
 //! Tasks that are created and fall due, against rows that were worked by hand.
-ghost use Rattle.std.specs.Prelude.{◌≡◌, ◌≤◌};
-
 use super::*;
 use farm_record::{Change, Creation, Kind};
 use farm_text::{Doc, LAST_TOLD_MOMENT, Moment, SlugId};
-use run_states::{Outcome, ReasonCreated, ReasonResolved, Run, RunState, TaskRow};
+use run_states::{Outcome, ReasonCreated, ReasonResolved, Run};
 use std::alloc::Global;
 use std::test::Fail;
 use task_defs::read_task;
@@ -27,8 +25,9 @@ const DUE_AT_NOON: &'static str =
 const GROUPED: &'static str =
     r#"{"created":"2024-01-01T00:00:00.000Z","deadline":"2024-01-02T00:00:00.000Z","metadata":{"description":"d","name":"n","owner":"o@example.com","source":"https://example.com/"},"payload":{},"taskGroupId":"AAAAAAAAQACAAAAAAAAAAw","taskQueueId":"prov/wt"}"#;
 
-fn moment(millis: u64) -> Result<Moment, Fail> {
-    Ok(Moment::from_millis(millis).ok_or("no moment")?)
+/// A moment, and the first one where there is none.
+fn moment(millis: u64) -> Moment {
+    Moment::from_millis(millis).unwrap_or(Moment::FIRST)
 }
 
 /// The id of this number.
@@ -37,19 +36,27 @@ fn task(number: u8) -> Result<SlugId, Fail> {
     Ok(SlugId::of_uuid(uuid).ok_or("no id")?)
 }
 
-/// Creates the task of this number, where it may be created, and tells whether it was.
+/// The creation of the task of this number.
+fn creation(alloc: Global, id: SlugId, body: &str) -> Result<Creation, Fail> {
+    let doc = Doc::read(alloc, body.as_bytes()).map_err(|_| "no document")?;
+    let definition = read_task(alloc, &doc, id).map_err(|_| "no definition")?;
+    Ok(Creation { id, definition })
+}
+
+/// Creates the task of this number at a moment, where it may be created, and tells whether it was.
 fn create(
     alloc: Global,
     tables: &mut TaskTables,
-    at: Moment,
+    millis: u64,
     number: u8,
     body: &str,
 ) -> Result<bool, Fail> {
-    let doc = Doc::read(alloc, body.as_bytes()).map_err(|_| "no document")?;
-    let id = task(number)?;
-    let definition = read_task(alloc, &doc, id).map_err(|_| "no definition")?;
-    let kind = Kind::Create(Creation { id, definition });
-    match tables.plan(alloc, Change { at, kind })? {
+    let creation = creation(alloc, task(number)?, body)?;
+    let change = Change {
+        at: moment(millis),
+        kind: Kind::Create(creation),
+    };
+    match tables.plan(alloc, change)? {
         Some(plan) => {
             tables.apply(plan);
             Ok(true)
@@ -58,122 +65,137 @@ fn create(
     }
 }
 
-/// Reaches a moment.
-fn reach(tables: &mut TaskTables, at: Moment) -> Result<(), Fail> {
-    if at.millis() > LAST_TOLD_MOMENT {
-        return Err(Fail::from("no clock tells it"));
+/// Reaches a moment that a clock may tell.
+fn reach(tables: &mut TaskTables, millis: u64) {
+    let at = moment(millis);
+    if at.millis() <= LAST_TOLD_MOMENT {
+        tables.tick(at);
     }
-    tables.tick(at);
-    Ok(())
 }
 
-/// The run with which a task is created, with this number.
-fn first_run(number: u64) -> Result<Run, Fail> {
-    Ok(Run {
+/// Whether the task of a number has one run, with this number, which was scheduled as it was created, and has this outcome.
+fn has_run(tables: &TaskTables, id: SlugId, number: u64, outcome: Option<Outcome>) -> bool {
+    let run = Run {
         created: ReasonCreated::Scheduled,
         number: Some(number),
-        scheduled: moment(CREATED)?,
-        outcome: None,
-    })
-}
-
-/// The same run, once the deadline came at this moment.
-fn exceeded_run(number: u64, at: Moment) -> Result<Run, Fail> {
-    let outcome = Some(Outcome {
-        reason: ReasonResolved::DeadlineExceeded,
-        at,
-    });
-    Ok(Run {
+        scheduled: moment(CREATED),
         outcome,
-        ..first_run(number)?
-    })
-}
-
-/// Whether a task has this run alone, and this state.
-fn has_run(row: Option<&TaskRow>, run: Run, state: RunState) -> bool {
-    match row {
-        Some(row) => row.runs().len() == 1 && row.runs()[0] == run && row.state() == Some(state),
+    };
+    match tables.row(id) {
+        Some(row) => is_only(row.runs(), run),
         None => false,
     }
 }
 
+fn is_only(runs: &[Run], run: Run) -> bool {
+    match runs {
+        [only] => *only == run,
+        _ => false,
+    }
+}
+
+/// The outcome of a task whose deadline came at this moment.
+fn exceeded(millis: u64) -> Option<Outcome> {
+    Some(Outcome {
+        reason: ReasonResolved::DeadlineExceeded,
+        at: moment(millis),
+    })
+}
+
+/// Whether so many tasks stand, as many numbers are drawn, and this moment is the last.
+fn counts(tables: &TaskTables, rows: u32, last: u64) -> bool {
+    let expected = RowCounts {
+        rows,
+        next: u64::from(rows),
+        last: moment(last),
+    };
+    tables.counts() == expected
+}
+
+/// Tables with the plain task.
+fn plain_tables(alloc: Global) -> Result<TaskTables, Fail> {
+    let mut tables = TaskTables::new(alloc);
+    if create(alloc, &mut tables, CREATED, 1, PLAIN)? {
+        Ok(tables)
+    } else {
+        Err(Fail::from("it is not created"))
+    }
+}
+
+#[test]
+fn a_task_is_pending_as_it_is_created(rt: HostRuntime) -> Result<(), Fail> {
+    let tables = plain_tables(rt.alloc())?;
+    assert!(rt; has_run(&tables, task(1)?, 0, None));
+    assert!(rt; counts(&tables, 1, CREATED));
+    assert!(rt; !tables.due(moment(DEADLINE - 1)));
+    assert!(rt; tables.due(moment(DEADLINE)));
+    Ok(())
+}
+
 #[test]
 fn a_deadline_falls_due_at_its_very_moment(rt: HostRuntime) -> Result<(), Fail> {
-    let alloc = rt.alloc();
-    let mut tables = TaskTables::new(alloc);
-    assert!(rt; create(alloc, &mut tables, moment(CREATED)?, 1, PLAIN)?);
-    assert!(rt; has_run(tables.row(task(1)?), first_run(0)?, RunState::Pending));
-    let counts = RowCounts {
-        rows: 1,
-        next: 1,
-        last: moment(CREATED)?,
-    };
-    assert!(rt; tables.counts() == counts);
-    assert!(rt; !tables.due(moment(DEADLINE - 1)?));
-    assert!(rt; tables.due(moment(DEADLINE)?));
-
-    reach(&mut tables, moment(DEADLINE - 1)?)?;
-    assert!(rt; has_run(tables.row(task(1)?), first_run(0)?, RunState::Pending));
-    reach(&mut tables, moment(DEADLINE)?)?;
-    let exceeded = exceeded_run(0, moment(DEADLINE)?)?;
-    assert!(rt; has_run(tables.row(task(1)?), exceeded, RunState::Exception));
-    assert!(rt; matches!(tables.row(task(1)?), Some(row) if row.retries_left() == 5));
-    assert!(rt; !tables.due(moment(DEADLINE)?));
+    let mut tables = plain_tables(rt.alloc())?;
+    let id = task(1)?;
+    reach(&mut tables, DEADLINE - 1);
+    assert!(rt; has_run(&tables, id, 0, None));
+    reach(&mut tables, DEADLINE);
+    assert!(rt; has_run(&tables, id, 0, exceeded(DEADLINE)));
+    assert!(rt; matches!(tables.row(id), Some(row) if row.retries_left() == 5));
+    assert!(rt; !tables.due(moment(DEADLINE)));
     Ok(())
 }
 
 #[test]
 fn each_deadline_counts_in_one_tick(rt: HostRuntime) -> Result<(), Fail> {
-    let alloc = rt.alloc();
-    let mut tables = TaskTables::new(alloc);
-    assert!(rt; create(alloc, &mut tables, moment(CREATED)?, 1, PLAIN)?);
-    assert!(rt; create(alloc, &mut tables, moment(CREATED)?, 2, DUE_AT_NOON)?);
-    assert!(rt; tables.due(moment(NOON)?));
-    reach(&mut tables, moment(DEADLINE + 5)?)?;
-    let late = exceeded_run(0, moment(DEADLINE)?)?;
-    let early = exceeded_run(1, moment(NOON)?)?;
-    assert!(rt; has_run(tables.row(task(1)?), late, RunState::Exception));
-    assert!(rt; has_run(tables.row(task(2)?), early, RunState::Exception));
-    assert!(rt; matches!(tables.row(task(2)?), Some(row) if row.retries_left() == 2));
-    let counts = RowCounts {
-        rows: 2,
-        next: 2,
-        last: moment(DEADLINE + 5)?,
-    };
-    assert!(rt; tables.counts() == counts);
+    let mut tables = plain_tables(rt.alloc())?;
+    assert!(rt; create(rt.alloc(), &mut tables, CREATED, 2, DUE_AT_NOON)?);
+    assert!(rt; tables.due(moment(NOON)));
+    reach(&mut tables, DEADLINE + 5);
+    assert!(rt; has_run(&tables, task(1)?, 0, exceeded(DEADLINE)));
+    assert!(rt; has_run(&tables, task(2)?, 1, exceeded(NOON)));
+    assert!(rt; counts(&tables, 2, DEADLINE + 5));
     Ok(())
 }
 
 #[test]
 fn what_may_not_be_created_is_not(rt: HostRuntime) -> Result<(), Fail> {
-    let alloc = rt.alloc();
-    let mut tables = TaskTables::new(alloc);
-    assert!(rt; !create(alloc, &mut tables, moment(DEADLINE)?, 1, PLAIN)?);
-    assert!(rt; !create(alloc, &mut tables, moment(CREATED)?, 1, GROUPED)?);
-    assert!(rt; create(alloc, &mut tables, moment(CREATED + 1)?, 1, DUE_AT_NOON)?);
-    assert!(rt; !create(alloc, &mut tables, moment(CREATED + 1)?, 1, PLAIN)?);
-    assert!(rt; !create(alloc, &mut tables, moment(CREATED)?, 2, PLAIN)?);
-    assert!(rt; !create(alloc, &mut tables, moment(NOON)?, 2, PLAIN)?);
-    assert!(rt; tables.row(task(2)?).is_none());
-    let kind = Kind::Schedule(task(1)?);
-    let at = moment(CREATED + 1)?;
-    assert!(rt; tables.plan(alloc, Change { at, kind })?.is_none());
-    assert!(rt; tables.counts().rows == 1);
+    let mut tables = plain_tables(rt.alloc())?;
+    assert!(rt; !create(rt.alloc(), &mut tables, CREATED, 1, DUE_AT_NOON)?);
+    assert!(rt; !create(rt.alloc(), &mut tables, CREATED, 2, GROUPED)?);
+    assert!(rt; !create(rt.alloc(), &mut tables, NOON, 2, DUE_AT_NOON)?);
+    assert!(rt; !create(rt.alloc(), &mut tables, CREATED - 1, 2, PLAIN)?);
+    assert!(rt; !create(rt.alloc(), &mut tables, DEADLINE, 2, PLAIN)?);
+    assert!(rt; counts(&tables, 1, CREATED));
     Ok(())
+}
+
+#[test]
+fn other_kinds_may_not_be_made_yet(rt: HostRuntime) -> Result<(), Fail> {
+    let mut tables = plain_tables(rt.alloc())?;
+    let change = Change {
+        at: moment(NOON),
+        kind: Kind::Schedule(task(1)?),
+    };
+    assert!(rt; tables.plan(rt.alloc(), change)?.is_none());
+    Ok(())
+}
+
+/// Creates so many tasks, where each may be created.
+fn create_many(alloc: Global, tables: &mut TaskTables, count: u8) -> Result<bool, Fail> {
+    let mut all = true;
+    for number in 0..count {
+        all &= create(alloc, tables, CREATED, number, PLAIN)?;
+    }
+    Ok(all)
 }
 
 /// More tasks than the first list of the tables has room for.
 #[test]
 fn the_tables_grow(rt: HostRuntime) -> Result<(), Fail> {
-    let alloc = rt.alloc();
-    let mut tables = TaskTables::new(alloc);
-    for number in 0..70 {
-        assert!(rt; create(alloc, &mut tables, moment(CREATED)?, number, PLAIN)?);
-    }
-    assert!(rt; tables.counts().rows == 70 && tables.counts().next == 70);
-    for number in 0..70 {
-        let run = first_run(u64::from(number))?;
-        assert!(rt; has_run(tables.row(task(number)?), run, RunState::Pending));
-    }
+    let mut tables = TaskTables::new(rt.alloc());
+    assert!(rt; create_many(rt.alloc(), &mut tables, 70)?);
+    assert!(rt; counts(&tables, 70, CREATED));
+    assert!(rt; has_run(&tables, task(0)?, 0, None));
+    assert!(rt; has_run(&tables, task(69)?, 69, None));
     Ok(())
 }
