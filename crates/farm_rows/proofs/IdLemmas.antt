@@ -1,0 +1,120 @@
+-- A task is created once: what ids tell.
+use Rattle.std.proofs.Common.{◌≡◌, ℕ, Bool, true, false, not, ◌&&◌, List, [], ◌∷◌, ◌++◌, map, length, Option, Some, None, is_none, refl, sym, ◌∙◌, bytes_eq, ◌==◌, codes, nat_le, nat_lt}
+use Rattle.std.specs.List.{list_any}
+use Rattle.std.specs.Cmp.Lexicographic.{nat_list_eq_equiv}
+use Rattle.std.proofs.lemmas.Bool.{and_parts}
+use Rattle.std.proofs.lemmas.List.Folds.{find-append}
+use Rattle.std.proofs.lemmas.Map.Keys.{IsDistinct-push}
+use Rattle.std.proofs.lemmas.Slice.Eq.{bytes_eq-Decides}
+use Rattle.std.proofs.lemmas.List.{map-append}
+use Rattle.farm_text.specs.declared.moment.TheConstants.{LAST_TOLD_MOMENT}
+use Rattle.task_defs.specs.declared.task_def.TaskDef.{TaskDef}
+use Rattle.task_defs.specs.Faults.{AllHold}
+use Rattle.task_defs.specs.Alone.{alone_rules}
+use Rattle.run_states.specs.Rows.{Row, new_row, scheduled}
+use Rattle.run_states.specs.Later.{RowsLater}
+use Rattle.run_states.proofs.LaterLemmas.{RowLater-refl, RowsLater-refl}
+use Rattle.farm_record.specs.declared.change.Change.{Change}
+use Rattle.farm_record.specs.declared.change.Creation.{Creation}
+use Rattle.farm_record.specs.declared.change.Kind.{Kind}
+use Rattle.farm_record.specs.declared.change.Kind.TheVariants.{Tick, Create}
+use Rattle.farm_rows.specs.Contents.{Contents, row_with, HaveOwnIds}
+use Rattle.farm_rows.specs.Due.{is_due}
+use Rattle.farm_rows.specs.Changes.{is_alone, may_create, creating, may_apply, after_kind, applied}
+use Rattle.farm_rows.proofs.AdvanceLemmas.{advance-stays, advance-ids}
+
+bytes_eq-refl : (bs : List ℕ) → bytes_eq bs bs ≡ true
+bytes_eq-refl bs = (bytes_eq-Decides bs bs).1 refl
+
+-- equality of bytes goes both ways
+bytes_eq-other : (a b : List ℕ) → bytes_eq a b ≡ false → bytes_eq b a ≡ false
+bytes_eq-other a b no_ = by (bytes_eq b a) refl where
+  by : (t : Bool) → bytes_eq b a ≡ t → bytes_eq b a ≡ false
+  by true is = let same : b ≡ a = (bytes_eq-Decides b a).0 is in let both : bytes_eq a b ≡ true = (bytes_eq-Decides a b).1 (sym same) in cc
+  by false is = is
+
+-- ---- what may be created
+
+none_is : {A : Type 0} (o : Option A) → is_none o ≡ true → o ≡ None
+none_is None is = refl
+none_is (Some x) is = cc
+
+pub may-create : (contents : Contents) (at : ℕ) (creation : Creation) → may_apply contents (creating at creation) ≡ true → (nat_le at LAST_TOLD_MOMENT ≡ true) × (row_with creation.id contents.rows ≡ None) × (nat_lt (length contents.rows) 1_000_000 ≡ true)
+may-create contents at creation may =
+    let later = (and_parts (nat_le contents.last at) (nat_le at LAST_TOLD_MOMENT && (not (is_due contents at) && may_create contents at creation)) may).1 in
+    let told = and_parts (nat_le at LAST_TOLD_MOMENT) (not (is_due contents at) && may_create contents at creation) later in
+    let idle = (and_parts (not (is_due contents at)) (may_create contents at creation) told.1).1 in
+    let unknown = and_parts (is_none (row_with creation.id contents.rows)) (is_alone creation.id creation.definition && (nat_lt at creation.definition.deadline && nat_lt (length contents.rows) 1_000_000)) idle in
+    let alone = (and_parts (is_alone creation.id creation.definition) (nat_lt at creation.definition.deadline && nat_lt (length contents.rows) 1_000_000) unknown.1).1 in
+    let few = (and_parts (nat_lt at creation.definition.deadline) (nat_lt (length contents.rows) 1_000_000) alone).1 in
+    (told.0, none_is (row_with creation.id contents.rows) unknown.0, few)
+
+-- ---- what a creation leaves
+
+pub created-stands : (contents : Contents) (at : ℕ) (creation : Creation) → may_apply contents (creating at creation) ≡ true → row_with creation.id (applied contents (creating at creation)).rows ≡ Some (scheduled contents.next at (new_row creation.id creation.definition))
+unfolding applied
+created-stands contents at creation may =
+    let new = scheduled contents.next at (new_row creation.id creation.definition) in
+    find-append (λ (row : Row). bytes_eq row.id creation.id) contents.rows (new ∷ [])
+    ∙ rw ((may-create contents at creation may).1, bytes_eq-refl creation.id) refl
+
+pub created-refused : (contents : Contents) (at : ℕ) (creation : Creation) (row : Row) → row_with creation.id contents.rows ≡ Some row → may_apply contents (creating at creation) ≡ false
+created-refused contents at creation row stands = by (may_apply contents (creating at creation)) refl where
+  by : (b : Bool) → may_apply contents (creating at creation) ≡ b → may_apply contents (creating at creation) ≡ false
+  by true may = let none : row_with creation.id contents.rows ≡ None = (may-create contents at creation may).1 in cc
+  by false may_not = may_not
+
+-- ---- each task keeps an id of its own
+
+other-ids : (id : List ℕ) (rows : List Row) → row_with id rows ≡ None → list_any (bytes_eq id) (map (λ row. row.id) rows) ≡ false
+other-ids id [] none = refl
+other-ids id (row ∷ rows) none = by (other-ids id rows) (bytes_eq row.id id) refl where
+  by : (row_with id rows ≡ None → list_any (bytes_eq id) (map (λ row. row.id) rows) ≡ false) → (b : Bool) → bytes_eq row.id id ≡ b → list_any (bytes_eq id) (map (λ row. row.id) (row ∷ rows)) ≡ false
+  by rest true is = let some : Some row ≡ None = rw is at none in cc
+  by rest false is = rw (bytes_eq-other row.id id is) (rest (rw is at none))
+
+created-ids : (rows : List Row) (row : Row) → HaveOwnIds rows → row_with row.id rows ≡ None → HaveOwnIds (rows ++ row ∷ [])
+created-ids rows row own none =
+    rw (map-append (λ (row : Row). row.id) rows (row ∷ [])) (IsDistinct-push nat_list_eq_equiv (map (λ row. row.id) rows) row.id own (other-ids row.id rows none))
+
+after-ids : (contents : Contents) (at : ℕ) (kind : Kind) → HaveOwnIds contents.rows → may_apply contents (record { at = at; kind = kind }) ≡ true → HaveOwnIds (after_kind contents at kind).rows
+after-ids contents at Tick own may = advance-ids contents at own
+after-ids contents at (Create creation) own may =
+    created-ids contents.rows (scheduled contents.next at (new_row creation.id creation.definition)) own (may-create contents at creation may).1
+after-ids contents at _ own may = own
+
+pub applied-ids : (contents : Contents) (change : Change) → HaveOwnIds contents.rows → may_apply contents change ≡ true → HaveOwnIds (applied contents change).rows
+unfolding applied
+applied-ids contents change own may = after-ids contents change.at change.kind own may
+
+-- ---- each task stays
+
+more-stay : (rows : List Row) (row : Row) → RowsLater rows (rows ++ row ∷ [])
+more-stay [] row = tt
+more-stay (first ∷ rows) row = (RowLater-refl first, more-stay rows row)
+
+after-stays : (contents : Contents) (at : ℕ) (kind : Kind) → RowsLater contents.rows (after_kind contents at kind).rows
+after-stays contents at Tick = advance-stays contents at
+after-stays contents at (Create creation) = more-stay contents.rows (scheduled contents.next at (new_row creation.id creation.definition))
+after-stays contents at _ = RowsLater-refl contents.rows
+
+pub applied-stays : (contents : Contents) (change : Change) → RowsLater contents.rows (applied contents change).rows
+unfolding applied
+applied-stays contents change = after-stays contents change.at change.kind
+
+-- ---- the reader's test of a definition that is alone
+
+no_dependencies : (ids : List (List ℕ)) → ((ids ≡ [] → ⊥) → ⊥) → (length ids == 0) ≡ true
+no_dependencies [] none = refl
+no_dependencies (id ∷ ids) none = absurd (none (λ e. cc))
+
+own_group : (group id : List ℕ) → ((group ≡ id → ⊥) → ⊥) → bytes_eq group id ≡ true
+own_group group id same = by (bytes_eq group id) refl where
+  by : (b : Bool) → bytes_eq group id ≡ b → bytes_eq group id ≡ true
+  by true is = is
+  by false is = absurd (same (λ e. let other : bytes_eq group id ≡ true = (bytes_eq-Decides group id).1 e in cc))
+
+pub alone-is : (id : List ℕ) (definition : TaskDef) → AllHold (alone_rules definition id) → is_alone id definition ≡ true
+alone-is id definition hold =
+    rw (own_group definition.task_group_id id (λ other. hold.0 (codes "taskGroupId") (refl, other)))
+    (no_dependencies definition.dependencies (λ other. hold.1.0 (codes "dependencies") (refl, other)))

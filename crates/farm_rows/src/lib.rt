@@ -1,0 +1,23 @@
+//! The tasks of a farm: what falls due, and which changes may be made of them.
+//!
+//! `specs/Contents.antt` is what the tables keep, `specs/Due.antt` what falls due and how it is resolved, and `specs/Changes.antt` which
+//! change may be made and what it leaves. A change comes in two steps: `plan` judges it and takes all its memory, `apply` makes it.
+#![tactic(auto)]
+
+mod counts;
+mod laws;
+mod plan;
+mod room;
+mod sweep;
+mod tables;
+
+pub use counts::RowCounts;
+pub use laws::{
+    a_checked_definition_is_alone, a_task_is_created_once, advances_go_together,
+    an_advance_goes_turn_by_turn, nothing_is_due_after_an_advance, tasks_and_runs_stay,
+};
+pub use plan::TaskPlan;
+pub use tables::{MOST_TASKS, TaskTables};
+
+#[cfg(test)]
+mod tests;
