@@ -97,6 +97,16 @@ planned-due row planned number at is fresh =
     let P : Row → Type 0 = λ r. due_moments r ≡ r.definition.deadline ∷ [] in
     subst P (sym whole) refl
 
+-- what a plan holds of a task that is created
+abbrev pub plan_of : ℕ → Row → ℕ → Planned
+plan_of at row room = record { change = creating at (record { id = row.id; definition = row.definition }); row = row; room = room }
+
+-- the task of a plan is the new one, scheduled
+pub named : (contents : Contents) (plan : Planned) (rows : List Row) (last next at room : ℕ) (row : Row) → contents_of rows last next ≡ contents → plan_of at row room ≡ plan → IsPlanOn contents plan
+    → row ≡ scheduled next at (new_row row.id row.definition)
+named contents plan rows last next at room row same is planned =
+    let here : IsPlanOn (contents_of rows last next) (plan_of at row room) = rw (same, is) planned in here.names
+
 -- a task that was planned is created
 pub applied-made : (contents : Contents) (change : Change) (rows new : List Row) (last next at : ℕ) (row planned : Row) → contents_of rows last next ≡ contents → creating at (record { id = planned.id; definition = planned.definition }) ≡ change → new ≡ rows ++ row ∷ [] → row ≡ scheduled next at planned → planned ≡ new_row planned.id planned.definition → contents_of new at (next + 1) ≡ applied contents change
 unfolding applied

@@ -1,9 +1,11 @@
 //! A change that may be made and has all its memory.
+ghost use Rattle.std.specs.Prelude.{◌≡◌};
+
 use farm_text::Moment;
 use run_states::TaskRow;
 use std::marker::Model;
 
-/// A change that may be made of the tasks, with all the memory that it takes: a task that is created, as it is without runs.
+/// A change that may be made of the tasks, with all the memory that it takes: a task that is created, as it will be.
 #[derive(Debug, Drop)]
 pub struct TaskPlan {
     pub(crate) at: Moment,
@@ -16,7 +18,6 @@ impl Model for TaskPlan {
     ghost use Rattle.std.specs.Prelude.{◌≡◌, [], vec_capacity};
     ghost use Rattle.std.specs.Coded.{codes};
     ghost use Rattle.task_defs.specs.Codes.{members_code};
-    ghost use Rattle.run_states.specs.Rows.{new_row};
     ghost use Rattle.farm_record.specs.declared.change.Kind.TheVariants.{Create};
     ghost use Rattle.farm_rows.specs.Plans.{Planned};
 
@@ -26,8 +27,18 @@ impl Model for TaskPlan {
 
     ghost view = { λ p. record {
       change = record { at = p.at; kind = Create (record { id = p.row.id; definition = p.row.definition }) };
+      row = p.row;
       room = vec_capacity p.grown;
     } };
 
-    ghost invariant = { λ p. (p.row ≡ new_row p.row.id p.row.definition) × (p.grown.items ≡ []) };
+    ghost invariant = { λ p. p.grown.items ≡ [] };
+}
+
+impl TaskPlan {
+    /// The task that the change names, as it will be.
+    pub fn row(&self) -> &TaskRow
+        ensures { result.now ≡ self.now.row }
+    {
+        &self.row
+    }
 }

@@ -134,7 +134,8 @@ impl TaskTables {
             return Ok(None);
         }
         let grown = grown(alloc, self.rows.len())?;
-        let row = TaskRow::make(alloc, creation.id, creation.definition)?;
+        let mut row = TaskRow::make(alloc, creation.id, creation.definition)?;
+        row.schedule(at, self.next);
         Ok(Some(TaskPlan { at, row, grown }))
     }
 
@@ -156,8 +157,7 @@ impl TaskTables {
         requires { IsPlanOn self.old plan }
         ensures { self.new ≡ applied self.old plan.change }
     {
-        let TaskPlan { at, mut row, grown } = plan;
-        row.schedule(at, self.next);
+        let TaskPlan { at, row, grown } = plan;
         let soonest = earlier(self.soonest, row.definition().deadline);
         add(&mut self.rows, grown, row);
         self.soonest = soonest;
