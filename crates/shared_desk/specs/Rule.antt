@@ -6,12 +6,13 @@ use lib.ListN.{get_elem?}
 use Rattle.atomic_table.specs.Table.{State, Step, Me}
 use Rattle.atomic_table.specs.Seated.{TableId}
 use Rattle.history.specs.Rules.{Rules}
-use Rattle.history.specs.Histories.{entries, end_state, IsLegal, calls_of}
+use Rattle.history.specs.Histories.{entries, end_state, IsLegal, calls_of, Leads}
 use Rattle.history.specs.Asks.{IsAsk, LeadsAlone}
 use Rattle.shared_desk.specs.declared.view.Stage.{Stage}
 use Rattle.shared_desk.specs.declared.view.Stage.TheVariants.{Idle, Merged, Waiting, Holding}
 use Rattle.shared_desk.specs.declared.view.View.{View}
-use Rattle.shared_desk.specs.Views.{total, ticket_of, gone_on, holding, sees}
+use Rattle.shared_desk.specs.Standing.{Standing}
+use Rattle.shared_desk.specs.Views.{total, ticket_of, gone_on, waiting, holding, sees}
 
 -- an object is as this history leaves it, and holds the history if the first one held the empty one
 abbrev pub Bears : {O P Q A S E R : Type 0} → Rules Q A S E R → (P → S) → (O → S) → (O → P → List E → Type 0) → O → List E → O → Type 0
@@ -109,17 +110,35 @@ raised r state asked before after =
     × (after ≡ (gone_on before.0 (asked_entries r state made.first before.0.seen made.question made.answer made.call) (asked_place r state made.first before.0.seen made.question made.answer), []))
 
 -- what a caller that took in another one learns: a history that is legal, which both had seen the beginning of, and no place is twice among its own
-abbrev pub learned : {O Q A S E R : Type 0} → Rules Q A S E R → (O → S) → Step O → Me O (View O E) → ℕ → Me O (View O E) → Type 0
-learned {O = O} {E = E} r state step before found after =
+abbrev pub HasLearned : {O Q A S E R : Type 0} → Rules Q A S E R → (O → S) → Me O (View O E) → Me O (View O E) → Type 0
+HasLearned {O = O} {E = E} r state before after =
     (log : List E) × (after ≡ (sees before.0 log, before.1)) × IsPrefix before.0.seen log
     × ((told : List E) → before.0.stage ≡ Merged told → IsPrefix told log)
     × ((first : O) → before.0.first ≡ Some first → IsLegal r (state first) log)
     × AllPairs (λ place other. place ≢ other) before.0.mine
+    × (before.0.left + length before.0.mine ≤ 9223372036854775808)
 
 -- the seat is one of a table with two words and one slot
 abbrev pub IsAt : TableId → TableId → Type 0
 IsAt hall seat = (seat ≡ hall) × (hall.words ≡ 2) × (hall.slots ≡ 1)
 
--- a caller that asks nothing, and has seen a legal history
+-- a caller that asks nothing, and has seen a legal history since its desk began
 abbrev pub IsAtRest : {O Q A S E R : Type 0} → Rules Q A S E R → (O → S) → Me O (View O E) → Type 0
-IsAtRest {O = O} r state me = (me.1 ≡ []) × (me.0.stage ≡ Idle) × ((first : O) → me.0.first ≡ Some first → IsLegal r (state first) me.0.seen)
+IsAtRest {O = O} r state me =
+    (me.1 ≡ []) × (me.0.stage ≡ Idle) × ((first : O) × (me.0.first ≡ Some first) × IsLegal r (state first) me.0.seen)
+
+-- a caller that has the object asked it this, and was answered so
+abbrev pub HasAskedObject : {O P Q A S E R : Type 0} → Rules Q A S E R → (P → S) → (O → S) → (O → P → List E → Type 0) → Me O (View O E) → Q → A → Me O (View O E) → Type 0
+HasAskedObject {O = O} {P = P} {E = E} r start state holds before question answer after =
+    (old new : O) × (call : E) × (before.1 ≡ (0, old) ∷ []) × (after ≡ (before.0, (0, new) ∷ []))
+    × IsAsk r (state old) question answer call (state new)
+    × ((opening : P) (seen : List E) → Leads r (start opening) seen (state old) → holds old opening seen
+      → holds new opening (seen ++ entries r (state old) question answer call))
+
+-- a caller that took in another one, and has not yet seen the history as it is
+abbrev pub IsMerged : {O E : Type 0} → Me O (View O E) → Type 0
+IsMerged {E = E} me = (me.1 ≡ []) × ((told : List E) × (me.0.stage ≡ Merged told))
+
+-- what a caller at this table stands for
+abbrev pub standing : {O E : Type 0} → TableId → View O E → Standing O E
+standing table view = record { desk = table; first = view.first; seen = view.seen; mine = view.mine; left = view.left }

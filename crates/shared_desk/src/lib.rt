@@ -5,5 +5,6 @@
 
 mod rule;
 mod steps;
+mod turn;
 mod view;
 

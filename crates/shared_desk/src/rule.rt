@@ -1,6 +1,7 @@
 //! What is kept at a shared desk between any two steps, and what each step tells who makes it.
+ghost use Rattle.std.specs.Prelude.{ℕ};
 ghost use Rattle.shared_desk.specs.Views.{newcomer, drawn, fewer, fresh, merged, spent};
-ghost use Rattle.shared_desk.specs.Rule.{IsKept, looked, raised, learned};
+ghost use Rattle.shared_desk.specs.Rule.{IsKept, looked, raised, HasLearned};
 
 use crate::view::View;
 use atomic_table::{Join, Play, Split, TableRule};
@@ -63,7 +64,7 @@ impl<O: Object, M: Asked<O::Question, O::Answer>> Play<O, ViewOf<O>> for Raise<M
 pub(crate) struct Learn;
 
 impl<O: Object> Play<O, ViewOf<O>> for Learn {
-    ghost then = { learned O.Law.rules O.state };
+    ghost then = { λ step before found after. HasLearned O.Law.rules O.state before after };
 }
 
 /// A number of asks.

@@ -1,10 +1,10 @@
 //! The steps of a caller at the table.
 ghost use Rattle.std.specs.Prelude.{◌≡◌, ◌<◌, ◌≤◌, ◌==◌, [], ◌∷◌, MatchBool};
 ghost use Rattle.shared_desk.specs.declared.view.Stage.TheVariants.{Idle, Waiting};
-ghost use Rattle.shared_desk.specs.Views.{fewer, fresh, waiting};
-ghost use Rattle.shared_desk.specs.Rule.{IsAt, HasTaken, MayRaise, raised};
+ghost use Rattle.shared_desk.specs.Views.{fewer, fresh, merged, waiting};
+ghost use Rattle.shared_desk.specs.Rule.{IsAt, HasTaken, MayRaise, raised, IsMerged, HasLearned};
 
-use crate::rule::{Asked, Cut, Draw, Hall, Look, Portion, Raise, Seat};
+use crate::rule::{Asked, Cut, Draw, Hall, Learn, Look, Merge, Portion, Raise, Seat};
 use farm_desk::Object;
 use history::Machine;
 use std::snapshot::Snapshot;
@@ -40,4 +40,49 @@ pub(crate) fn raise<O: Object, M: Asked<O::Question, O::Answer>>(hall: &Hall<O>,
     ensures raised { raised O.Law.rules O.state M.asked seat.old.me seat.new.me }
 {
     hall.fetch_add::<Raise<M>>(seat, 1, 1);
+}
+
+/// Gives asks to a new caller.
+pub(crate) fn cut<O: Object, N: Portion>(hall: &Hall<O>, seat: &mut Seat<O>, _asks: u64) -> Seat<O>
+    requires at { IsAt hall.now.table_id seat.old.table_id }
+    requires rest { (seat.old.me.0.stage ≡ Idle) × (seat.old.me.1 ≡ []) }
+    requires asks { N.asks ≤ seat.old.me.0.left }
+    ensures at { (seat.new.table_id ≡ seat.old.table_id) × (result.table_id ≡ seat.old.table_id) }
+    ensures old { seat.new.me ≡ (fewer seat.old.me.0 N.asks, []) }
+    ensures new { result.me ≡ (fresh seat.old.me.0 N.asks, []) }
+{
+    hall.split_seat::<Cut<N>>(seat)
+}
+
+/// Takes in another caller.
+fn merge<O: Object>(hall: &Hall<O>, seat: &mut Seat<O>, other: Seat<O>)
+    requires at { IsAt hall.now.table_id seat.old.table_id × (other.table_id ≡ hall.now.table_id) }
+    requires rest { (seat.old.me.0.stage ≡ Idle) × (seat.old.me.1 ≡ []) }
+    requires other { (other.me.0.stage ≡ Idle) × (other.me.1 ≡ []) }
+    ensures at { seat.new.table_id ≡ seat.old.table_id }
+    ensures merged { seat.new.me ≡ (merged seat.old.me.0 other.me.0, []) }
+{
+    hall.join_seat::<Merge>(seat, other);
+}
+
+/// Sees the history as it is, after another caller was taken in.
+fn learn<O: Object>(hall: &Hall<O>, seat: &mut Seat<O>)
+    requires at { IsAt hall.now.table_id seat.old.table_id }
+    requires merged { IsMerged seat.old.me }
+    ensures at { seat.new.table_id ≡ seat.old.table_id }
+    ensures learned { HasLearned O.Law.rules O.state seat.old.me seat.new.me }
+{
+    hall.load::<Learn>(seat, 1);
+}
+
+/// Takes in another caller, and sees the history as it then is.
+pub(crate) fn take_in<O: Object>(hall: &Hall<O>, seat: &mut Seat<O>, other: Seat<O>)
+    requires at { IsAt hall.now.table_id seat.old.table_id × (other.table_id ≡ hall.now.table_id) }
+    requires rest { (seat.old.me.0.stage ≡ Idle) × (seat.old.me.1 ≡ []) }
+    requires other { (other.me.0.stage ≡ Idle) × (other.me.1 ≡ []) }
+    ensures at { seat.new.table_id ≡ seat.old.table_id }
+    ensures learned { HasLearned O.Law.rules O.state (merged seat.old.me.0 other.me.0, []) seat.new.me }
+{
+    merge(hall, seat, other);
+    learn(hall, seat);
 }
