@@ -1,3 +1,5 @@
 mod Lists
 mod Kept
 mod Turning
+mod Standings
+mod Closing

@@ -142,3 +142,7 @@ IsMerged {E = E} me = (me.1 ≡ []) × ((told : List E) × (me.0.stage ≡ Merge
 -- what a caller at this table stands for
 abbrev pub standing : {O E : Type 0} → TableId → View O E → Standing O E
 standing table view = record { desk = table; first = view.first; seen = view.seen; mine = view.mine; left = view.left }
+
+-- what stands at a table with two words and one slot
+abbrev pub IsAtDesk : {O E : Type 0} → TableId → Standing O E → Type 0
+IsAtDesk hall standing = IsAt hall standing.desk
