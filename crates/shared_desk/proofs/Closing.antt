@@ -134,14 +134,14 @@ module _ {O P Q A S E R : Type 0} (r : Rules Q A S E R) (start : P → S) (state
 
   pub closes : (s : State O (View O E)) (k : IsKept r start state holds first s) (id : ℕ) (view : View O E) (slots : List O) (result : O) → get_elem? s.views id ≡ some view → view.stage ≡ Idle → view.left + length view.mine ≡ 9223372036854775808
       → ((place : ℕ) (object : O) → get_elem? s.homes place ≡ some (some object) → get_elem? slots place ≡ some object) → get_elem? slots 0 ≡ some result
-      → ((calls : List ℕ) × IsPermutation view.mine calls × LeadsAlone r (state first) view.seen calls (state result)) × Bears r start state holds first view.seen result
+      → ((object : O) → view.first ≡ Some object → object ≡ first) × ((calls : List ℕ) × IsPermutation view.mine calls × LeadsAlone r (state first) view.seen calls (state result)) × Bears r start state holds first view.seen result
   closes s k id view slots result at idle asks values took =
       let all = has_all s k id view at asks in
       let home = home_at_end s k view all in
       let same : result ≡ home.0 = some-injective result home.0 (sym took ∙ values 0 home.0 (ap (λ hs. get_elem? hs 0) home.1)) in
       let seen = seen_all s k id view at idle all in
       let bears : Bears r start state holds first view.seen result = subst (λ (z : List E × O). Bears r start state holds first z.0 z.1) (λ i. (sym seen i, sym same i)) home.2 in
-      ((k.calls, same_numbers view.mine k.calls all.covered all.counted,
+      ((k.fits id view at).0, (k.calls, same_numbers view.mine k.calls all.covered all.counted,
         record {
           legal = subst (IsLegal r (state first)) (sym seen) k.made.legal;
           leads = bears.0;

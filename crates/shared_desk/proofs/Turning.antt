@@ -1,5 +1,5 @@
 -- One ask in turn, put together from its steps.
-use Rattle.std.proofs.Common.{◌≡◌, ℕ, List, [], ◌∷◌, ◌++◌, length, refl, sym, ap, ◌∙◌, subst, Option, Some}
+use Rattle.std.proofs.Common.{◌≡◌, ℕ, List, [], ◌∷◌, ◌++◌, length, refl, sym, ap, ◌∙◌, subst, Option, Some, option_map}
 use mathlib.Core.List.{IsPrefix}
 use Rattle.atomic_table.specs.Table.{Me}
 use Rattle.atomic_table.specs.Seated.{TableId}
@@ -60,7 +60,7 @@ module _ {O P Q A S E R : Type 0} (r : Rules Q A S E R) (start : P → S) (state
 
   -- and when it has, the ask is made
   pub turn_made : (table : TableId) (me waited held after final : Me O (View O E)) (ticket : ℕ) (question : Q) (answer : A) → IsAtRest r state me → waited ≡ (waiting me.0 ticket, []) → HasTaken r start state holds waited ticket held
-      → HasAskedObject r start state holds held question answer after → raised r state (λ q a. (q ≡ question) × (a ≡ answer)) after final → HasTurn r state (standing table me.0) question answer (standing table final.0) × IsAtRest r state final
+      → HasAskedObject r start state holds held question answer after → raised r state (λ q a. (q ≡ question) × (a ≡ answer)) after final → HasTurn r (standing state table me.0) question answer (standing state table final.0) × IsAtRest r state final
   turn_made table me waited held after final ticket question answer rest waits taken asks raise =
       let made = raise.0 in
       let first = made.first in
@@ -80,14 +80,14 @@ module _ {O P Q A S E R : Type 0} (r : Rules Q A S E R) (start : P → S) (state
         raise.1 ∙ (λ i. (gone_on (view_is i) (asked_entries r state first (seen_is i) (made.is_such.0 i) (made.is_such.1 i) made.call) (asked_place r state first (seen_is i) (made.is_such.0 i) (made.is_such.1 i)), [])) in
       let mine_began : me.0.first ≡ Some first = sym (ap (λ (v : View O E). v.first) waited_view) ∙ began in
       (record {
-        first = first;
+        opening = state first;
         between = between;
         old = old;
         call = made.call;
         new = state made.object;
-        began = mine_began;
+        began = ap (option_map state) mine_began;
         led = (legal, refl);
         ask = ask;
-        went = ap (λ (m : Me O (View O E)). standing table m.0) went;
+        went = ap (λ (m : Me O (View O E)). standing state table m.0) went;
       },
       subst (IsAtRest r state) (sym went) (refl, refl, (first, mine_began, (Leads-ask r (state first) (me.0.seen ++ between) old question answer made.call (state made.object) (legal, refl) ask).0)))

@@ -1,5 +1,5 @@
 -- What is kept at a shared desk between any two steps, and what a step tells who makes it. These definitions stand in proofs alone.
-use Rattle.std.specs.Prelude.{◌≡◌, ℕ, ◌+◌, ◌<◌, ◌≤◌, ◌==◌, ◌≢◌, ◌⊎◌, List, [], ◌∷◌, ◌++◌, length, Option, Some, IfSome, MatchBool, AllPairs}
+use Rattle.std.specs.Prelude.{◌≡◌, ℕ, ◌+◌, ◌<◌, ◌≤◌, ◌==◌, ◌≢◌, ◌⊎◌, List, [], ◌∷◌, ◌++◌, length, Option, Some, MatchBool, AllPairs, option_map}
 use mathlib.Core.Option.{some, none}
 use mathlib.Core.List.{IsPrefix}
 use lib.ListN.{get_elem?}
@@ -140,9 +140,9 @@ abbrev pub IsMerged : {O E : Type 0} → Me O (View O E) → Type 0
 IsMerged {E = E} me = (me.1 ≡ []) × ((told : List E) × (me.0.stage ≡ Merged told))
 
 -- what a caller at this table stands for
-abbrev pub standing : {O E : Type 0} → TableId → View O E → Standing O E
-standing table view = record { desk = table; first = view.first; seen = view.seen; mine = view.mine; left = view.left }
+abbrev pub standing : {O S E : Type 0} → (O → S) → TableId → View O E → Standing S E
+standing state table view = record { desk = table; opening = option_map state view.first; seen = view.seen; mine = view.mine; left = view.left }
 
 -- what stands at a table with two words and one slot
-abbrev pub IsAtDesk : {O E : Type 0} → TableId → Standing O E → Type 0
+abbrev pub IsAtDesk : {S E : Type 0} → TableId → Standing S E → Type 0
 IsAtDesk hall standing = IsAt hall standing.desk

@@ -15,3 +15,5 @@ pub use pass::Pass;
 pub use shared::Shared;
 pub use token::Token;
 
+#[cfg(test)]
+mod tests;

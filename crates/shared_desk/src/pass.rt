@@ -1,6 +1,6 @@
 //! A caller's way to ask.
-ghost use Rattle.std.specs.Prelude.{◌≡◌, ◌≤◌, List, ℕ};
-ghost use Rattle.shared_desk.specs.Standing.{IsOf, gave, given, AreJoined, StandsFor, home_of};
+ghost use Rattle.std.specs.Prelude.{◌≡◌, ◌≤◌, List, ℕ, Some};
+ghost use Rattle.shared_desk.specs.Standing.{gave, given, AreJoined, StandsFor, home_of};
 
 use crate::shared::Shared;
 use crate::token::Token;
@@ -20,19 +20,22 @@ pub struct Pass<'a, O: Object, R: Wait> {
 }
 
 impl<'a, O: Object, R: Wait> Model for Pass<'a, O, R> {
-    ghost use Rattle.shared_desk.specs.Standing.{Standing, IsOf};
+    ghost use Rattle.std.specs.Prelude.{◌≡◌};
+    ghost use Rattle.shared_desk.specs.Standing.{Standing};
 
-    ghost Value = { Standing O O.Law.Entry };
+    ghost Value = { Standing O.Law.State O.Law.Entry };
 
     ghost view = { λ pass. pass.token };
 
-    ghost invariant = { λ pass. IsOf pass.shared.now pass.token };
+    ghost invariant = { λ pass. pass.token.desk ≡ pass.shared.now.desk };
 }
 
 impl<'a, O: Object, R: Wait> Pass<'a, O, R> {
     pub(crate) fn over(rt: &'a R, shared: &'a Shared<O>, token: Token<O>) -> Pass<'a, O, R>
-        requires { IsOf shared.now token }
-        ensures { result ≡ token }
+        requires { token.desk ≡ shared.now.desk }
+        ensures same { result ≡ token }
+        ensures stands { (opening : O.Law.Opening) → token.opening ≡ Some (O.Law.start opening)
+            → ⟦<Pass<'a, O, R> as Desk>⟧.stands result opening token.seen token.mine }
     {
         Pass { rt, shared, token }
     }
@@ -50,7 +53,9 @@ impl<'a, O: Object, R: Wait> Pass<'a, O, R> {
     /// Takes in a pass of the same desk, with all that it has seen, its calls and the asks that it has left.
     pub fn join(&mut self, other: Pass<'a, O, R>)
         requires { other.desk ≡ self.old.desk }
-        ensures { AreJoined self.old other.entry self.new }
+        ensures joined { AreJoined self.old other.entry self.new }
+        ensures stands { (opening : O.Law.Opening) → self.old.opening ≡ Some (O.Law.start opening)
+            → ⟦<Pass<'a, O, R> as Desk>⟧.stands self.new opening self.new.seen self.new.mine }
     {
         let Pass {
             rt: _,
@@ -88,13 +93,13 @@ impl<'a, O: Object, R: Wait> Desk for Pass<'a, O, R> {
 
     type Law = O::Law;
 
-    ghost stands = { λ pass opening seen mine. StandsFor O.Law.rules O.Law.start O.state pass opening seen mine };
+    ghost stands = { λ pass opening seen mine. StandsFor O.Law.rules O.Law.start pass opening seen mine };
 
-    ghost home = { λ pass. home_of O.state pass };
+    ghost home = { λ pass. home_of pass };
 
     fn ask(&mut self, question: O::Question) -> O::Answer {
         self.token.ask(self.rt, self.shared.hall(), question)
     }
 
-    ghost legal = { λ pass opening seen mine stood. stood.2.3 };
+    ghost legal = { λ pass opening seen mine stood. stood.3 };
 }

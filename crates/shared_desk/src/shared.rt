@@ -1,14 +1,14 @@
 //! The shared desk itself.
-ghost use Rattle.std.specs.Prelude.{◌≡◌, ◌+◌, ◌^◌, ℕ, List, [], ◌∷◌, length, IfOk, IfErr};
+ghost use Rattle.std.specs.Prelude.{◌≡◌, ◌+◌, ◌^◌, ℕ, List, [], ◌∷◌, length, Some, IfOk, IfErr};
 ghost use Rattle.std.specs.List.Sorted.{IsPermutation};
 ghost use Rattle.history.specs.Asks.{LeadsAlone};
-ghost use Rattle.shared_desk.specs.Standing.{IsOf, fresh_token};
+ghost use Rattle.shared_desk.specs.Standing.{fresh_token};
 
 use crate::pass::Pass;
 use crate::rule::{Hall, Turns, ViewOf};
 use crate::token::Token;
 use atomic_table::{Refused, Table};
-use farm_desk::Object;
+use farm_desk::{Desk, Object};
 use history::Machine;
 use std::alloc::{AllocFailed, Global};
 use std::marker::Model;
@@ -41,7 +41,7 @@ impl<O: Object> Shared<O> {
     /// A desk of this object, and a token that has all its asks, of which there are 2^63; for want of memory the object.
     pub fn new(alloc: Global, object: O) -> Result<(Shared<O>, Token<O>), O>
         ensures first { IfOk result (λ made. made.0.first ≡ object) }
-        ensures token { IfOk result (λ made. made.1 ≡ fresh_token made.0) }
+        ensures token { IfOk result (λ made. made.1 ≡ fresh_token made.0.desk (O.state object)) }
         ensures refused { IfErr result (λ back. back ≡ object) }
     {
         let about = Snapshot::of(&object);
@@ -66,8 +66,10 @@ impl<O: Object> Shared<O> {
 
     /// A way to ask, for whoever has the token.
     pub fn pass<'a, R: Wait>(&'a self, rt: &'a R, token: Token<O>) -> Pass<'a, O, R>
-        requires own { IsOf self.now token }
-        ensures { result ≡ token }
+        requires own { token.desk ≡ self.now.desk }
+        ensures same { result ≡ token }
+        ensures stands { (opening : O.Law.Opening) → token.opening ≡ Some (O.Law.start opening)
+            → ⟦<Pass<'a, O, R> as Desk>⟧.stands result opening token.seen token.mine }
     {
         Pass::over(rt, self, token)
     }
@@ -82,8 +84,9 @@ impl<O: Object> Shared<O> {
     /// The object, once every ask that was not made and every call is the token's. The history that the token saw is all that
     /// there was; it has the entries of asks in turn and no others, and its calls are the token's own.
     pub fn close(self, token: Token<O>) -> O
-        requires own { IsOf self token }
+        requires own { token.desk ≡ self.desk }
         requires all { token.left + length token.mine ≡ 2 ^ 63 }
+        ensures began { token.opening ≡ Some (O.state self.first) }
         ensures ends { (calls : List ℕ) × IsPermutation token.mine calls × LeadsAlone O.Law.rules (O.state self.first) token.seen calls (O.state result) }
         ensures holds { (opening : O.Law.Opening) → O.Law.start opening ≡ O.state self.first → O.holds self.first opening [] → O.holds result opening token.seen }
     {

@@ -1,5 +1,6 @@
 //! What a caller has of a shared desk while it asks nothing.
-ghost use Rattle.std.specs.Prelude.{◌≡◌, ◌+◌, ◌<◌, ◌≤◌, length};
+ghost use Rattle.std.specs.Prelude.{◌≡◌, ◌+◌, ◌<◌, ◌≤◌, length, Some};
+ghost use Rattle.history.specs.Histories.{IsLegal};
 ghost use Rattle.shared_desk.specs.Standing.{gave, given, AreJoined, HasTurn};
 ghost use Rattle.shared_desk.specs.Rule.{IsAtDesk};
 
@@ -26,9 +27,9 @@ impl<O: Object> Model for Token<O> {
     ghost use Rattle.shared_desk.specs.Standing.{Standing};
     ghost use Rattle.shared_desk.specs.Rule.{IsAtRest, standing};
 
-    ghost Value = { Standing O O.Law.Entry };
+    ghost Value = { Standing O.Law.State O.Law.Entry };
 
-    ghost view = { λ token. standing token.seat.table_id token.seat.me.0 };
+    ghost view = { λ token. standing O.state token.seat.table_id token.seat.me.0 };
 
     ghost invariant = { λ token. IsAtRest O.Law.rules O.state token.seat.me × (token.left ≡ token.seat.me.0.left) × (token.asked ≡ length token.seat.me.0.mine)
         × (token.left + token.asked ≤ 9223372036854775808) };
@@ -53,7 +54,7 @@ impl<O: Object> Token<O> {
     pub(crate) fn ask<R: Wait>(&mut self, rt: &R, hall: &Hall<O>, question: O::Question) -> O::Answer
         requires at { IsAtDesk hall.now.table_id self.old }
         requires left { 0 < self.old.left }
-        ensures { HasTurn O.Law.rules O.state self.old question result self.new }
+        ensures { HasTurn O.Law.rules self.old question result self.new }
     {
         self.left -= 1;
         self.asked += 1;
@@ -80,7 +81,8 @@ impl<O: Object> Token<O> {
     pub(crate) fn join(&mut self, hall: &Hall<O>, other: Token<O>)
         requires at { IsAtDesk hall.now.table_id self.old }
         requires other { other.desk ≡ self.old.desk }
-        ensures { AreJoined self.old other self.new }
+        ensures joined { AreJoined self.old other self.new }
+        ensures legal { (opening : O.Law.State) → self.new.opening ≡ Some opening → IsLegal O.Law.rules opening self.new.seen }
     {
         let Token { seat, left, asked } = other;
         take_in(hall, &mut self.seat, seat);

@@ -35,7 +35,7 @@ pub(crate) fn ask_in_turn<O: Object, R: Wait>(
     requires left { 0 < seat.old.me.0.left }
     ensures at { seat.new.table_id ≡ seat.old.table_id }
     ensures rest { IsAtRest O.Law.rules O.state seat.new.me }
-    ensures turn { HasTurn O.Law.rules O.state (standing seat.old.table_id seat.old.me.0) question result (standing seat.new.table_id seat.new.me.0) }
+    ensures turn { HasTurn O.Law.rules (standing O.state seat.old.table_id seat.old.me.0) question result (standing O.state seat.new.table_id seat.new.me.0) }
 {
     let ticket = draw(hall, seat);
     await_turn(rt, hall, seat, ticket);

@@ -7,6 +7,5 @@ use Rattle.shared_desk.proofs.pass.PassDesk.ask.Goals as goal
 pub returns-clause-asked : goal.returns-clause-asked
 returns-clause-asked g c =
     let r = g.O.Law.Machine.rules in
-    let state = g.O.Object.state in
-    let turn = subst (λ (z : Standing g.row.O.Denot g.row.O-Law-Entry.Denot). HasTurn r state z c.args.question c.ask.result c.ask.new.self) c.self.view_is c.ask.ensures in
-    asked_by r g.O.Law.Machine.start state c.args.self.now c.ask.new.self c.args.question c.ask.result turn
+    let turn = subst (λ (z : Standing g.row.O-Law-State.Denot g.row.O-Law-Entry.Denot). HasTurn r z c.args.question c.ask.result c.ask.new.self) c.self.view_is c.ask.ensures in
+    asked_by r g.O.Law.Machine.start c.args.self.now c.ask.new.self c.args.question c.ask.result turn
