@@ -1,18 +1,17 @@
 -- What is known of a desk at its end, by a caller that has all its asks and calls.
-use Rattle.std.proofs.Common.{◌≡◌, ◌≢◌, ℕ, zero, suc, ◌+◌, ◌<◌, ◌≤◌, ◌⊎◌, inl, inr, List, [], ◌∷◌, ◌++◌, length, refl, sym, ap, ◌∙◌, subst, ⊎_elim, arith, append_assoc, append-nil, length-append, Option, Some, None, eqb, cond}
+use Rattle.std.proofs.Common.{◌≡◌, ℕ, ◌+◌, ◌≤◌, ◌⊎◌, inl, inr, List, [], ◌∷◌, ◌++◌, length, refl, sym, ap, ◌∙◌, subst, ⊎_elim, arith, append_assoc, append-nil, length-append, Option, Some, None}
 use Rattle.std.specs.List.Sorted.{IsPermutation}
 use Rattle.std.proofs.lemmas.List.Sorted.{IsPermutation-refl, IsPermutation-sym, IsPermutation-cons, IsPermutation-middle, IsPermutation-trans}
-use mathlib.Core.Option.{some, none, some-injective}
-use mathlib.Core.List.{IsPrefix}
+use mathlib.Core.Option.{some, some-injective}
 use mathlib.Core.Logic.{dite}
 use native.Mathlib.Decide.{ℕ_discrete}
 use lib.ListN.{get_elem?}
 use Rattle.atomic_table.specs.Table.{State}
 use Rattle.history.specs.Rules.{Rules}
-use Rattle.history.specs.Histories.{entries, end_state, IsLegal, calls_of, place_of}
-use Rattle.history.specs.Asks.{IsAsk, AreEntries, LeadsAlone}
+use Rattle.history.specs.Histories.{IsLegal, calls_of, place_of}
+use Rattle.history.specs.Asks.{AreEntries, LeadsAlone}
 use Rattle.history.proofs.HistoriesLemmas.{calls_of-append}
-use Rattle.shared_desk.specs.declared.view.Stage.TheVariants.{Idle, Holding}
+use Rattle.shared_desk.specs.declared.view.Stage.TheVariants.{Idle}
 use Rattle.shared_desk.specs.declared.view.View.{View}
 use Rattle.shared_desk.specs.Views.{total}
 use Rattle.shared_desk.specs.Rule.{Bears, FitsStage, IsKept}
@@ -24,8 +23,8 @@ parted p [] some_weight = absurd (omega arith)
 parted p (y ∷ ys) some_weight = dite (ℕ_discrete y p)
     (λ same. ([], ys, ap (λ x. x ∷ ys) same))
     (λ other. let here = at_number-other p y other in
-      let rest = parted p ys (omega arith) in
-      (y ∷ rest.0, rest.1, ap (λ zs. y ∷ zs) rest.2))
+    let rest = parted p ys (omega arith) in
+    (y ∷ rest.0, rest.1, ap (λ zs. y ∷ zs) rest.2))
 
 -- as many numbers that weigh no more are the same ones
 same_numbers : (xs ys : List ℕ) → ((f : ℕ → ℕ) → total f xs ≤ total f ys) → length ys ≡ length xs → IsPermutation xs ys
@@ -42,10 +41,10 @@ same_numbers (x ∷ xs) ys less long =
     let sum = length-append before (x ∷ after) in
     let short = length-append before after in
     let rest = same_numbers xs (before ++ after)
-      (λ f. let l = less f in let t = ap (total f) is in let a = total-append f before (x ∷ after) in let b = total-append f before after in omega arith)
-      (omega arith) in
+    (λ f. let l = less f in let t = ap (total f) is in let a = total-append f before (x ∷ after) in let b = total-append f before after in omega arith)
+    (omega arith) in
     subst (IsPermutation (x ∷ xs)) (sym is)
-      (IsPermutation-trans (x ∷ xs) (x ∷ (before ++ after)) (before ++ x ∷ after) (IsPermutation-cons x xs (before ++ after) rest) (IsPermutation-sym (before ++ x ∷ after) (x ∷ (before ++ after)) (IsPermutation-middle before x after)))
+    (IsPermutation-trans (x ∷ xs) (x ∷ (before ++ after)) (before ++ x ∷ after) (IsPermutation-cons x xs (before ++ after) rest) (IsPermutation-sym (before ++ x ∷ after) (x ∷ (before ++ after)) (IsPermutation-middle before x after)))
 
 -- the last of a list, or this one
 abbrev last_of : {E : Type 0} → E → List E → E
@@ -73,9 +72,9 @@ module _ {Q A S E R : Type 0} (r : Rules Q A S E R) where
       let call = are.0 in
       let ticks = r.ticks from ask.0 ask.1 in
       ⊎_elim
-        (λ none_left. inr (ticks, call, ask.0, are.4 ∙ (ap (λ es. (ticks ++ call ∷ []) ++ es) none_left ∙ append-nil (ticks ++ call ∷ [])), are.3.asked))
-        (λ more. inr ((ticks ++ call ∷ []) ++ more.0, more.1, more.2, are.4 ∙ (ap (λ es. (ticks ++ call ∷ []) ++ es) more.3 ∙ sym (append_assoc (ticks ++ call ∷ []) more.0 (more.1 ∷ []))), more.4))
-        (ends_with_call are.1 asks are.2 are.5)
+      (λ none_left. inr (ticks, call, ask.0, are.4 ∙ (ap (λ es. (ticks ++ call ∷ []) ++ es) none_left ∙ append-nil (ticks ++ call ∷ [])), are.3.asked))
+      (λ more. inr ((ticks ++ call ∷ []) ++ more.0, more.1, more.2, are.4 ∙ (ap (λ es. (ticks ++ call ∷ []) ++ es) more.3 ∙ sym (append_assoc (ticks ++ call ∷ []) more.0 (more.1 ∷ []))), more.4))
+      (ends_with_call are.1 asks are.2 are.5)
 
   -- where the rest has no calls, there is none
   no_rest : (from : S) (asks : List (Q × A)) (made seen rest : List E) (place : ℕ) → AreEntries r from asks made → seen ++ rest ≡ made → length (calls_of r place rest) ≡ 0 → rest ≡ []
@@ -83,9 +82,9 @@ module _ {Q A S E R : Type 0} (r : Rules Q A S E R) where
   no_rest from asks made seen (e ∷ rest) place are is quiet = ⊎_elim
       (λ nothing. let sum = length-append seen (e ∷ rest) in let long = ap length (is ∙ nothing) in absurd (omega arith))
       (λ ends.
-        let last : last_of e rest ≡ ends.1 = sym (last_of-append e e seen rest) ∙ (ap (last_of e) (is ∙ ends.3) ∙ last_of-append e ends.1 ends.0 []) in
-        let asked : r.asked (last_of e rest) ≡ Some ends.2 = ap r.asked last ∙ ends.4 in
-        absurd (cc (asked, last_quiet place e rest quiet)))
+      let last : last_of e rest ≡ ends.1 = sym (last_of-append e e seen rest) ∙ (ap (last_of e) (is ∙ ends.3) ∙ last_of-append e ends.1 ends.0 []) in
+      let asked : r.asked (last_of e rest) ≡ Some ends.2 = ap r.asked last ∙ ends.4 in
+      absurd (cc (asked, last_quiet place e rest quiet)))
       (ends_with_call from asks made are)
 
 module _ {O P Q A S E R : Type 0} (r : Rules Q A S E R) (start : P → S) (state : O → S) (holds : O → P → List E → Type 0) (first : O) where
@@ -111,10 +110,10 @@ module _ {O P Q A S E R : Type 0} (r : Rules Q A S E R) (start : P → S) (state
   home_at_end s k view all = ⊎_elim
       (λ home. home)
       (λ out.
-        let fits = subst (FitsStage r k.log k.drawn (length k.calls) out.1.1) out.1.3 (k.fits out.1.0 out.1.1 out.1.2).2 in
-        let low = fits.1 in
-        let served = all.served in
-        absurd (omega arith))
+      let fits = subst (FitsStage r k.log k.drawn (length k.calls) out.1.1) out.1.3 (k.fits out.1.0 out.1.1 out.1.2).2 in
+      let low = fits.1 in
+      let served = all.served in
+      absurd (omega arith))
       k.placed
 
   -- what it has seen is the history
@@ -140,11 +139,17 @@ module _ {O P Q A S E R : Type 0} (r : Rules Q A S E R) (start : P → S) (state
       let home = home_at_end s k view all in
       let same : result ≡ home.0 = some-injective result home.0 (sym took ∙ values 0 home.0 (ap (λ hs. get_elem? hs 0) home.1)) in
       let seen = seen_all s k id view at idle all in
-      let bears : Bears r start state holds first view.seen result = subst (λ (z : List E × O). Bears r start state holds first z.0 z.1) (λ i. (sym seen i, sym same i)) home.2 in
-      ((k.fits id view at).0, (k.calls, same_numbers view.mine k.calls all.covered all.counted,
-        record {
-          legal = subst (IsLegal r (state first)) (sym seen) k.made.legal;
-          leads = bears.0;
-          all = k.made.all ∙ ap (calls_of r 0) (sym seen);
-          made = (k.made.made.0, subst (AreEntries r (state first) k.made.made.0) (sym seen) k.made.made.1);
-        }), bears)
+      let bears : Bears r start state holds first view.seen result = subst (λ (z : List E × O). Bears r start state holds first z.0 z.1) (λ i. (sym seen i, sym same i)) home.2 in (
+        (k.fits id view at).0,
+        (
+          k.calls,
+          same_numbers view.mine k.calls all.covered all.counted,
+          record {
+            legal = subst (IsLegal r (state first)) (sym seen) k.made.legal;
+            leads = bears.0;
+            all = k.made.all ∙ ap (calls_of r 0) (sym seen);
+            made = (k.made.made.0, subst (AreEntries r (state first) k.made.made.0) (sym seen) k.made.made.1);
+          },
+        ),
+        bears,
+      )

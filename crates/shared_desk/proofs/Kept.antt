@@ -1,15 +1,14 @@
 -- Each step of a shared desk keeps its rule.
-use Rattle.std.proofs.Common.{◌≡◌, ◌≢◌, ℕ, zero, suc, ◌+◌, ◌-◌, ◌%◌, ◌^◌, ◌<◌, ◌≤◌, ◌⊎◌, inl, inr, List, [], ◌∷◌, ◌++◌, length, set, get_or, refl, sym, ap, ◌∙◌, subst, ⊎_elim, arith, append_assoc, length-append, Option, Some, None, eqb, eq-eqb, ne_eqb, true, false, MatchBool, AllPairs, mod-eq_of_lt}
+use Rattle.std.proofs.Common.{◌≡◌, ◌≢◌, ℕ, zero, suc, ◌+◌, ◌%◌, ◌^◌, ◌<◌, ◌≤◌, inl, inr, List, [], ◌∷◌, ◌++◌, length, set, get_or, refl, sym, ap, ◌∙◌, subst, ⊎_elim, arith, length-append, Some, None, eqb, eq-eqb, ne_eqb, MatchBool, AllPairs, mod-eq_of_lt}
 use Rattle.std.proofs.lemmas.List.{set-get_or}
 use mathlib.Core.Option.{some, none, some-ne-none, some-injective}
-use mathlib.Core.List.{IsPrefix}
 use mathlib.Core.Logic.{dite}
 use native.Mathlib.Decide.{ℕ_discrete}
 use lib.ListN.{get_elem?}
-use Rattle.atomic_table.specs.Table.{State, Step, Me, Act, keeps, takes, gives, put_back, rest, stepped, Allows, Splits, Joins, opening}
+use Rattle.atomic_table.specs.Table.{State, Me, keeps, takes, gives, put_back, rest, stepped, Allows, Splits, Joins, opening}
 use Rattle.atomic_table.proofs.Lists.{at_set, at_snoc, set_here, set_else, set_again, at_longer}
 use Rattle.history.specs.Rules.{Rules}
-use Rattle.history.specs.Histories.{entries, end_state, IsLegal, calls_of}
+use Rattle.history.specs.Histories.{end_state, IsLegal, calls_of}
 use Rattle.history.specs.Asks.{IsAsk, AreEntries, LeadsAlone}
 use Rattle.history.proofs.AsksLemmas.{LeadsAlone-none, LeadsAlone-ask}
 use Rattle.history.proofs.HistoriesLemmas.{calls_of-rise}
@@ -17,7 +16,7 @@ use Rattle.shared_desk.specs.declared.view.Stage.{Stage}
 use Rattle.shared_desk.specs.declared.view.Stage.TheVariants.{Idle, Merged, Waiting, Holding}
 use Rattle.shared_desk.specs.declared.view.View.{View}
 use Rattle.shared_desk.specs.Views.{total, ticket_of, newcomer, spent, fewer, fresh, merged, waiting, holding, gone_on, sees, drawn}
-use Rattle.shared_desk.specs.Rule.{Bears, IsCovered, FitsStage, Fits, AreApart, IsPlaced, IsKept, HasTaken, looked, asked_entries, asked_place, HasMade, MayRaise, raised, HasLearned}
+use Rattle.shared_desk.specs.Rule.{Bears, FitsStage, Fits, AreApart, IsPlaced, IsKept, HasTaken, looked, asked_entries, asked_place, MayRaise, raised, HasLearned}
 use Rattle.shared_desk.proofs.Lists.{total-append, total_set, total_has, total_ones, prefix_self, prefix_more, each_set, each_push, one_there, inside, one_set, distinct_below}
 
 -- a caller with no ticket, or one that waits, does not have the object
@@ -56,13 +55,13 @@ module _ {O P Q A S E R : Type 0} (r : Rules Q A S E R) (start : P → S) (state
       → AreApart (set views id next)
   apart_set views id next apart alone i j view another ticket at there mine its = ⊎_elim
       (λ here. ⊎_elim
-        (λ too. here.0 ∙ sym too.0)
-        (λ else. absurd (alone ticket j another (ap (λ (v : View O E). ticket_of v.stage) here.1 ∙ mine) else.0 else.1 its))
-        (at_set views id j next another there))
+      (λ too. here.0 ∙ sym too.0)
+      (λ else. absurd (alone ticket j another (ap (λ (v : View O E). ticket_of v.stage) here.1 ∙ mine) else.0 else.1 its))
+      (at_set views id j next another there))
       (λ else. ⊎_elim
-        (λ here. absurd (alone ticket i view (ap (λ (v : View O E). ticket_of v.stage) here.1 ∙ its) else.0 else.1 mine))
-        (λ too. apart i j view another ticket else.1 too.1 mine its)
-        (at_set views id j next another there))
+      (λ here. absurd (alone ticket i view (ap (λ (v : View O E). ticket_of v.stage) here.1 ∙ its) else.0 else.1 mine))
+      (λ too. apart i j view another ticket else.1 too.1 mine its)
+      (at_set views id j next another there))
       (at_set views id i next view at)
 
   -- a caller without a ticket that comes has none that another has
@@ -70,9 +69,9 @@ module _ {O P Q A S E R : Type 0} (r : Rules Q A S E R) (start : P → S) (state
   apart_push views next quiet apart i j view another ticket at there mine its =
       let not_new : (v : View O E) → ticket_of v.stage ≡ Some ticket → next ≡ v → ⊥ = λ v has is. cc (quiet, ap (λ (w : View O E). ticket_of w.stage) is, has) in
       ⊎_elim
-        (λ here. ⊎_elim (λ too. apart i j view another ticket here too mine its) (λ new. absurd (not_new another its new)) (at_snoc views next another j there))
-        (λ new. absurd (not_new view mine new))
-        (at_snoc views next view i at)
+      (λ here. ⊎_elim (λ too. apart i j view another ticket here too mine its) (λ new. absurd (not_new another its new)) (at_snoc views next another j there))
+      (λ new. absurd (not_new view mine new))
+      (at_snoc views next view i at)
 
   -- the object is where it was, when a caller comes
   placed_push : (log : List E) (served : ℕ) (homes : List (mathlib.Core.Option.Option O)) (views : List (View O E)) (next : View O E) → IsPlaced r start state holds first log served homes views → IsPlaced r start state holds first log served homes (views ++ next ∷ [])
@@ -122,27 +121,30 @@ module _ {O P Q A S E R : Type 0} (r : Rules Q A S E R) (start : P → S) (state
       let read = words_read s.words k.drawn (length k.calls) k.words_are in
       let part = total_has (λ (v : View O E). v.left) s.views id me.0 at in
       let asks = k.asks in
-      let bounded = k.bounded in
-      (next, keeps, tt,
+      let bounded = k.bounded in (
+        next,
+        keeps,
+        tt,
         same_history s k id me.0 next (set s.words 0 ((get_or s.words 0 0 + 1) % 2 ^ 64)) s.homes (k.drawn + 1) at
-          (words_drawn s.words k.drawn (length k.calls) k.words_are (omega arith))
-          (omega arith)
-          (placed_set k.log (length k.calls) s.homes s.views id me.0 next at (λ t h. not_holding me.0.stage t (ap ticket_of idle) h) k.placed)
-          ((k.fits id me.0 at).0, (k.fits id me.0 at).1, (omega (arith, read.0), omega (arith, read.0)))
-          (λ ticket j v mine other there its.
+            (words_drawn s.words k.drawn (length k.calls) k.words_are (omega arith))
+            (omega arith)
+            (placed_set k.log (length k.calls) s.homes s.views id me.0 next at (λ t h. not_holding me.0.stage t (ap ticket_of idle) h) k.placed)
+            ((k.fits id me.0 at).0, (k.fits id me.0 at).1, (omega (arith, read.0), omega (arith, read.0)))
+            (λ ticket j v mine other there its.
             let drew : get_or s.words 0 0 ≡ ticket = cc mine in
             let low = (ticket_between k.log k.drawn (length k.calls) v v.stage ticket (k.fits j v there).2 its).1 in
             absurd (omega (arith, read.0)))
-          (omega arith)
-          refl,
-        refl)
+            (omega arith)
+            refl,
+        refl,
+      )
 
   -- a look at a ticket that is not served changes nothing
   look_missed : (s : State O (View O E)) (k : IsKept r start state holds first s) (id : ℕ) (view : View O E) (word : ℕ) → get_elem? s.views id ≡ some view
       → IsKept r start state holds first record { words = set s.words word (get_or s.words word 0); homes = s.homes; views = set s.views id view }
   look_missed s k id view word at =
       subst (λ (z : List ℕ × List (View O E)). IsKept r start state holds first record { words = z.0; homes = s.homes; views = z.1 })
-        (λ i. (sym (set-get_or s.words word 0) i, sym (set_again s.views id view at) i)) k
+      (λ i. (sym (set-get_or s.words word 0) i, sym (set_again s.views id view at) i)) k
 
   -- a look at the ticket that is served takes the object, which is at home
   look_hit : (s : State O (View O E)) (k : IsKept r start state holds first s) (id : ℕ) (view : View O E) (ticket : ℕ) (object : O)
@@ -153,13 +155,13 @@ module _ {O P Q A S E R : Type 0} (r : Rules Q A S E R) (start : P → S) (state
       let fits = k.fits id view at in
       let between = subst (FitsStage r k.log k.drawn (length k.calls) view) waits fits.2 in
       same_history s k id view next (set s.words 1 (get_or s.words 1 0)) (set s.homes 0 none) k.drawn at
-        (set-get_or s.words 1 0 ∙ k.words_are)
-        (omega arith)
-        (inr (ap (λ hs. set hs 0 none) homes_are, (id, next, set_here s.views id next (inside s.views id view at), ap Holding turn)))
-        (fits.0, prefix_self k.log, (turn, between.1, refl))
-        (λ t j v mine other there its. other (k.apart j id v view t there at its (ap ticket_of waits ∙ mine)))
-        refl
-        refl
+      (set-get_or s.words 1 0 ∙ k.words_are)
+      (omega arith)
+      (inr (ap (λ hs. set hs 0 none) homes_are, (id, next, set_here s.views id next (inside s.views id view at), ap Holding turn)))
+      (fits.0, prefix_self k.log, (turn, between.1, refl))
+      (λ t j v mine other there its. other (k.apart j id v view t there at its (ap ticket_of waits ∙ mine)))
+      refl
+      refl
 
   -- the object is at home when a waiting caller's ticket is served
   at_home : (s : State O (View O E)) (k : IsKept r start state holds first s) (id : ℕ) (view : View O E) (ticket : ℕ)
@@ -168,9 +170,9 @@ module _ {O P Q A S E R : Type 0} (r : Rules Q A S E R) (start : P → S) (state
   at_home s k id view ticket at waits turn = ⊎_elim
       (λ home. home)
       (λ out. let holder = out.1.1 in
-        let same = k.apart out.1.0 id holder view ticket out.1.2 at (ap ticket_of (out.1.3 ∙ ap Holding (sym turn))) (ap ticket_of waits) in
-        let is = ap (λ (v : View O E). v.stage) (one_there s.views out.1.0 id holder view out.1.2 at same) in
-        absurd (cc (is, waits, out.1.3)))
+      let same = k.apart out.1.0 id holder view ticket out.1.2 at (ap ticket_of (out.1.3 ∙ ap Holding (sym turn))) (ap ticket_of waits) in
+      let is = ap (λ (v : View O E). v.stage) (one_there s.views out.1.0 id holder view out.1.2 at same) in
+      absurd (cc (is, waits, out.1.3)))
       k.placed
 
   pub looks : (slots id : ℕ) (me : Me O (View O E)) (ticket : ℕ) → me.0.stage ≡ Waiting ticket → me.1 ≡ []
@@ -179,21 +181,27 @@ module _ {O P Q A S E R : Type 0} (r : Rules Q A S E R) (start : P → S) (state
       let found = get_or s.words 1 0 in
       let read = words_read s.words k.drawn (length k.calls) k.words_are in
       dite (ℕ_discrete found ticket)
-        (λ hit.
-          let turn : ticket ≡ length k.calls = sym hit ∙ read.1 in
-          let home = at_home s k id me.0 ticket at waits turn in
-          let fits = k.fits id me.0 at in
-          let next = holding me.0 k.log ticket in
-          let taken : HasTaken r start state holds me ticket (next, (0, home.0) ∷ me.1) =
-              (k.log, home.0, refl, fits.1, λ f began. let is = fits.0 f began in (subst (λ z. IsLegal r (state z) k.log) (sym is) k.made.legal, subst (λ z. Bears r start state holds z k.log home.0) (sym is) home.2)) in
-          (next, takes 0 home.0, ap (λ hs. get_elem? hs 0) home.1,
-            look_hit s k id me.0 ticket home.0 at waits turn home.1,
-            λ t its. let same : ticket ≡ t = cc (waits, its) in
-              subst (λ z. MatchBool (eqb found z) (HasTaken r start state holds me z (next, (0, home.0) ∷ me.1)) ((next, (0, home.0) ∷ me.1) ≡ me)) same (rw (eq-eqb found ticket hit) taken)))
-        (λ miss.
-          (me.0, keeps, tt,
-            look_missed s k id me.0 1 at,
-            λ t its. let other : found ≢ t = λ e. miss (e ∙ cc (waits, its)) in rw (ne_eqb found t other) refl))
+      (λ hit.
+      let turn : ticket ≡ length k.calls = sym hit ∙ read.1 in
+      let home = at_home s k id me.0 ticket at waits turn in
+      let fits = k.fits id me.0 at in
+      let next = holding me.0 k.log ticket in
+      let taken : HasTaken r start state holds me ticket (next, (0, home.0) ∷ me.1) =
+      (k.log, home.0, refl, fits.1, λ f began. let is = fits.0 f began in (subst (λ z. IsLegal r (state z) k.log) (sym is) k.made.legal, subst (λ z. Bears r start state holds z k.log home.0) (sym is) home.2)) in (
+        next,
+        takes 0 home.0,
+        ap (λ hs. get_elem? hs 0) home.1,
+        look_hit s k id me.0 ticket home.0 at waits turn home.1,
+        λ t its. let same : ticket ≡ t = cc (waits, its) in
+            subst (λ z. MatchBool (eqb found z) (HasTaken r start state holds me z (next, (0, home.0) ∷ me.1)) ((next, (0, home.0) ∷ me.1) ≡ me)) same (rw (eq-eqb found ticket hit) taken),
+      ))
+      (λ miss. (
+        me.0,
+        keeps,
+        tt,
+        look_missed s k id me.0 1 at,
+        λ t its. let other : found ≢ t = λ e. miss (e ∙ cc (waits, its)) in rw (ne_eqb found t other) refl,
+      ))
 
   -- the second word after a raise
   words_raised : (words : List ℕ) (drawn served : ℕ) → words ≡ drawn ∷ served ∷ [] → served < 9223372036854775808 → set words 1 ((get_or words 1 0 + 1) % 2 ^ 64) ≡ drawn ∷ (served + 1) ∷ []
@@ -244,24 +252,27 @@ module _ {O P Q A S E R : Type 0} (r : Rules Q A S E R) (start : P → S) (state
         made = longer;
         placed = inl (object, homes_are, bears);
         fits = subst (λ n. (j : ℕ) (v : View O E) → get_elem? (set s.views id next) j ≡ some v → Fits r first (view.seen ++ made) k.drawn n v) (sym count)
-          (each_set (Fits r first (view.seen ++ made) k.drawn (length k.calls + 1)) s.views id next
-            (fits.0, prefix_self (view.seen ++ made), λ f.
-              let t = total_has (λ (v : View O E). total f v.mine) s.views id view at in
-              let p = k.places f in
-              let a = total-append f view.mine (place ∷ []) in
-              let b = total-append f k.calls (place ∷ []) in
-              let c = ap (total f) longer.all in
-              omega arith)
+            (each_set (Fits r first (view.seen ++ made) k.drawn (length k.calls + 1)) s.views id next (
+              fits.0,
+              prefix_self (view.seen ++ made),
+              λ f.
+                  let t = total_has (λ (v : View O E). total f v.mine) s.views id view at in
+                  let p = k.places f in
+                  let a = total-append f view.mine (place ∷ []) in
+                  let b = total-append f k.calls (place ∷ []) in
+                  let c = ap (total f) longer.all in
+                  omega arith,
+            )
             (λ j v other there. subst (λ z. Fits r first (z ++ made) k.drawn (length k.calls + 1) v) (sym turn.2)
-              (fits_raised k.log made k.drawn (length k.calls) v (λ its. other (k.apart j id v view (length k.calls) there at its (ap ticket_of (has ∙ ap Holding turn.0)))) (k.fits j v there))));
+            (fits_raised k.log made k.drawn (length k.calls) v (λ its. other (k.apart j id v view (length k.calls) there at its (ap ticket_of (has ∙ ap Holding turn.0)))) (k.fits j v there))));
         apart = apart_set s.views id next k.apart (λ t j v mine other there its. absurd cc);
         asks = let t = total_set (λ (v : View O E). v.left) s.views id view next at in omega arith;
         places = λ f.
-          let t = total_set (λ (v : View O E). total f v.mine) s.views id view next at in
-          let p = k.places f in
-          let a = total-append f view.mine (place ∷ []) in
-          let b = total-append f k.calls (place ∷ []) in
-          omega arith;
+            let t = total_set (λ (v : View O E). total f v.mine) s.views id view next at in
+            let p = k.places f in
+            let a = total-append f view.mine (place ∷ []) in
+            let b = total-append f k.calls (place ∷ []) in
+            omega arith;
       }
 
   -- a caller that took in another one sees the history as it is
@@ -270,21 +281,28 @@ module _ {O P Q A S E R : Type 0} (r : Rules Q A S E R) (start : P → S) (state
   learns slots id me told is free s k size at low =
       let next = sees me.0 k.log in
       let fits = k.fits id me.0 at in
-      let covered : (f : ℕ → ℕ) → total f me.0.mine ≤ total f k.calls = λ f. (let t = total_has (λ (v : View O E). total f v.mine) s.views id me.0 at in let p = k.places f in omega arith) in
-      (next, keeps, tt,
+      let covered : (f : ℕ → ℕ) → total f me.0.mine ≤ total f k.calls = λ f. (let t = total_has (λ (v : View O E). total f v.mine) s.views id me.0 at in let p = k.places f in omega arith) in (
+        next,
+        keeps,
+        tt,
         same_history s k id me.0 next (set s.words 1 (get_or s.words 1 0)) s.homes k.drawn at
-          (set-get_or s.words 1 0 ∙ k.words_are)
-          (omega arith)
-          (placed_set k.log (length k.calls) s.homes s.views id me.0 next at (λ t h. not_holding me.0.stage t (ap ticket_of is) h) k.placed)
-          (fits.0, prefix_self k.log, λ f. (let c = covered f in let all = ap (total f) k.made.all in omega arith))
-          (λ t j v mine other there its. absurd cc)
-          refl
+            (set-get_or s.words 1 0 ∙ k.words_are)
+            (omega arith)
+            (placed_set k.log (length k.calls) s.homes s.views id me.0 next at (λ t h. not_holding me.0.stage t (ap ticket_of is) h) k.placed)
+            (fits.0, prefix_self k.log, λ f. (let c = covered f in let all = ap (total f) k.made.all in omega arith))
+            (λ t j v mine other there its. absurd cc)
+            refl
+            refl,
+        (
+          k.log,
           refl,
-        (k.log, refl, fits.1,
+          fits.1,
           (λ told its. subst (FitsStage r k.log k.drawn (length k.calls) me.0) its fits.2),
           (λ f began. subst (λ z. IsLegal r (state z) k.log) (sym (fits.0 f began)) k.made.legal),
           distinct_below me.0.mine k.calls covered (subst (AllPairs (λ x y. x < y)) (sym k.made.all) (calls_of-rise r 0 k.log)),
-          (let own = covered (λ p. 1) in let l = total_has (λ (v : View O E). v.left) s.views id me.0 at in let a = k.asks in let b = k.bounded in let m = total_ones me.0.mine in let n = total_ones k.calls in omega arith)))
+          (let own = covered (λ p. 1) in let l = total_has (λ (v : View O E). v.left) s.views id me.0 at in let a = k.asks in let b = k.bounded in let m = total_ones me.0.mine in let n = total_ones k.calls in omega arith),
+        ),
+      )
 
   -- asks are given to a new caller
   pub cuts : (id : ℕ) (view : View O E) (asks : ℕ) → view.stage ≡ Idle → asks ≤ view.left → Splits (IsKept r start state holds first) id view (fewer view asks) (fresh view asks)
@@ -304,18 +322,18 @@ module _ {O P Q A S E R : Type 0} (r : Rules Q A S E R) (start : P → S) (state
         made = k.made;
         placed = placed_push k.log (length k.calls) s.homes views new quiet;
         fits = each_push (Fits r first k.log k.drawn (length k.calls)) views new (fits.0, fits.1, λ f. omega arith)
-          (each_set (Fits r first k.log k.drawn (length k.calls)) s.views id less (fits.0, fits.1, fits.2) (λ j v other there. k.fits j v there));
+            (each_set (Fits r first k.log k.drawn (length k.calls)) s.views id less (fits.0, fits.1, fits.2) (λ j v other there. k.fits j v there));
         apart = apart_push views new refl (apart_set s.views id less k.apart (λ t j v mine other there its. absurd (cc (ap ticket_of idle, mine))));
         asks =
-          let t = total_set (λ (v : View O E). v.left) s.views id view less at in
-          let p = total-append (λ (v : View O E). v.left) views (new ∷ []) in
-          let a = k.asks in
-          omega arith;
+            let t = total_set (λ (v : View O E). v.left) s.views id view less at in
+            let p = total-append (λ (v : View O E). v.left) views (new ∷ []) in
+            let a = k.asks in
+            omega arith;
         places = λ f.
-          let t = total_set (λ (v : View O E). total f v.mine) s.views id view less at in
-          let p = total-append (λ (v : View O E). total f v.mine) views (new ∷ []) in
-          let a = k.places f in
-          omega arith;
+            let t = total_set (λ (v : View O E). total f v.mine) s.views id view less at in
+            let p = total-append (λ (v : View O E). total f v.mine) views (new ∷ []) in
+            let a = k.places f in
+            omega arith;
       }
 
   -- a caller takes in another one
@@ -337,19 +355,19 @@ module _ {O P Q A S E R : Type 0} (r : Rules Q A S E R) (start : P → S) (state
         made = k.made;
         placed = placed_set k.log (length k.calls) s.homes views other another spent there (λ t h. not_holding another.stage t (ap ticket_of too) h) kept;
         fits = each_set (Fits r first k.log k.drawn (length k.calls)) views other spent ((λ f began. absurd cc), (k.log, refl), λ f. omega arith)
-          (λ j v away here. each_set (Fits r first k.log k.drawn (length k.calls)) s.views id both (fits.0, fits.1, others.1) (λ j v other there. k.fits j v there) j v here);
+            (λ j v away here. each_set (Fits r first k.log k.drawn (length k.calls)) s.views id both (fits.0, fits.1, others.1) (λ j v other there. k.fits j v there) j v here);
         apart = apart_set views other spent (apart_set s.views id both k.apart (λ t j v mine away here its. absurd cc)) (λ t j v mine away here its. absurd cc);
         asks =
-          let t = total_set (λ (v : View O E). v.left) s.views id view both at in
-          let p = total_set (λ (v : View O E). v.left) views other another spent there in
-          let a = k.asks in
-          omega arith;
+            let t = total_set (λ (v : View O E). v.left) s.views id view both at in
+            let p = total_set (λ (v : View O E). v.left) views other another spent there in
+            let a = k.asks in
+            omega arith;
         places = λ f.
-          let t = total_set (λ (v : View O E). total f v.mine) s.views id view both at in
-          let p = total_set (λ (v : View O E). total f v.mine) views other another spent there in
-          let sum = total-append f view.mine another.mine in
-          let a = k.places f in
-          omega arith;
+            let t = total_set (λ (v : View O E). total f v.mine) s.views id view both at in
+            let p = total_set (λ (v : View O E). total f v.mine) views other another spent there in
+            let sum = total-append f view.mine another.mine in
+            let a = k.places f in
+            omega arith;
       }
 
   -- the first caller has no ticket
@@ -381,6 +399,6 @@ module _ {O P Q A S E R : Type 0} (r : Rules Q A S E R) (start : P → S) (state
       let made = may.2 in
       let same : made.first ≡ first = (k.fits id me.0 at).0 made.first made.began in
       let kept = raise_kept r start state holds made.first s (subst (λ z. IsKept r start state holds z s) (sym same) k) id me.0 may.0 (put_back s.homes me.1) made.object made.question made.answer made.call at may.1
-          (ap (put_back s.homes) made.has ∙ one_set s.homes (some made.object) (size ∙ one)) made.ask may.3 in
+      (ap (put_back s.homes) made.has ∙ one_set s.homes (some made.object) (size ∙ one)) made.ask may.3 in
       let next = gone_on me.0 (asked_entries r state made.first me.0.seen made.question made.answer made.call) (asked_place r state made.first me.0.seen made.question made.answer) in
       (next, gives, tt, subst (λ z. IsKept r start state holds z (stepped s 1 ((get_or s.words 1 0 + 1) % 2 ^ 64) id me.1 next gives)) same kept, (made, ap (λ c. (next, rest c)) made.has))

@@ -1,5 +1,5 @@
 -- Weights of lists, beginnings of one list, and lists of views when one changes or one comes.
-use Rattle.std.proofs.Common.{◌≡◌, ◌≢◌, ℕ, zero, suc, ◌+◌, ◌<◌, ◌≤◌, ◌⊎◌, List, [], ◌∷◌, ◌++◌, length, set, refl, sym, ap, ◌∙◌, subst, ⊎_elim, arith, append_assoc, length-append, AllPairs, cond, eqb, eq-eqb, ne_eqb, get_or}
+use Rattle.std.proofs.Common.{◌≡◌, ◌≢◌, ℕ, zero, suc, ◌+◌, ◌<◌, ◌≤◌, List, [], ◌∷◌, ◌++◌, length, set, refl, sym, ap, ◌∙◌, subst, ⊎_elim, arith, append_assoc, AllPairs, cond, eqb, eq-eqb, ne_eqb, get_or}
 use mathlib.Core.Logic.{dite}
 use native.Mathlib.Decide.{ℕ_discrete}
 use mathlib.Core.Option.{some, some-injective, some-ne-none}
@@ -101,11 +101,11 @@ once_rising : (p : ℕ) (xs : List ℕ) → AllPairs (λ earlier later. earlier 
 once_rising p [] rise = omega arith
 once_rising p (x ∷ xs) rise = dite (ℕ_discrete x p)
     (λ same. let here = at_number-same p x same in
-      let rest = none_above p xs (λ k d within. let up = rise 0 (suc k) d (omega arith) (omega arith) in omega arith) in
-      omega arith)
+    let rest = none_above p xs (λ k d within. let up = rise 0 (suc k) d (omega arith) (omega arith) in omega arith) in
+    omega arith)
     (λ other. let here = at_number-other p x other in
-      let rest = once_rising p xs (λ i j d before within. rise (suc i) (suc j) d (omega arith) (omega arith)) in
-      omega arith)
+    let rest = once_rising p xs (λ i j d before within. rise (suc i) (suc j) d (omega arith) (omega arith)) in
+    omega arith)
 
 -- numbers that weigh no more than rising ones stand there once each
 pub distinct_below : (xs ys : List ℕ) → ((f : ℕ → ℕ) → total f xs ≤ total f ys) → AllPairs (λ earlier later. earlier < later) ys → AllPairs (λ place other. place ≢ other) xs

@@ -1,15 +1,15 @@
 -- What an ask and a join do to what a caller stands for.
-use Rattle.std.proofs.Common.{◌≡◌, ◌≢◌, ℕ, List, [], ◌∷◌, ◌++◌, length, refl, sym, ap, ◌∙◌, subst, Option, Some, AllPairs, option_map}
+use Rattle.std.proofs.Common.{◌≡◌, ◌≢◌, ℕ, List, [], ◌++◌, refl, sym, ap, ◌∙◌, subst, Some, AllPairs, option_map}
 use mathlib.Core.List.{IsPrefix}
 use Rattle.atomic_table.specs.Table.{Me}
 use Rattle.atomic_table.specs.Seated.{TableId}
 use Rattle.history.specs.Rules.{Rules}
-use Rattle.history.specs.Histories.{entries, IsLegal, Leads}
-use Rattle.history.specs.Asks.{IsAsk, HasAsked}
+use Rattle.history.specs.Histories.{IsLegal, Leads}
+use Rattle.history.specs.Asks.{HasAsked}
 use Rattle.history.proofs.AsksLemmas.{Leads-ask, HasAsked-leads}
 use Rattle.shared_desk.specs.declared.view.View.{View}
 use Rattle.shared_desk.specs.Standing.{Standing, AreJoined, StandsFor, HasTurn}
-use Rattle.shared_desk.specs.Views.{merged, sees}
+use Rattle.shared_desk.specs.Views.{merged}
 use Rattle.shared_desk.specs.Rule.{HasLearned, standing}
 
 -- two callers that were put together
@@ -44,10 +44,10 @@ module _ {P Q A S E R : Type 0} (r : Rules Q A S E R) (start : P → S) where
       let leads = subst (λ z. Leads r z (before.seen ++ turn.between) turn.old) (sym same) turn.led in
       let goes_on = Leads-ask r (start opening) (before.seen ++ turn.between) turn.old question answer turn.call turn.new leads turn.ask in
       HasAsked-leads r (StandsFor r start after opening) (start opening) before.seen turn.between before.mine turn.old question answer turn.call turn.new leads turn.ask
-        (sym (ap (λ (s : Standing S E). s.seen) turn.went), sym (ap (λ (s : Standing S E). s.mine) turn.went), ap (λ (s : Standing S E). s.opening) turn.went ∙ (turn.began ∙ ap Some (sym same)), goes_on.0)
+      (sym (ap (λ (s : Standing S E). s.seen) turn.went), sym (ap (λ (s : Standing S E). s.mine) turn.went), ap (λ (s : Standing S E). s.opening) turn.went ∙ (turn.began ∙ ap Some (sym same)), goes_on.0)
 
   pub asked_by : (before after : Standing S E) (question : Q) (answer : A) → HasTurn r before question answer after → (opening : P) (seen : List E) (mine : List ℕ) → StandsFor r start before opening seen mine → HasAsked r (StandsFor r start after opening) (start opening) seen mine question answer
   asked_by before after question answer turn opening seen mine stood =
       let same : start opening ≡ turn.opening = cc (stood.2, turn.began) in
       subst (λ (z : List E × List ℕ). HasAsked r (StandsFor r start after opening) (start opening) z.0 z.1 question answer) (λ i. (sym stood.0 i, sym stood.1 i))
-        (asked_there before after question answer turn opening same)
+      (asked_there before after question answer turn opening same)

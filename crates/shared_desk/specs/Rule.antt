@@ -1,5 +1,5 @@
 -- What is kept at a shared desk between any two steps, and what a step tells who makes it. These definitions stand in proofs alone.
-use Rattle.std.specs.Prelude.{◌≡◌, ℕ, ◌+◌, ◌<◌, ◌≤◌, ◌==◌, ◌≢◌, ◌⊎◌, List, [], ◌∷◌, ◌++◌, length, Option, Some, MatchBool, AllPairs, option_map}
+use Rattle.std.specs.Prelude.{◌≡◌, ℕ, ◌+◌, ◌<◌, ◌≤◌, ◌==◌, ◌≢◌, ◌⊎◌, List, [], ◌∷◌, ◌++◌, length, Some, MatchBool, AllPairs, option_map}
 use mathlib.Core.Option.{some, none}
 use mathlib.Core.List.{IsPrefix}
 use lib.ListN.{get_elem?}
@@ -12,7 +12,7 @@ use Rattle.shared_desk.specs.declared.view.Stage.{Stage}
 use Rattle.shared_desk.specs.declared.view.Stage.TheVariants.{Idle, Merged, Waiting, Holding}
 use Rattle.shared_desk.specs.declared.view.View.{View}
 use Rattle.shared_desk.specs.Standing.{Standing}
-use Rattle.shared_desk.specs.Views.{total, ticket_of, gone_on, waiting, holding, sees}
+use Rattle.shared_desk.specs.Views.{total, ticket_of, gone_on, holding, sees}
 
 -- an object is as this history leaves it, and holds the history if the first one held the empty one
 abbrev pub Bears : {O P Q A S E R : Type 0} → Rules Q A S E R → (P → S) → (O → S) → (O → P → List E → Type 0) → O → List E → O → Type 0
@@ -133,7 +133,7 @@ HasAskedObject {O = O} {P = P} {E = E} r start state holds before question answe
     (old new : O) × (call : E) × (before.1 ≡ (0, old) ∷ []) × (after ≡ (before.0, (0, new) ∷ []))
     × IsAsk r (state old) question answer call (state new)
     × ((opening : P) (seen : List E) → Leads r (start opening) seen (state old) → holds old opening seen
-      → holds new opening (seen ++ entries r (state old) question answer call))
+    → holds new opening (seen ++ entries r (state old) question answer call))
 
 -- a caller that took in another one, and has not yet seen the history as it is
 abbrev pub IsMerged : {O E : Type 0} → Me O (View O E) → Type 0

@@ -1,9 +1,9 @@
 -- What callers of a shared desk stand for: a history that was seen since the desk's beginning, and their own calls' places there.
-use Rattle.std.specs.Prelude.{◌≡◌, ◌≢◌, ℕ, ◌+◌, ◌-◌, ◌≤◌, List, [], ◌∷◌, ◌++◌, length, Option, Some, AllPairs}
+use Rattle.std.specs.Prelude.{◌≡◌, ◌≢◌, ℕ, ◌+◌, ◌-◌, List, [], ◌∷◌, ◌++◌, length, Option, Some, AllPairs}
 use mathlib.Core.List.{IsPrefix}
 use Rattle.atomic_table.specs.Seated.{TableId}
 use Rattle.history.specs.Rules.{Rules}
-use Rattle.history.specs.Histories.{entries, end_state, IsLegal, Leads}
+use Rattle.history.specs.Histories.{entries, IsLegal, Leads}
 use Rattle.history.specs.Asks.{IsAsk}
 use Rattle.farm_desk.specs.Home.{Home}
 

@@ -33,7 +33,12 @@ pub(crate) fn look<O: Object>(hall: &Hall<O>, seat: &mut Seat<O>, ticket: u64) -
 }
 
 /// Gives the object back after an ask, and raises the number that is served.
-pub(crate) fn raise<O: Object, M: Asked<O::Question, O::Answer>>(hall: &Hall<O>, seat: &mut Seat<O>, _question: &Snapshot<O::Question>, _answer: &O::Answer)
+pub(crate) fn raise<O: Object, M: Asked<O::Question, O::Answer>>(
+    hall: &Hall<O>,
+    seat: &mut Seat<O>,
+    _question: &Snapshot<O::Question>,
+    _answer: &O::Answer,
+)
     requires at { IsAt hall.now.table_id seat.old.table_id }
     requires made { MayRaise O.Law.rules O.Law.start O.state O.holds M.asked seat.old.me }
     ensures at { seat.new.table_id ≡ seat.old.table_id }

@@ -9,10 +9,9 @@ use farm_desk::{Desk, Object, Spare};
 use history::Machine;
 use std::sync::Wait;
 use std::sync::atomic::{AtomicBool, Ordering};
-use std::hint;
 use std::test::Fail;
-use std::thread;
 use std::thread::{Threads, join};
+use std::{hint, thread};
 
 /// A sum to which a call adds, and which a tick sets back to 0. A call replies the new sum; its answer says also whether a
 /// tick came before it.
@@ -140,12 +139,19 @@ fn three_asks_and_one_beside(rt: HostRuntime) -> Result<(), Fail> {
     };
     let closed = ask_four(&rt, shared, token, (1, 10, 100), 200);
     assert_eq!(rt; closed.object.sum, 311);
-    assert_eq!(rt; closed.answers, (((false, 1), (false, 211), (false, 311)), (false, 201)));
+    assert_eq!(rt;
+        closed.answers,
+        (((false, 1), (false, 211), (false, 311)), (false, 201))
+    );
     Ok(())
 }
 
 /// Two questions at any desk.
-fn ask_two<K: Desk>(mut desk: K, first: K::Question, second: K::Question) -> (K, (K::Answer, K::Answer))
+fn ask_two<K: Desk>(
+    mut desk: K,
+    first: K::Question,
+    second: K::Question,
+) -> (K, (K::Answer, K::Answer))
     requires { 1 < K.spare desk }
     ensures home { K.home result.0 ≡ K.home desk }
     ensures left { K.spare result.0 + 2 ≡ K.spare desk }
@@ -166,7 +172,11 @@ fn await_gate(gate: &AtomicBool) -> bool {
 }
 
 /// Two questions in one thread and two in another, and a close: the history has four calls.
-fn ask_in_two_threads<R: Threads + Wait + Sync>(rt: &R, shared: Shared<Sum>, token: Token<Sum>) -> Closed<Sum, ((bool, u64), (bool, u64))>
+fn ask_in_two_threads<R: Threads + Wait + Sync>(
+    rt: &R,
+    shared: Shared<Sum>,
+    token: Token<Sum>,
+) -> Closed<Sum, ((bool, u64), (bool, u64))>
     requires { token ≡ fresh_token shared.desk shared.first.sum }
     ensures { (seen : List (Option ℕ)) × (calls : List ℕ) × LeadsAlone ⟦<Adding as Machine>⟧.rules shared.first.sum seen calls result.object.sum × (length calls ≡ 4) }
 {
@@ -206,7 +216,11 @@ fn two_threads(rt: HostRuntime) -> Result<(), Fail> {
 }
 
 /// Asks in one thread once the gate is open, and in another before opening it. Says whether the gate was open in time.
-fn ask_through_gate<R: Threads + Wait + Sync>(rt: &R, shared: &Shared<Sum>, token: Token<Sum>) -> (Token<Sum>, bool)
+fn ask_through_gate<R: Threads + Wait + Sync>(
+    rt: &R,
+    shared: &Shared<Sum>,
+    token: Token<Sum>,
+) -> (Token<Sum>, bool)
     requires { (token.desk ≡ shared.now.desk) × (1 < token.left) }
     ensures { (result.0.desk ≡ token.desk) × (result.0.left + length result.0.mine ≡ token.left + length token.mine) }
 {

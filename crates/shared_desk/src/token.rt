@@ -51,7 +51,12 @@ impl<O: Object> Token<O> {
     }
 
     /// Asks in turn.
-    pub(crate) fn ask<R: Wait>(&mut self, rt: &R, hall: &Hall<O>, question: O::Question) -> O::Answer
+    pub(crate) fn ask<R: Wait>(
+        &mut self,
+        rt: &R,
+        hall: &Hall<O>,
+        question: O::Question,
+    ) -> O::Answer
         requires at { IsAtDesk hall.now.table_id self.old }
         requires left { 0 < self.old.left }
         ensures { HasTurn O.Law.rules self.old question result self.new }

@@ -7,12 +7,11 @@ ghost use Rattle.shared_desk.specs.Rule.{IsAt, IsAtRest, HasTaken, HasAskedObjec
 use crate::rule::{Hall, Seat};
 use crate::steps::{draw, look, raise};
 use farm_desk::Object;
-use std::hint;
 use std::marker::Brand;
 use std::snapshot::Snapshot;
 use std::sync::Wait;
-use std::thread;
 use std::time::Duration;
+use std::{hint, thread};
 
 /// The rounds of waiting that spin, each twice as long as the one before it.
 const SPINNING: u32 = 7;

@@ -1,5 +1,5 @@
 -- A cut keeps the rule.
-use Rattle.std.proofs.Common.{rules, arith}
+use Rattle.std.proofs.Common.{arith}
 use Rattle.shared_desk.proofs.Kept.{cuts}
 use Rattle.shared_desk.proofs.steps.cut.Goals as goal
 

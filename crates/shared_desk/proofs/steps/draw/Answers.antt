@@ -1,5 +1,5 @@
 -- A draw keeps the rule.
-use Rattle.std.proofs.Common.{rules, arith}
+use Rattle.std.proofs.Common.{arith}
 use Rattle.shared_desk.proofs.Kept.{draws}
 use Rattle.shared_desk.proofs.steps.draw.Goals as goal
 

@@ -1,5 +1,5 @@
 -- A look at the history keeps the rule.
-use Rattle.std.proofs.Common.{rules, arith}
+use Rattle.std.proofs.Common.{arith}
 use Rattle.shared_desk.proofs.Kept.{learns}
 use Rattle.shared_desk.proofs.steps.learn.Goals as goal
 

@@ -1,5 +1,5 @@
 -- A look keeps the rule, and takes the object at the caller's turn.
-use Rattle.std.proofs.Common.{rules, arith}
+use Rattle.std.proofs.Common.{arith}
 use Rattle.shared_desk.proofs.Kept.{looks}
 use Rattle.shared_desk.proofs.steps.look.Goals as goal
 

@@ -1,5 +1,5 @@
 -- A merge keeps the rule.
-use Rattle.std.proofs.Common.{rules, arith}
+use Rattle.std.proofs.Common.{arith}
 use Rattle.shared_desk.proofs.Kept.{merges}
 use Rattle.shared_desk.proofs.steps.merge.Goals as goal
 

@@ -1,5 +1,5 @@
 -- A raise keeps the rule: the history goes on by the ask's entries.
-use Rattle.std.proofs.Common.{rules, arith}
+use Rattle.std.proofs.Common.{arith}
 use Rattle.shared_desk.proofs.Kept.{raises}
 use Rattle.shared_desk.proofs.steps.raise.Goals as goal
 

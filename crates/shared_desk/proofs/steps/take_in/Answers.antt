@@ -1,5 +1,5 @@
 -- After a merge the caller has not yet seen the history as it is.
-use Rattle.std.proofs.Common.{rules, refl, ap, sym, subst}
+use Rattle.std.proofs.Common.{ap, subst}
 use Rattle.shared_desk.specs.Rule.{HasLearned}
 use Rattle.shared_desk.proofs.steps.take_in.Goals as goal
 

@@ -1,5 +1,5 @@
 -- What a joined pass has seen is legal.
-use Rattle.std.proofs.Common.{◌≡◌, refl, sym, ap, ◌∙◌, Some}
+use Rattle.std.proofs.Common.{refl, ap, ◌∙◌}
 use Rattle.shared_desk.specs.Standing.{Standing}
 use Rattle.shared_desk.proofs.pass.Pass.join.Goals as goal
 

@@ -1,5 +1,5 @@
 -- A caller that has all asks and calls has seen the whole history.
-use Rattle.std.proofs.Common.{◌≡◌, ◌+◌, ℕ, List, [], length, subst, sym, ap, ◌∙◌, Some, option_map}
+use Rattle.std.proofs.Common.{◌≡◌, ◌+◌, ℕ, List, length, subst, sym, ap, ◌∙◌, Some, option_map}
 use Rattle.std.specs.List.Sorted.{IsPermutation}
 use Rattle.std.specs.Slots.{slots_items}
 use Rattle.history.specs.Asks.{LeadsAlone}
@@ -44,4 +44,4 @@ returns-clause-began g c =
     let first = c.token.invariant.0.2 in
     let told = closes r start state g.O.Object.holds c.self.inside.table.shared.key.value last.0 last.1.0 seat.id seat.me.0 (slots_items c.close_with-closed.result.slots) result last.1.1 c.token.invariant.0.1 asks last.4 c.take-object.ensures.value in
     subst (λ (z : Beginning g.row.O.Denot × Standing g.row.O-Law-State.Denot g.row.O-Law-Entry.Denot). z.1.opening ≡ Some (state z.0.first)) (λ i. (c.self.view_is i, c.token.view_is i))
-      (ap (option_map state) first.1 ∙ ap (λ (o : g.row.O.Denot). Some (state o)) (told.0 first.0 first.1))
+    (ap (option_map state) first.1 ∙ ap (λ (o : g.row.O.Denot). Some (state o)) (told.0 first.0 first.1))

@@ -9,7 +9,7 @@ pub returns-clause-joined : goal.returns-clause-joined
 returns-clause-joined g c =
     let after = standing g.O.Object.state c.take_in.new.seat.table_id c.take_in.new.seat.me.0 in
     subst (λ (z : Standing g.row.O-Law-State.Denot g.row.O-Law-Entry.Denot × Standing g.row.O-Law-State.Denot g.row.O-Law-Entry.Denot). AreJoined z.0 z.1 after) (λ i. (c.self.view_is i, c.other.view_is i))
-      (joined g.O.Law.Machine.rules g.O.Object.state c.self.inside.seat.table_id c.other.inside.seat.table_id c.take_in.new.seat.table_id c.self.inside.seat.me.0 c.other.inside.seat.me.0 c.take_in.new.seat.me c.take_in.ensures.at c.take_in.ensures.learned)
+    (joined g.O.Law.Machine.rules g.O.Object.state c.self.inside.seat.table_id c.other.inside.seat.table_id c.take_in.new.seat.table_id c.self.inside.seat.me.0 c.other.inside.seat.me.0 c.take_in.new.seat.me c.take_in.ensures.at c.take_in.ensures.learned)
 
 pub returns-clause-legal : goal.returns-clause-legal
 returns-clause-legal g c =
