@@ -16,8 +16,11 @@ use std::{hint, thread};
 /// The rounds of waiting that spin, each twice as long as the one before it.
 const SPINNING: u32 = 7;
 
-/// The rounds that spin or yield the processor.
+/// The rounds that spin or yield the processor, of those who are not next.
 const YIELDING: u32 = 12;
+
+/// The rounds that spin or yield the processor, of the one who is next.
+const YIELDING_NEXT: u32 = 64;
 
 /// The most microseconds that a round sleeps.
 const LONGEST_SLEEP: u64 = 96;
@@ -52,29 +55,36 @@ fn await_turn<O: Object, R: Wait>(rt: &R, hall: &Hall<O>, seat: &mut Seat<O>, ti
     ensures taken { HasTaken O.Law.rules O.Law.start O.state O.holds seat.old.me ticket seat.new.me }
 {
     let mut round = 0u32;
+    let mut before = ticket;
     for _ in rt.forever() {
         let served = look(hall, seat, ticket);
         if served == ticket {
             return;
         }
-        pause(rt, hall, served, round);
+        if served != before {
+            round = 0;
+            before = served;
+        }
+        pause(rt, hall, served, ticket.saturating_sub(served) == 1, round);
         round = round.saturating_add(1);
     }
     unreachable!()
 }
 
 /// Waits a little: spins at first, then yields the processor, then sleeps, each time longer, but for less than 100 microseconds.
-fn pause<O: Object, R: Wait>(rt: &R, hall: &Hall<O>, served: u64, round: u32)
+/// Who is next yields for longer, since it is soon served.
+fn pause<O: Object, R: Wait>(rt: &R, hall: &Hall<O>, served: u64, is_next: bool, round: u32)
     requires { hall.now.table_id.words ≡ 2 }
 {
+    let yielding = if is_next { YIELDING_NEXT } else { YIELDING };
     if round < SPINNING {
         for _ in 0..1u32 << round {
             hint::spin_loop();
         }
-    } else if round < YIELDING {
+    } else if round < yielding {
         thread::yield_now();
     } else {
-        let micros = (4 * u64::from(round - YIELDING + 1)).min(LONGEST_SLEEP);
+        let micros = (4 * u64::from(round - yielding + 1)).min(LONGEST_SLEEP);
         let low = (served % 4_294_967_296) as u32;
         hall.park_timeout(rt, 1, low, Duration::from_micros(micros));
     }
