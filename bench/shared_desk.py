@@ -150,7 +150,7 @@ fn waiting<R: Threads + Wait + Clock + CpuClock + Sync>(rt: &R, alloc: Global) -
 fn main(rt: HostRuntime) -> anyhow::Result<()> {
     let alloc = rt.alloc();
     for threads in [1usize, 2, 4] {
-        for _ in 0..5u32 {
+        for _ in 0..3u32 {
             let desk = at_desk(&rt, alloc, threads)?.as_nanos();
             let mutex = at_mutex(&rt, alloc, threads)?.as_nanos();
             println!(rt; "asks {threads} {desk} {mutex}")?;
@@ -164,18 +164,36 @@ fn main(rt: HostRuntime) -> anyhow::Result<()> {
 """
 
 
+PROOF = """use Rattle.std.proofs.Common.{rules}
+use Rattle.desk_bench.proofs.OBJECT.ask.Goals as goal
+
+pub returns : goal.returns
+returns WHERE = ((c.args.question, ANSWER), search rules, λ opening seen leads held. tt)
+"""
+
+
+def program(crate, asks):
+    """Writes the program and what its proof needs: which entry the call of an ask is."""
+    os.makedirs(os.path.join(crate, "src"))
+    with open(os.path.join(crate, "src", "main.rt"), "w") as file:
+        file.write(PROGRAM.replace("ASKS_OF_ONE", str(asks)))
+    for name, where, answer in (("CountObject", "c", "c.add.result"), ("SleepingObject", "g c", "c.args.question")):
+        folder = os.path.join(crate, "proofs", name, "ask")
+        os.makedirs(folder)
+        with open(os.path.join(folder, "Answers.antt"), "w") as file:
+            file.write(PROOF.replace("OBJECT", name).replace("WHERE", where).replace("ANSWER", answer))
+
+
 def main():
     asks = int(sys.argv[1]) if len(sys.argv) > 1 else 300_000
     with tempfile.TemporaryDirectory() as copy:
         for name in ("history", "farm_desk", "shared_desk"):
             shutil.copytree(os.path.join("crates", name), os.path.join(copy, "crates", name), ignore=shutil.ignore_patterns("out"))
         crate = os.path.join(copy, "crates", "desk_bench")
-        os.makedirs(os.path.join(crate, "src"))
-        with open(os.path.join(crate, "src", "main.rt"), "w") as f:
-            f.write(PROGRAM.replace("ASKS_OF_ONE", str(asks)))
+        program(crate, asks)
         shutil.copy("HANDLES", copy)
-        with open(os.path.join(copy, "crates.txt"), "w") as f:
-            f.write("history:\nfarm_desk: history atomic_table\nshared_desk: history farm_desk atomic_table\ndesk_bench: history farm_desk shared_desk atomic_table anyhow\n")
+        with open(os.path.join(copy, "crates.txt"), "w") as file:
+            file.write("history:\nfarm_desk: history atomic_table\nshared_desk: history farm_desk atomic_table\ndesk_bench: history farm_desk shared_desk atomic_table anyhow\n")
         out = subprocess.run(["rt", "run"], cwd=crate, capture_output=True, text=True)
     rows = [line.split() for line in out.stdout.split("\n")]
     costs = {}

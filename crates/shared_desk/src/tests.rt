@@ -1,5 +1,5 @@
 //! A small object at a shared desk.
-ghost use Rattle.std.specs.Prelude.{◌≡◌, ℕ, ◌+◌, ◌<◌, List, [], ◌∷◌, Option, Some, None, true, false, option_map, length};
+ghost use Rattle.std.specs.Prelude.{◌≡◌, ℕ, ◌+◌, ◌<◌, List, [], ◌∷◌, Option, Some, None, true, false, option_map, length, IfOk};
 ghost use Rattle.history.specs.Asks.{LeadsAlone};
 ghost use denote.Param.Send.{IsSync};
 ghost use Rattle.shared_desk.specs.Standing.{fresh_token, home_of};
@@ -7,11 +7,12 @@ ghost use Rattle.shared_desk.specs.Standing.{fresh_token, home_of};
 use super::*;
 use farm_desk::{Desk, Object, Spare};
 use history::Machine;
+use std::alloc::Global;
+use std::hint;
 use std::sync::Wait;
 use std::sync::atomic::{AtomicBool, Ordering};
 use std::test::Fail;
 use std::thread::{Threads, join};
-use std::{hint, thread};
 
 /// A sum to which a call adds, and which a tick sets back to 0. A call replies the new sum; its answer says also whether a
 /// tick came before it.
@@ -67,6 +68,17 @@ impl Object for Sum {
     }
 }
 
+/// A new desk of this sum, or that there is no memory for one.
+fn desk_of(alloc: Global, sum: u64) -> Result<(Shared<Sum>, Token<Sum>), Fail>
+    ensures { IfOk result (λ made. (made.0.first.sum ≡ sum) × (made.1 ≡ fresh_token made.0.desk sum)) }
+{
+    match Shared::new(alloc, Sum { sum }) {
+        Ok(made) => Ok(made),
+        Err(object) if object.sum == sum => Err(Fail::new("no memory")),
+        Err(_) => Err(Fail::new("another object came back")),
+    }
+}
+
 /// An object after a desk is closed, and what the desk answered before.
 #[derive(Drop)]
 struct Closed<O, A> {
@@ -97,9 +109,7 @@ fn ask_three<O: Object, R: Wait>(
 
 #[test]
 fn three_asks(rt: HostRuntime) -> Result<(), Fail> {
-    let Ok((shared, token)) = Shared::new(rt.alloc(), Sum { sum: 999 }) else {
-        panic!(rt; "no memory");
-    };
+    let (shared, token) = desk_of(rt.alloc(), 999)?;
     let closed = ask_three(&rt, shared, token, (2, 3, 4));
     assert_eq!(rt; closed.object.sum, 7);
     Ok(())
@@ -134,9 +144,7 @@ fn ask_four<O: Object, R: Wait>(
 
 #[test]
 fn three_asks_and_one_beside(rt: HostRuntime) -> Result<(), Fail> {
-    let Ok((shared, token)) = Shared::new(rt.alloc(), Sum { sum: 0 }) else {
-        panic!(rt; "no memory");
-    };
+    let (shared, token) = desk_of(rt.alloc(), 0)?;
     let closed = ask_four(&rt, shared, token, (1, 10, 100), 200);
     assert_eq!(rt; closed.object.sum, 311);
     assert_eq!(rt;
@@ -206,9 +214,7 @@ fn ask_in_two_threads<R: Threads + Wait + Sync>(
 
 #[test]
 fn two_threads(rt: HostRuntime) -> Result<(), Fail> {
-    let Ok((shared, token)) = Shared::new(rt.alloc(), Sum { sum: 0 }) else {
-        panic!(rt; "no memory");
-    };
+    let (shared, token) = desk_of(rt.alloc(), 0)?;
     let closed = ask_in_two_threads(&rt, shared, token);
     assert_eq!(rt; closed.object.sum, 33);
     assert!(rt; closed.answers.0.1 >= 3 && closed.answers.1.1 >= 30);
@@ -261,9 +267,7 @@ fn ask_one<K: Desk<Answer = (bool, u64)>>(mut desk: K, question: K::Question) ->
 
 #[test]
 fn a_gate_holds_one_thread(rt: HostRuntime) -> Result<(), Fail> {
-    let Ok((shared, token)) = Shared::new(rt.alloc(), Sum { sum: 0 }) else {
-        panic!(rt; "no memory");
-    };
+    let (shared, token) = desk_of(rt.alloc(), 0)?;
     let (token, in_time) = ask_through_gate(&rt, &shared, token);
     assert!(rt; in_time && token.asked() == 2);
     let Sum { sum } = shared.close(token);

@@ -1,5 +1,5 @@
 -- Three asks and one beside them are four calls.
-use Rattle.std.proofs.Common.{◌≡◌, ◌+◌, length, sym, ap, ◌∙◌, arith, length-append}
+use Rattle.std.proofs.Common.{◌≡◌, length, ap, ◌∙◌, arith, length-append}
 use Rattle.std.proofs.lemmas.List.Sorted.{length_permutation}
 use Rattle.shared_desk.proofs.tests.ask_four.Goals as goal
 

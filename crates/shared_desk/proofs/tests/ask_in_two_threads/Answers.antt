@@ -1,5 +1,5 @@
 -- Two asks in each of two threads are four calls.
-use Rattle.std.proofs.Common.{◌≡◌, ◌+◌, length, sym, ap, ◌∙◌, arith, length-append}
+use Rattle.std.proofs.Common.{◌≡◌, length, ap, ◌∙◌, arith, length-append}
 use Rattle.std.proofs.lemmas.List.Sorted.{length_permutation}
 use Rattle.shared_desk.proofs.tests.ask_in_two_threads.Goals as goal
 
