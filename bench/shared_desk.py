@@ -185,7 +185,7 @@ def program(crate, asks):
 
 
 def main():
-    asks = int(sys.argv[1]) if len(sys.argv) > 1 else 300_000
+    asks = int(sys.argv[1]) if len(sys.argv) > 1 else 100_000
     with tempfile.TemporaryDirectory() as copy:
         for name in ("history", "farm_desk", "shared_desk"):
             shutil.copytree(os.path.join("crates", name), os.path.join(copy, "crates", name), ignore=shutil.ignore_patterns("out"))

@@ -5,7 +5,7 @@ use mathlib.Core.Option.{some, none, some-ne-none, some-injective}
 use mathlib.Core.Logic.{dite}
 use native.Mathlib.Decide.{ℕ_discrete}
 use lib.ListN.{get_elem?}
-use Rattle.atomic_table.specs.Table.{State, Me, keeps, takes, gives, put_back, rest, stepped, Allows, Splits, Joins, opening}
+use Rattle.atomic_table.specs.Table.{State, Me, keeps, takes, Allows, Splits, Joins, opening}
 use Rattle.atomic_table.proofs.Lists.{at_set, at_snoc, set_here, set_else, set_again, at_longer}
 use Rattle.history.specs.Rules.{Rules}
 use Rattle.history.specs.Histories.{end_state, IsLegal, calls_of}
@@ -16,8 +16,8 @@ use Rattle.shared_desk.specs.declared.view.Stage.{Stage}
 use Rattle.shared_desk.specs.declared.view.Stage.TheVariants.{Idle, Merged, Waiting, Holding}
 use Rattle.shared_desk.specs.declared.view.View.{View}
 use Rattle.shared_desk.specs.Views.{total, ticket_of, newcomer, spent, fewer, fresh, merged, waiting, holding, gone_on, sees, drawn}
-use Rattle.shared_desk.specs.Rule.{Bears, FitsStage, Fits, AreApart, IsPlaced, IsKept, HasTaken, looked, asked_entries, asked_place, MayRaise, raised, HasLearned}
-use Rattle.shared_desk.proofs.Lists.{total-append, total_set, total_has, total_ones, prefix_self, prefix_more, each_set, each_push, one_there, inside, one_set, distinct_below}
+use Rattle.shared_desk.specs.Rule.{Bears, FitsStage, Fits, AreApart, IsPlaced, IsKept, HasTaken, looked, asked_entries, asked_place, HasLearned}
+use Rattle.shared_desk.proofs.Lists.{total-append, total_set, total_has, total_ones, prefix_self, prefix_more, each_set, each_push, one_there, inside, distinct_below}
 
 -- a caller with no ticket, or one that waits, does not have the object
 not_holding : {E : Type 0} (stage : Stage E) (ticket : ℕ) → ticket_of stage ≡ None → stage ≡ Holding ticket → ⊥
@@ -226,7 +226,7 @@ module _ {O P Q A S E R : Type 0} (r : Rules Q A S E R) (start : P → S) (state
     made = (made.made.0, subst (AreEntries r (state first) made.made.0) (sym same) made.made.1);
   }
 
-  raise_kept : (s : State O (View O E)) (k : IsKept r start state holds first s) (id : ℕ) (view : View O E) (ticket : ℕ) (homes : List (mathlib.Core.Option.Option O)) (object : O) (question : Q) (answer : A) (call : E)
+  pub raise_kept : (s : State O (View O E)) (k : IsKept r start state holds first s) (id : ℕ) (view : View O E) (ticket : ℕ) (homes : List (mathlib.Core.Option.Option O)) (object : O) (question : Q) (answer : A) (call : E)
       → get_elem? s.views id ≡ some view → view.stage ≡ Holding ticket → homes ≡ some object ∷ []
       → IsAsk r (end_state r (state first) view.seen) question answer call (state object)
       → Bears r start state holds first (view.seen ++ asked_entries r state first view.seen question answer call) object
@@ -391,14 +391,3 @@ module _ {O P Q A S E R : Type 0} (r : Rules Q A S E R) (start : P → S) (state
     asks = refl;
     places = λ f. refl;
   }
-
-module _ {O P Q A S E R : Type 0} (r : Rules Q A S E R) (start : P → S) (state : O → S) (holds : O → P → List E → Type 0) where
-  pub raises : (first : O) (slots id : ℕ) (me : Me O (View O E)) (asked : Q → A → Type 0) → MayRaise r start state holds asked me → slots ≡ 1
-      → Allows (IsKept r start state holds first) slots id me 1 (λ n. (n + 1) % 2 ^ 64) (λ n after. raised r state asked me after)
-  raises first slots id me asked may one s k size at low =
-      let made = may.2 in
-      let same : made.first ≡ first = (k.fits id me.0 at).0 made.first made.began in
-      let kept = raise_kept r start state holds made.first s (subst (λ z. IsKept r start state holds z s) (sym same) k) id me.0 may.0 (put_back s.homes me.1) made.object made.question made.answer made.call at may.1
-      (ap (put_back s.homes) made.has ∙ one_set s.homes (some made.object) (size ∙ one)) made.ask may.3 in
-      let next = gone_on me.0 (asked_entries r state made.first me.0.seen made.question made.answer made.call) (asked_place r state made.first me.0.seen made.question made.answer) in
-      (next, gives, tt, subst (λ z. IsKept r start state holds z (stepped s 1 ((get_or s.words 1 0 + 1) % 2 ^ 64) id me.1 next gives)) same kept, (made, ap (λ c. (next, rest c)) made.has))

@@ -8,9 +8,9 @@ use Rattle.history.specs.Histories.{IsLegal, Leads}
 use Rattle.history.specs.Asks.{HasAsked}
 use Rattle.history.proofs.AsksLemmas.{Leads-ask, HasAsked-leads}
 use Rattle.shared_desk.specs.declared.view.View.{View}
-use Rattle.shared_desk.specs.Standing.{Standing, AreJoined, StandsFor, HasTurn}
+use Rattle.shared_desk.specs.Standing.{Standing, AreJoined, StandsFor}
 use Rattle.shared_desk.specs.Views.{merged}
-use Rattle.shared_desk.specs.Rule.{HasLearned, standing}
+use Rattle.shared_desk.specs.Rule.{HasLearned, HasTurn, standing}
 
 -- two callers that were put together
 pub joined : {O Q A S E R : Type 0} (r : Rules Q A S E R) (state : O → S) (table other after_table : TableId) (view another : View O E) (after : Me O (View O E)) → after_table ≡ table → HasLearned r state (merged view another, []) after → AreJoined (standing state table view) (standing state other another) (standing state after_table after.0)

@@ -7,9 +7,8 @@ use Rattle.history.specs.Histories.{entries, end_state, IsLegal, Leads}
 use Rattle.history.specs.Asks.{IsAsk}
 use Rattle.history.proofs.AsksLemmas.{Leads-ask}
 use Rattle.shared_desk.specs.declared.view.View.{View}
-use Rattle.shared_desk.specs.Standing.{HasTurn}
 use Rattle.shared_desk.specs.Views.{waiting, holding, gone_on}
-use Rattle.shared_desk.specs.Rule.{Bears, HasTaken, asked_entries, asked_place, MayRaise, raised, IsAtRest, HasAskedObject, standing}
+use Rattle.shared_desk.specs.Rule.{Bears, HasTaken, asked_entries, asked_place, MayRaise, raised, IsAtRest, HasAskedObject, HasTurn, standing}
 
 -- the value of the first slot, or this one
 abbrev slot_or : {O : Type 0} → O → List (ℕ × O) → O

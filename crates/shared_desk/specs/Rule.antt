@@ -1,5 +1,5 @@
 -- What is kept at a shared desk between any two steps, and what a step tells who makes it. These definitions stand in proofs alone.
-use Rattle.std.specs.Prelude.{◌≡◌, ℕ, ◌+◌, ◌<◌, ◌≤◌, ◌==◌, ◌≢◌, ◌⊎◌, List, [], ◌∷◌, ◌++◌, length, Some, MatchBool, AllPairs, option_map}
+use Rattle.std.specs.Prelude.{◌≡◌, ℕ, ◌+◌, ◌-◌, ◌<◌, ◌≤◌, ◌==◌, ◌≢◌, ◌⊎◌, List, [], ◌∷◌, ◌++◌, length, Some, MatchBool, AllPairs, option_map}
 use mathlib.Core.Option.{some, none}
 use mathlib.Core.List.{IsPrefix}
 use lib.ListN.{get_elem?}
@@ -146,3 +146,21 @@ standing state table view = record { desk = table; opening = option_map state vi
 -- what stands at a table with two words and one slot
 abbrev pub IsAtDesk : {S E : Type 0} → TableId → Standing S E → Type 0
 IsAtDesk hall standing = IsAt hall standing.desk
+
+-- One ask: after what others did, the history went on by this ask's entries, and its call's place is the last of its own.
+pub record HasTurn {Q A S E R : Type 0} (r : Rules Q A S E R) (before : Standing S E) (question : Q) (answer : A) (after : Standing S E) : Type 0 where
+  pub opening : S
+  pub between : List E
+  pub old : S
+  pub call : E
+  pub new : S
+  pub began : before.opening ≡ Some opening
+  pub led : Leads r opening (before.seen ++ between) old
+  pub ask : IsAsk r old question answer call new
+  pub went : after ≡ record {
+    desk = before.desk;
+    opening = before.opening;
+    seen = (before.seen ++ between) ++ entries r old question answer call;
+    mine = before.mine ++ length ((before.seen ++ between) ++ r.ticks old question answer) ∷ [];
+    left = before.left - 1;
+  }

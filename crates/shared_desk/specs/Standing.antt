@@ -1,10 +1,9 @@
 -- What callers of a shared desk stand for: a history that was seen since the desk's beginning, and their own calls' places there.
-use Rattle.std.specs.Prelude.{◌≡◌, ◌≢◌, ℕ, ◌+◌, ◌-◌, List, [], ◌∷◌, ◌++◌, length, Option, Some, AllPairs}
+use Rattle.std.specs.Prelude.{◌≡◌, ◌≢◌, ℕ, ◌+◌, ◌-◌, List, [], ◌++◌, length, Option, Some, AllPairs}
 use mathlib.Core.List.{IsPrefix}
 use Rattle.atomic_table.specs.Seated.{TableId}
 use Rattle.history.specs.Rules.{Rules}
-use Rattle.history.specs.Histories.{entries, IsLegal, Leads}
-use Rattle.history.specs.Asks.{IsAsk}
+use Rattle.history.specs.Histories.{IsLegal}
 use Rattle.farm_desk.specs.Home.{Home}
 
 -- A shared desk: which one it is, and the object that it began with.
@@ -53,21 +52,3 @@ StandsFor r start standing opening seen mine =
 -- where it belongs: its desk, the state in which that began, and how many asks it made or has left
 abbrev pub home_of : {S E : Type 0} → Standing S E → Home S
 home_of standing = record { desk = standing.desk; opening = standing.opening; asks = standing.left + length standing.mine }
-
--- One ask: after what others did, the history went on by this ask's entries, and its call's place is the last of its own.
-pub record HasTurn {Q A S E R : Type 0} (r : Rules Q A S E R) (before : Standing S E) (question : Q) (answer : A) (after : Standing S E) : Type 0 where
-  pub opening : S
-  pub between : List E
-  pub old : S
-  pub call : E
-  pub new : S
-  pub began : before.opening ≡ Some opening
-  pub led : Leads r opening (before.seen ++ between) old
-  pub ask : IsAsk r old question answer call new
-  pub went : after ≡ record {
-    desk = before.desk;
-    opening = before.opening;
-    seen = (before.seen ++ between) ++ entries r old question answer call;
-    mine = before.mine ++ length ((before.seen ++ between) ++ r.ticks old question answer) ∷ [];
-    left = before.left - 1;
-  }

@@ -1,8 +1,8 @@
 //! What a caller has of a shared desk while it asks nothing.
 ghost use Rattle.std.specs.Prelude.{◌≡◌, ◌+◌, ◌<◌, ◌≤◌, length, Some};
 ghost use Rattle.history.specs.Histories.{IsLegal};
-ghost use Rattle.shared_desk.specs.Standing.{gave, given, AreJoined, HasTurn};
-ghost use Rattle.shared_desk.specs.Rule.{IsAtDesk};
+ghost use Rattle.shared_desk.specs.Standing.{gave, given, AreJoined};
+ghost use Rattle.shared_desk.specs.Rule.{IsAtDesk, HasTurn};
 
 use crate::rule::{Hall, Seat};
 use crate::steps::{cut, take_in};

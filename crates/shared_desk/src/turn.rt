@@ -1,8 +1,7 @@
 //! One ask in turn.
 ghost use Rattle.std.specs.Prelude.{◌≡◌, ◌<◌, [], ◌∷◌};
 ghost use Rattle.shared_desk.specs.declared.view.Stage.TheVariants.{Waiting};
-ghost use Rattle.shared_desk.specs.Standing.{HasTurn};
-ghost use Rattle.shared_desk.specs.Rule.{IsAt, IsAtRest, HasTaken, HasAskedObject, standing};
+ghost use Rattle.shared_desk.specs.Rule.{IsAt, IsAtRest, HasTaken, HasAskedObject, HasTurn, standing};
 
 use crate::rule::{Hall, Seat};
 use crate::steps::{draw, look, raise};

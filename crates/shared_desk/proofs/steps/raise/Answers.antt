@@ -1,6 +1,6 @@
 -- A raise keeps the rule: the history goes on by the ask's entries.
 use Rattle.std.proofs.Common.{arith}
-use Rattle.shared_desk.proofs.Kept.{raises}
+use Rattle.shared_desk.proofs.Raising.{raises}
 use Rattle.shared_desk.proofs.steps.raise.Goals as goal
 
 pub fetch_add-requires : goal.fetch_add-requires

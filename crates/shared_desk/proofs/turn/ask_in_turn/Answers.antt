@@ -1,7 +1,6 @@
 -- The steps of an ask make one turn.
 use Rattle.std.proofs.Common.{◌≡◌, refl, sym, ◌∙◌, subst}
-use Rattle.shared_desk.specs.Rule.{raised, standing}
-use Rattle.shared_desk.specs.Standing.{HasTurn}
+use Rattle.shared_desk.specs.Rule.{raised, standing, HasTurn}
 use Rattle.shared_desk.proofs.Turning.{may_raise, turn_made}
 use Rattle.shared_desk.proofs.turn.ask_in_turn.Goals as goal
 

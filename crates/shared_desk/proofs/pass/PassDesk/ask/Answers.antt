@@ -1,6 +1,7 @@
 -- One turn at the shared desk is one ask of the pass.
 use Rattle.std.proofs.Common.{subst}
-use Rattle.shared_desk.specs.Standing.{Standing, HasTurn}
+use Rattle.shared_desk.specs.Standing.{Standing}
+use Rattle.shared_desk.specs.Rule.{HasTurn}
 use Rattle.shared_desk.proofs.Standings.{asked_by}
 use Rattle.shared_desk.proofs.pass.PassDesk.ask.Goals as goal
 
