@@ -1,0 +1,6 @@
+mod Lists
+mod Kept
+mod Raising
+mod Turning
+mod Standings
+mod Closing

@@ -1,0 +1,3 @@
+pub mod Standing
+pub mod Views
+pub mod Rule
