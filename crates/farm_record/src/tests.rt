@@ -52,14 +52,37 @@ fn first() -> Result<SlugId, Fail> {
     Ok(SlugId::read(FIRST_TASK).ok_or("no slugid")?)
 }
 
+/// Whether these bytes are what is written of the change.
+fn is_written(alloc: Global, change: &Change, record: &[u8]) -> Result<bool, AllocError> {
+    Ok(write_record(alloc, change)?.as_slice() == record)
+}
+
+/// Whether a change is read of these bytes, and they are what is written of it.
+fn is_read(alloc: Global, record: &[u8]) -> Result<bool, AllocError> {
+    match read_record(alloc, record)? {
+        Some(change) => is_written(alloc, &change, record),
+        None => Ok(false),
+    }
+}
+
+/// Whether the change has this record, and is read again from it.
+fn is_record(alloc: Global, change: &Change, record: &[u8]) -> Result<bool, AllocError> {
+    Ok(is_written(alloc, change, record)? && is_read(alloc, record)?)
+}
+
+/// The change of this kind at the start.
+fn at_start(kind: Kind) -> Result<Change, Fail> {
+    match start() {
+        Ok(at) => Ok(Change { at, kind }),
+        Err(fail) => Err(fail),
+    }
+}
+
 /// Whether the change of this kind at the start has this record, and is read again from it.
 fn has_record(alloc: Global, kind: Kind, hex: &str) -> Result<bool, Fail> {
-    let change = Change { at: start()?, kind };
+    let change = at_start(kind)?;
     let record = bytes_of(alloc, hex)?;
-    let written = write_record(alloc, &change)?;
-    let read = read_record(alloc, &record)?.ok_or("no record")?;
-    let again = write_record(alloc, &read)?;
-    Ok(written.as_slice() == record.as_slice() && again.as_slice() == record.as_slice())
+    Ok(is_record(alloc, &change, &record)?)
 }
 
 #[test]
@@ -206,21 +229,19 @@ fn create(alloc: Global, length: &str, text: &str) -> Result<Vec<u8>, AllocError
     Ok(record)
 }
 
+/// The change that creates the first task at the start.
+fn creating(alloc: Global) -> Result<Change, Fail> {
+    let id = first()?;
+    let definition = definition(alloc)?;
+    at_start(Kind::Create(Creation { id, definition }))
+}
+
 #[test]
 fn a_create(rt: HostRuntime) -> Result<(), Fail> {
     let alloc = rt.alloc();
+    let change = creating(alloc)?;
     let record = create(alloc, "000001e7", IN_FULL)?;
-    let creation = Creation {
-        id: first()?,
-        definition: definition(alloc)?,
-    };
-    let change = Change {
-        at: start()?,
-        kind: Kind::Create(creation),
-    };
-    assert!(rt; write_record(alloc, &change)?.as_slice() == record.as_slice());
-    let read = read_record(alloc, &record)?.ok_or("no record")?;
-    assert!(rt; write_record(alloc, &read)?.as_slice() == record.as_slice());
+    assert!(rt; is_record(alloc, &change, &record)?);
     Ok(())
 }
 
