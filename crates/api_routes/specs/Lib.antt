@@ -1,4 +1,3 @@
-pub mod Bodies
 pub mod Parts
 pub mod ReplyText
 pub mod Routes

@@ -1,4 +1,3 @@
 -- What each call has for the order of refusals: a file a call.
-pub mod CreateTask
 pub mod Ping
 pub mod Status

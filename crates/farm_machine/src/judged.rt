@@ -1,25 +1,35 @@
-ghost use Rattle.std.specs.Prelude.{◌≡◌, Some, None};
+ghost use Rattle.std.specs.Prelude.{◌≡◌};
 ghost use Rattle.farm_machine.specs.Judgement.{only_answer};
 
 use crate::reply::Answer;
-use farm_rows::TaskPlan;
+use std::marker::Model;
 
-/// A judgement: what a call is answered, and the plan of what it changes.
+/// A judgement: what a call is answered, and (not yet) what it changes.
 #[derive(Debug, Drop)]
 pub(crate) struct Judged {
-    pub(crate) answer: Answer,
-    pub(crate) change: Option<TaskPlan>,
+    answer: Answer,
+}
+
+impl Model for Judged {
+    ghost use Rattle.farm_machine.specs.Judgement.{Judgement, only_answer};
+
+    ghost Value = { Judgement };
+
+    ghost view = { λ j. only_answer j.answer };
 }
 
 impl Judged {
     /// The judgement of this answer, which changes nothing.
     pub(crate) fn only(answer: Answer) -> Judged
-        ensures answer { result.answer ≡ answer }
-        ensures change { result.change ≡ None }
+        ensures { result ≡ only_answer answer }
     {
-        Judged {
-            answer,
-            change: None,
-        }
+        Judged { answer }
+    }
+
+    /// The answer.
+    pub(crate) fn into_answer(self) -> Answer
+        ensures { result ≡ self.answer }
+    {
+        self.answer
     }
 }

@@ -2,7 +2,7 @@ use crate::judged::Judged;
 use farm_text::Moment;
 use std::marker::Model;
 
-/// A call that is judged and has all its memory: its moment, its judgement, and the plan of its change.
+/// A call that is judged and has all its memory: its moment, and its judgement.
 #[derive(Debug, Drop)]
 pub struct Plan {
     pub(crate) moment: Moment,
@@ -11,16 +11,12 @@ pub struct Plan {
 
 impl Model for Plan {
     ghost use Rattle.std.specs.Prelude.{◌≤◌};
-    ghost use Rattle.std.specs.Coded.{codes};
-    ghost use Rattle.task_defs.specs.Codes.{members_code};
     ghost use Rattle.farm_text.specs.declared.moment.TheConstants.{LAST_TOLD_MOMENT};
-    ghost use Rattle.farm_machine.specs.Planned.{Planned, judgement_of};
+    ghost use Rattle.farm_machine.specs.Planned.{Planned};
 
     ghost Value = { Planned };
 
-    ghost coded = { Prim.hlevel (codes, members_code) };
-
-    ghost view = { λ p. record { moment = p.moment; judgement = judgement_of p.judged; tasks = p.judged.change } };
+    ghost view = { λ p. record { moment = p.moment; judgement = p.judged } };
 
     ghost invariant = { λ p. p.moment ≤ LAST_TOLD_MOMENT };
 }

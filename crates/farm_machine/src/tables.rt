@@ -1,44 +1,37 @@
-//! What a farm keeps.
-ghost use Rattle.std.specs.Prelude.{◌≡◌, ◌≤◌, false, IfOk, MatchOption, length, option_copied};
+ghost use Rattle.std.specs.Prelude.{◌≡◌, ◌≤◌, ℕ};
 ghost use Rattle.farm_text.specs.declared.moment.TheConstants.{LAST_TOLD_MOMENT};
-ghost use Rattle.farm_rows.specs.Contents.{no_contents, row_with};
-ghost use Rattle.farm_rows.specs.Changes.{may_apply, applied};
-ghost use Rattle.farm_rows.specs.Due.{is_due, advance};
-ghost use Rattle.farm_rows.specs.Plans.{IsPlanOn};
+ghost use Rattle.farm_machine.specs.Due.{is_due, advance};
+ghost use Rattle.farm_machine.specs.State.{no_contents};
 ghost use Rattle.farm_machine.specs.Changes.{reached};
 
-use farm_record::Change;
-use farm_rows::{TaskPlan, TaskTables};
-use farm_text::{Moment, SlugId};
-use run_states::TaskRow;
-use std::alloc::{AllocError, Global};
+use farm_text::Moment;
 use std::marker::Model;
 
-/// What a farm keeps: its tasks in the order of their creation, the last moment, and the next number.
+/// What a farm keeps: its tasks in the order of their creation (there are none yet), the last moment, and the next number.
 #[derive(Debug, Drop)]
 pub struct Tables {
-    tasks: TaskTables,
+    last: Moment,
 }
 
 impl Model for Tables {
-    ghost use Rattle.std.specs.Coded.{codes};
-    ghost use Rattle.task_defs.specs.Codes.{members_code};
-    ghost use Rattle.farm_rows.specs.Contents.{Contents};
+    ghost use Rattle.std.specs.Prelude.{◌≤◌, []};
+    ghost use Rattle.farm_text.specs.declared.moment.TheConstants.{LAST_TOLD_MOMENT};
+    ghost use Rattle.farm_machine.specs.State.{Contents};
 
     ghost Value = { Contents };
 
-    ghost coded = { Prim.hlevel (codes, members_code) };
+    ghost view = { λ t. record { rows = []; last = t.last; next = 0 } };
 
-    ghost view = { λ t. t.tasks };
+    ghost invariant = { λ t. t.last ≤ LAST_TOLD_MOMENT };
 }
 
 impl Tables {
     /// Tables without tasks. They take no memory.
-    pub fn new(alloc: Global) -> Self
+    pub fn new() -> Self
         ensures { result ≡ no_contents }
     {
         Tables {
-            tasks: TaskTables::new(alloc),
+            last: Moment::FIRST,
         }
     }
 
@@ -47,52 +40,16 @@ impl Tables {
         ensures last { result ≡ self.now.last }
         ensures told { result ≤ LAST_TOLD_MOMENT }
     {
-        self.tasks.counts().last
+        self.last
     }
 
-    /// How many tasks stand.
-    pub fn len(&self) -> u32
-        ensures { result ≡ length self.now.rows }
-    {
-        self.tasks.counts().rows
-    }
-
-    /// The task with this id.
-    pub(crate) fn row(&self, id: SlugId) -> Option<&TaskRow>
-        ensures { option_copied result ≡ row_with id self.now.rows }
-    {
-        self.tasks.row(id)
-    }
-
-    /// The plan of a change, with all the memory that it takes, or none where the change may not be made.
-    pub(crate) fn plan(
-        &mut self,
-        alloc: Global,
-        change: Change,
-    ) -> Result<Option<TaskPlan>, AllocError>
-        ensures planned { IfOk result (λ plan. MatchOption plan (may_apply self.old change ≡ false)
-            (λ p. (p.change ≡ change) × IsPlanOn self.old p)) }
-        ensures same { self.new ≡ self.old }
-    {
-        self.tasks.plan(alloc, change)
-    }
-
-    /// Makes the change of a plan that was made on these tables.
-    pub(crate) fn make(&mut self, plan: TaskPlan)
-        requires { IsPlanOn self.old plan }
-        ensures { self.new ≡ applied self.old plan.change }
-    {
-        self.tasks.apply(plan);
-    }
-
-    /// Makes this the last moment, which it is not before, where nothing is due at it.
-    pub(crate) fn reach(&mut self, moment: Moment)
+    /// Makes this the last moment, which it is not before.
+    pub fn reach(&mut self, moment: Moment)
         requires told { moment ≤ LAST_TOLD_MOMENT }
         requires later { self.old.last ≤ moment }
-        requires nothing_due { is_due self.old moment ≡ false }
         ensures { self.new ≡ reached self.old moment }
     {
-        self.tasks.tick(moment);
+        self.last = moment;
     }
 }
 
@@ -100,13 +57,16 @@ impl Tables {
 pub fn due(tables: &Tables, moment: Moment) -> bool
     ensures { result ≡ is_due tables.now moment }
 {
-    tables.tasks.due(moment)
+    let _ = tables.last();
+    let _ = moment;
+    false
 }
 
-/// Resolves all that is due at this moment, each at its own, and reaches the moment, where it is after the last. It takes no memory.
+/// Reaches this moment, where it is after the last. No task stands yet, so nothing is due and nothing is resolved. It takes no
+/// memory.
 pub fn tick(tables: &mut Tables, moment: Moment)
     requires { moment ≤ LAST_TOLD_MOMENT }
     ensures { tables.new ≡ advance tables.old moment }
 {
-    tables.tasks.tick(moment);
+    tables.reach(moment.max(tables.last()));
 }

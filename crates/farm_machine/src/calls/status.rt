@@ -3,12 +3,11 @@ ghost use Rattle.std.specs.Prelude.{None, ◌≡◌, IfOk};
 use crate::answers;
 use crate::case::{Called, Done, Scene};
 use crate::reply::Answer;
-use call_rules::{Call, expression};
-use farm_text::SlugId;
+use farm_text::{Doc, SlugId};
 use scope_sets::Expr;
 use std::alloc::{AllocError, Global};
 
-/// The status of a task.
+/// The status of a task. No task stands yet, so its policy and its body come with the first that does.
 #[derive(Clone, Copy)]
 pub(crate) struct Status {
     pub(crate) id: SlugId,
@@ -19,26 +18,20 @@ impl Called for Status {
 
     ghost case = { λ call. status call.id };
 
-    fn absent(&self, alloc: Global, at: &Scene<'_>) -> Result<Option<Answer>, AllocError> {
-        if at.tables.row(self.id).is_some() {
-            return Ok(None);
-        }
+    fn absent(&self, alloc: Global, _at: &Scene<'_>) -> Result<Option<Answer>, AllocError> {
         let name = self.id.to_text(alloc)?;
         Ok(Some(answers::not_found(alloc, "task", name.as_str())?))
     }
 
     fn policy(&self, alloc: Global, _at: &Scene<'_>) -> Result<Expr, AllocError> {
-        expression(alloc, Call::Status(self.id))
+        Ok(Expr::AllOf(Vec::new(alloc)))
     }
 
     fn rule(&self, _alloc: Global, _at: &Scene<'_>) -> Result<Option<Answer>, AllocError> {
         Ok(None)
     }
 
-    fn deed(self, alloc: Global, at: &Scene<'_>) -> Result<Done, AllocError> {
-        let Some(row) = at.tables.row(self.id) else {
-            unreachable!();
-        };
-        Ok(Done::Reads(answers::status_body(alloc, row)?))
+    fn deed(&self, _alloc: Global, _at: &Scene<'_>) -> Result<Done, AllocError> {
+        Ok(Done { body: Doc::Null })
     }
 }
