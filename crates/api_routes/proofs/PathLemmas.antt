@@ -15,7 +15,7 @@ use Rattle.std.proofs.lemmas.Str.{IsUtf8-from_ascii}
 use Rattle.std.proofs.lemmas.Slice.Eq.{bytes_eq-Decides}
 use Rattle.scope_sets.specs.Scopes.{IsPrintable}
 use Rattle.api_routes.specs.Parts.{is_part}
-use Rattle.api_routes.specs.Routes.{Segment, word, parameter, parameters_in, parts_of, ping_route, status_route, is_printable, route_name}
+use Rattle.api_routes.specs.Routes.{Segment, word, parameter, parameters_in, parts_of, ping_route, status_route, create_route, is_printable, route_name}
 
 -- a slash
 abbrev pub is_slash : ℕ → Bool
@@ -174,6 +174,69 @@ no_status_part path id is other =
     none_from (parameters_in status_route (parts_of path)) (λ found e.
     let p = status_path_from path found e in
     let same : id ≡ p.id = append_cancel_right id p.id back (same_rest (id ++ back) (p.id ++ back) (sym is ∙ p.is)) in
+    false≢true (sym other ∙ (ap is_part same ∙ part_from p.id p.some p.none)))
+
+-- ---- the route of a task's making
+
+-- a path of that route
+record IsCreatePath (path : List ℕ) (found : List (List ℕ)) : Type 0 where
+  id : List ℕ
+  is : path ≡ front ++ id
+  some : 0 < length id
+  none : list_any is_slash id ≡ false
+  found_is : found ≡ id ∷ []
+
+create_path : (path id : List ℕ) (found : List (List ℕ)) → parts_of path ≡ [] ∷ codes "api" ∷ codes "queue" ∷ codes "v1" ∷ codes "task" ∷ id ∷ [] → 0 < length id → found ≡ id ∷ [] → IsCreatePath path found
+create_path path id found parts some found_is =
+    let is : path ≡ front ++ id = sym (join_with_byte-slice_split 47 path) ∙ ap (join_with_byte 47) parts in
+    let counted : 6 ≡ count_by is_slash path + 1 = sym (ap length parts) ∙ length-slice_split is_slash path in
+    let counted_so : count_by is_slash path ≡ count_by is_slash (front ++ id) = ap (count_by is_slash) is in
+    let apart_front : count_by is_slash (front ++ id) ≡ count_by is_slash front + count_by is_slash id = sum_by-append (λ b. cond (is_slash b) 1 0) front id in
+    record {
+      id = id;
+      is = is;
+      some = some;
+      none = none_counted id (omega arith);
+      found_is = found_is;
+    }
+
+create_path_from : (path : List ℕ) (found : List (List ℕ)) → parameters_in create_route (parts_of path) ≡ Some found → IsCreatePath path found
+create_path_from path found e =
+    let f0 = fits create_route (parts_of path) found e in
+    let f1 = f0.2 in
+    let f2 = f1.2 in
+    let f3 = f2.2 in
+    let f4 = f3.2 in
+    let f5 = f4.2 in
+    let f6 = f5.6 in
+    let parts : parts_of path ≡ [] ∷ codes "api" ∷ codes "queue" ∷ codes "v1" ∷ codes "task" ∷ f5.0 ∷ [] = cc in
+    let found_is : found ≡ f5.0 ∷ [] = cc in
+    create_path path f5.0 found parts f5.5 found_is
+
+-- one part is not split
+split_alone : (id : List ℕ) → list_any is_slash id ≡ false → slice_split is_slash id ≡ id ∷ []
+split_alone [] none = refl
+split_alone (b ∷ id) none = alone_byte b id (is_slash b) refl none (split_alone id)
+  where
+    alone_byte : (b : ℕ) (id : List ℕ) (here : Bool) → is_slash b ≡ here → (here || list_any is_slash id) ≡ false → (list_any is_slash id ≡ false → slice_split is_slash id ≡ id ∷ []) → slice_split is_slash (b ∷ id) ≡ (b ∷ id) ∷ []
+    alone_byte b id true is none next = absurd (false≢true (sym none))
+    alone_byte b id false is none next = rw (is, next none) refl
+
+pub create_found : (path id : List ℕ) → path ≡ front ++ id → is_part id ≡ true → parameters_in create_route (parts_of path) ≡ Some (id ∷ [])
+create_found path [] is part = absurd (false≢true part)
+create_found path (b ∷ id) is part =
+    let none : list_any is_slash (b ∷ id) ≡ false = only_false (list_any is_slash (b ∷ id)) part in
+    rw (is, split_alone (b ∷ id) none) refl
+
+pub no_create_front : (path : List ℕ) → bytes_eq (take (length front) path) front ≡ false → parameters_in create_route (parts_of path) ≡ None
+no_create_front path other =
+    none_from (parameters_in create_route (parts_of path)) (λ found e. let p = create_path_from path found e in false≢true (sym other ∙ begins path front p.id p.is))
+
+pub no_create_part : (path id : List ℕ) → path ≡ front ++ id → is_part id ≡ false → parameters_in create_route (parts_of path) ≡ None
+no_create_part path id is other =
+    none_from (parameters_in create_route (parts_of path)) (λ found e.
+    let p = create_path_from path found e in
+    let same : id ≡ p.id = same_rest id p.id (sym is ∙ p.is) in
     false≢true (sym other ∙ (ap is_part same ∙ part_from p.id p.some p.none)))
 
 -- what stands before the first place

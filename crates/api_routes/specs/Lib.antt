@@ -1,3 +1,4 @@
+pub mod Bodies
 pub mod Parts
 pub mod ReplyText
 pub mod Routes

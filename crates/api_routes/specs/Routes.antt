@@ -1,11 +1,13 @@
 -- Which call a message makes (the queue service's routes of the Taskcluster reference).
-use Rattle.std.specs.Prelude.{ℕ, List, [], ◌∷◌, Bool, ◌&&◌, ◌==◌, nat_le, codes, bytes_eq, Option, Some, None, option_map, if◌then◌else◌}
+use Rattle.std.specs.Prelude.{◌≡◌, ℕ, List, [], ◌∷◌, Bool, ◌&&◌, ◌==◌, nat_le, codes, bytes_eq, Option, Some, None, option_map, if◌then◌else◌}
 use Rattle.std.specs.List.{slice_split, before_first, list_all}
 use Rattle.percent_encoding.specs.Percent.{percent_decode}
 use Rattle.http_wire.specs.declared.message.Message.{Message}
 use Rattle.farm_text.specs.Slug.{slug_of}
 use Rattle.farm_machine.specs.declared.question.Call.{Call}
 use Rattle.farm_machine.specs.declared.question.Call.TheVariants.{NoRoute, BadParameter, Ping, Status}
+use Rattle.std.specs.Bool.{MatchBool}
+use Rattle.api_routes.specs.Bodies.{IsCreateCall}
 use Rattle.farm_machine.specs.declared.question.Parameter.TheVariants.{TaskId}
 use Rattle.farm_machine.specs.declared.question.Caller.{Caller}
 use Rattle.farm_machine.specs.declared.question.Caller.TheVariants.{Anonymous, BadHeader}
@@ -45,6 +47,10 @@ ping_route = queue_route (word (codes "ping") ∷ [])
 abbrev pub status_route : List Segment
 status_route = queue_route (word (codes "task") ∷ parameter ∷ word (codes "status") ∷ [])
 
+-- `/task/{taskId}`
+abbrev pub create_route : List Segment
+create_route = queue_route (word (codes "task") ∷ parameter ∷ [])
+
 -- a byte of printable ASCII
 abbrev pub is_printable : ℕ → Bool
 is_printable b = nat_le 32 b && nat_le b 126
@@ -69,21 +75,35 @@ abbrev pub ping_or : Option (List (List ℕ)) → List ℕ → Call
 ping_or (Some parts) path = Ping
 ping_or None path = status_or (parameters_in status_route (parts_of path)) path
 
--- the call of a method and a path
-abbrev pub routed : List ℕ → List ℕ → Call
-routed method path =
-    if bytes_eq method (codes "GET") then ping_or (parameters_in ping_route (parts_of path)) path else NoRoute (route_name path)
+-- the call of GET on a path
+abbrev pub get_call : List ℕ → Call
+get_call path = ping_or (parameters_in ping_route (parts_of path)) path
+
+-- the call of PUT on a path with these parameters, where it fits the route
+abbrev pub IsPutOr : Option (List (List ℕ)) → List ℕ → List ℕ → Call → Type 0
+IsPutOr None path body call = call ≡ NoRoute (route_name path)
+IsPutOr (Some []) path body call = call ≡ NoRoute (route_name path)
+IsPutOr (Some (part ∷ parts)) path body call = IsCreateCall body (slug_of (percent_decode part)) call
+
+-- the call of PUT on a path, with this body
+abbrev pub IsPutCall : List ℕ → List ℕ → Call → Type 0
+IsPutCall path body call = IsPutOr (parameters_in create_route (parts_of path)) path body call
+
+-- the call of a method and a path, with this body
+abbrev pub IsRouted : List ℕ → List ℕ → List ℕ → Call → Type 0
+IsRouted method path body call =
+    MatchBool (bytes_eq method (codes "GET")) (call ≡ get_call path)
+    (MatchBool (bytes_eq method (codes "PUT")) (IsPutCall path body call) (call ≡ NoRoute (route_name path)))
 
 -- what a message calls
-unfoldable pub call_of : Message → Call
-call_of message = routed message.method (path_of message.target)
+unfoldable pub IsCallOf : Message → Call → Type 0
+IsCallOf message call = IsRouted message.method (path_of message.target) message.body call
 
 -- Who sends a message. Credentials have no reading yet, so any field with some is off its form.
 abbrev pub caller_from : Option (List ℕ) → Caller
 caller_from None = Anonymous
 caller_from (Some credentials) = BadHeader
 
--- the question of a message, with the moment and the id that were told for it
-abbrev pub question_of : Message → ℕ → List ℕ → Asking
-question_of message moment id =
-    record { moment = moment; drawn = id; caller = caller_from message.authorization; call = call_of message }
+-- the question of a message that makes this call, with the moment and the id that were told for it
+abbrev pub question_of : Message → Call → ℕ → List ℕ → Asking
+question_of message call moment id = record { moment = moment; drawn = id; caller = caller_from message.authorization; call = call }

@@ -1,6 +1,7 @@
 //! The routes of the API and the bytes of its replies: which call a message makes, and the head of a reply.
 #![tactic(auto)]
 
+mod bodies;
 mod head;
 mod routes;
 mod wire_replies;

@@ -4,8 +4,10 @@ ghost use Rattle.farm_text.specs.Slug.{slug_of};
 ghost use Rattle.percent_encoding.specs.Percent.{percent_decode};
 ghost use Rattle.std.specs.List.{position, list_all};
 ghost use Rattle.api_routes.specs.Routes as routes;
+ghost use Rattle.api_routes.specs.Bodies.{IsCreateCall};
 ghost use Rattle.api_routes.specs.Parts.{is_part};
 
+use crate::bodies::task_call;
 use farm_machine::question::{Call, Caller, Parameter};
 use farm_text::{SlugId, Text};
 use http_wire::Message;
@@ -13,19 +15,40 @@ use percent_encoding::percent_decode;
 use scope_sets::scopes::is_printable;
 use std::alloc::{AllocError, Global};
 
-/// The call of a message, by its method and its target.
+/// The call of a message, by its method, its target, and its body where the call has one.
 pub fn call_of(alloc: Global, message: &Message) -> Result<Call, AllocError>
-    ensures { IfOk result (λ c. c ≡ routes.call_of message.now) }
+    ensures { IfOk result (routes.IsCallOf message.now) }
 {
     let path = path_of(message.target.as_slice());
-    if message.method.as_slice() != b"GET".as_slice() {
-        return no_route(alloc, path);
+    let method = message.method.as_slice();
+    if method == b"GET".as_slice() {
+        return get_call(alloc, path);
     }
+    if method == b"PUT".as_slice() {
+        return put_call(alloc, path, message.body.as_slice());
+    }
+    no_route(alloc, path)
+}
+
+/// The call of GET on a path.
+fn get_call(alloc: Global, path: &[u8]) -> Result<Call, AllocError>
+    ensures { IfOk result (λ c. c ≡ routes.get_call path.now) }
+{
     if path == b"/api/queue/v1/ping".as_slice() {
         return Ok(Call::Ping);
     }
     match status_id(path) {
         Some(id) => status_call(alloc, id),
+        None => no_route(alloc, path),
+    }
+}
+
+/// The call of PUT on a path, with this body.
+fn put_call(alloc: Global, path: &[u8], body: &[u8]) -> Result<Call, AllocError>
+    ensures { IfOk result (routes.IsPutCall path.now body.now) }
+{
+    match create_id(path) {
+        Some(id) => create_call(alloc, id, body),
         None => no_route(alloc, path),
     }
 }
@@ -72,6 +95,17 @@ fn status_id(path: &[u8]) -> Option<&[u8]>
     }
 }
 
+/// The id in the path of a task's making, as it stands there.
+fn create_id(path: &[u8]) -> Option<&[u8]>
+    ensures { MatchOption result (routes.parameters_in routes.create_route (routes.parts_of path.now) ≡ None)
+        (λ id. routes.parameters_in routes.create_route (routes.parts_of path.now) ≡ Some (id.now ∷ [])) }
+{
+    match path.strip_prefix(b"/api/queue/v1/task/") {
+        Some(id) if is_part(id) => Some(id),
+        _ => None,
+    }
+}
+
 /// Whether the bytes are one part of a path that is not empty.
 fn is_part(bytes: &[u8]) -> bool
     ensures { result ≡ is_part bytes.now }
@@ -79,14 +113,31 @@ fn is_part(bytes: &[u8]) -> bool
     !bytes.is_empty() && !bytes.contains(&b'/')
 }
 
+/// The id that is percent-encoded in a path, where it is a slugid.
+fn decoded_id(alloc: Global, id: &[u8]) -> Result<Option<SlugId>, AllocError>
+    ensures { IfOk result (λ decoded. decoded ≡ slug_of (percent_decode id.now)) }
+{
+    let mut text = Vec::new(alloc);
+    percent_decode(id).append_to(&mut text)?;
+    Ok(SlugId::read(&text))
+}
+
 /// The status call of the task whose id is percent-encoded in a path.
 fn status_call(alloc: Global, id: &[u8]) -> Result<Call, AllocError>
     ensures { IfOk result (λ c. c ≡ routes.status_call (slug_of (percent_decode id.now))) }
 {
-    let mut text = Vec::new(alloc);
-    percent_decode(id).append_to(&mut text)?;
-    match SlugId::read(&text) {
+    match decoded_id(alloc, id)? {
         Some(id) => Ok(Call::Status(id)),
+        None => Ok(Call::BadParameter(Parameter::TaskId)),
+    }
+}
+
+/// The call to make the task whose id is percent-encoded in a path, with this body.
+fn create_call(alloc: Global, id: &[u8], body: &[u8]) -> Result<Call, AllocError>
+    ensures { IfOk result (IsCreateCall body.now (slug_of (percent_decode id.now))) }
+{
+    match decoded_id(alloc, id)? {
+        Some(id) => task_call(alloc, id, body),
         None => Ok(Call::BadParameter(Parameter::TaskId)),
     }
 }

@@ -5,9 +5,10 @@ use Rattle.farm_text.specs.declared.moment.TheConstants.{LAST_TOLD_MOMENT}
 use Rattle.farm_machine.specs.declared.config.Config.{Config}
 use Rattle.farm_machine.specs.declared.reply.Reply.{Reply}
 use Rattle.farm_machine.specs.Changes.{moment_of}
-use Rattle.farm_machine.specs.Due.{is_due, advance}
+use Rattle.farm_rows.specs.Due.{is_due, advance}
 use Rattle.farm_machine.specs.Entry.{Asking, Outcome, call}
-use Rattle.farm_machine.specs.State.{Contents, working}
+use Rattle.farm_rows.specs.Contents.{Contents}
+use Rattle.farm_machine.specs.State.{working}
 use Rattle.farm_machine.specs.Step.{MayBecome, after_call, reply_to, farm_rules}
 use Rattle.farm_machine.proofs.DueLemmas.{nothing_due}
 use Rattle.farm_core.specs.Bare.{IsResolved, IsPerformed}

@@ -2,9 +2,10 @@
 use Rattle.std.specs.Prelude.{◌≡◌, ℕ, Bool, if◌then◌else◌}
 use Rattle.farm_machine.specs.declared.config.Config.{Config}
 use Rattle.farm_machine.specs.declared.reply.Reply.{Reply}
-use Rattle.farm_machine.specs.Due.{is_due, advance}
+use Rattle.farm_rows.specs.Due.{is_due, advance}
 use Rattle.farm_machine.specs.Entry.{Asking, Outcome}
-use Rattle.farm_machine.specs.State.{Contents, working}
+use Rattle.farm_rows.specs.Contents.{Contents}
+use Rattle.farm_machine.specs.State.{working}
 use Rattle.farm_machine.specs.Step.{MayBecome, after_call, reply_to}
 
 -- what was due at the moment was resolved, and `ticked` says whether anything was

@@ -2,7 +2,7 @@
 ghost use Rattle.std.specs.Prelude.{◌≡◌, ◌≤◌, false};
 ghost use Rattle.farm_text.specs.declared.moment.TheConstants.{LAST_TOLD_MOMENT};
 ghost use Rattle.farm_machine.specs.Changes.{moment_of};
-ghost use Rattle.farm_machine.specs.Due.{is_due};
+ghost use Rattle.farm_rows.specs.Due.{is_due};
 ghost use Rattle.farm_machine.specs.State.{working, empty_state};
 ghost use Rattle.farm_core.specs.Bare.{IsResolved, IsPerformed};
 
@@ -26,9 +26,13 @@ pub struct Bare {
 }
 
 impl Model for Bare {
+    ghost use Rattle.std.specs.Coded.{codes};
+    ghost use Rattle.task_defs.specs.Codes.{members_code};
     ghost use Rattle.farm_machine.specs.State.{State, working};
 
     ghost Value = { State };
+
+    ghost coded = { Prim.hlevel (codes, members_code) };
 
     ghost view = { λ b. working b.config b.tables };
 }
@@ -41,7 +45,7 @@ impl Bare {
         Bare {
             alloc,
             config,
-            tables: Tables::new(),
+            tables: Tables::new(alloc),
         }
     }
 }

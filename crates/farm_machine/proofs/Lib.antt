@@ -1,7 +1,7 @@
 pub mod AccessLemmas
-pub mod DueLemmas
 pub mod ExpressionLemmas
 pub mod OrderLemmas
 pub mod PlanLemmas
 pub mod StepLemmas
 pub mod VerdictLemmas
+mod EqualLemmas

@@ -1,15 +1,22 @@
 -- The first judgement in the one order: where each part strikes, that there is one, and that it is one.
-use Rattle.std.proofs.Common.{◌≡◌, ℕ, inl, inr, List, [], ◌∷◌, ◌++◌, map, Option, Some, None, option_map, refl, sym, ap, ◌∙◌, subst}
+use Rattle.std.proofs.Common.{◌≡◌, ◌⊎◌, ℕ, IfSome, inl, inr, List, [], ◌∷◌, ◌++◌, map, Option, Some, None, option_map, refl, sym, ap, ◌∙◌, subst}
 use Rattle.role_expand.specs.Roles.{RoleData}
 use Rattle.scope_sets.specs.Expressions.{Expression, missing}
 use Rattle.farm_text.specs.Document.{document_text}
 use Rattle.farm_machine.specs.declared.question.Caller.{Caller}
 use Rattle.farm_machine.specs.declared.reply.Answer.{Answer}
 use Rattle.farm_machine.specs.Access.{Access, Has, Refused, HasAccess}
-use Rattle.farm_machine.specs.Case.{Setting, Deed, Case, first_rule}
-use Rattle.farm_machine.specs.Changes.{applied}
+use Rattle.farm_record.specs.declared.change.Creation.{Creation}
+use Rattle.farm_rows.specs.Contents.{Contents}
+use Rattle.farm_rows.specs.Plans as tasks
+use Rattle.farm_machine.specs.declared.judged.Judged.{Judged}
+use Rattle.farm_machine.specs.Calls.CreateTask.{making}
+use Rattle.farm_machine.specs.Case.{Setting, Deed, Rule, Case, IsFirstRule}
+use Rattle.farm_machine.specs.Changes.{changed}
 use Rattle.farm_machine.specs.Judgement.{Judgement, only_answer}
-use Rattle.farm_machine.specs.Order.{Form, has_no_route, has_bad_parameter, asks, route_of, parameter_of, case_of, Strikes, HasNoAccess, LacksScopes, IsDone, done, IsFirst, in_order}
+use Rattle.farm_machine.specs.Order.{Form, has_no_route, has_bad_parameter, has_bad_body, asks, route_of, parameter_of, body_of, case_of, Strikes, HasNoAccess, LacksScopes, IsEnded, full, IsDone, done, IsFirst, in_order}
+use Rattle.farm_machine.specs.Planned.{judgement_of}
+use Rattle.farm_machine.specs.Refused.{Passes, IsRefusal, IsJudged, IsMade}
 use Rattle.farm_machine.specs.Replies.{ok, insufficient_scopes}
 use Rattle.farm_machine.proofs.AccessLemmas.{HasAccess-one}
 
@@ -41,22 +48,26 @@ lacks_none roles caller scopes policy has none other lacks =
     let same : lacks.0 ≡ scopes = one_list roles caller lacks.0 scopes lacks.1 has in
     idle (option_map insufficient_scopes (missing lacks.0 policy)) (rw (same, none) refl) other lacks.2
 
--- rules of which none strikes are passed over
-rules_pass : (rules : List (Option Answer)) (Ps : List (Judgement → Type 0)) (judgement : Judgement) → first_rule rules ≡ None → IsFirst Ps judgement → IsFirst (map Strikes rules ++ Ps) judgement
+-- rules of which none ends the call are passed over
+rules_pass : (rules : List Rule) (Ps : List (Judgement → Type 0)) (judgement : Judgement) → IsFirstRule rules None → IsFirst Ps judgement → IsFirst (map IsEnded rules ++ Ps) judgement
 rules_pass [] Ps judgement none first = first
-rules_pass (None ∷ rules) Ps judgement none first = inr (λ other strikes. strikes, rules_pass rules Ps judgement none first)
-rules_pass (Some a ∷ rules) Ps judgement none first = cc
+rules_pass (rule ∷ rules) Ps judgement (inl ended) first = let same = ended.1 in cc
+rules_pass (rule ∷ rules) Ps judgement (inr (goes_on, rest)) first = inr (λ other ended. goes_on ended.0, rules_pass rules Ps judgement rest first)
 
--- the first that strikes gives its answer
-rule_strikes : (rules : List (Option Answer)) (Ps : List (Judgement → Type 0)) (a : Answer) → first_rule rules ≡ Some a → IsFirst (map Strikes rules ++ Ps) (only_answer a)
-rule_strikes [] Ps a is = cc
-rule_strikes (None ∷ rules) Ps a is = inr (λ other strikes. strikes, rule_strikes rules Ps a is)
-rule_strikes (Some b ∷ rules) Ps a is = inl (struck (Some b) a is)
+-- the first that ends it gives its answer
+rule_ends : (rules : List Rule) (Ps : List (Judgement → Type 0)) (a : Answer) → IsFirstRule rules (Some a) → IsFirst (map IsEnded rules ++ Ps) (only_answer a)
+rule_ends [] Ps a is = cc
+rule_ends (rule ∷ rules) Ps a (inl (ends, is)) = let same : a ≡ rule.answer = cc in inl (ends, ap only_answer same)
+rule_ends (rule ∷ rules) Ps a (inr (goes_on, rest)) = inr (λ other ended. goes_on ended.0, rule_ends rules Ps a rest)
+
+-- what comes behind the rules of a call
+abbrev pub last_parts : Setting → Deed → List (Judgement → Type 0)
+last_parts at deed = Strikes (full at.state deed.change) ∷ IsDone at deed ∷ []
 
 -- a call that asks something has no fault of form
-asks-first : (at : Setting) (caller : Caller) (case : Setting → Case) (judgement : Judgement) → IsFirst (HasNoAccess at.state.config.roles caller ∷ Strikes (case at).absent ∷ LacksScopes at.state.config.roles caller (case at).policy ∷ (map Strikes (case at).rules ++ IsDone at (case at).deed ∷ [])) judgement → IsFirst (in_order at caller (asks case)) judgement
+asks-first : (at : Setting) (caller : Caller) (case : Setting → Case) (judgement : Judgement) → IsFirst (HasNoAccess at.state.config.roles caller ∷ Strikes (case at).absent ∷ LacksScopes at.state.config.roles caller (case at).policy ∷ (map IsEnded (case at).rules ++ last_parts at (case at).deed)) judgement → IsFirst (in_order at caller (asks case)) judgement
 asks-first at caller case judgement first =
-    inr (λ other strikes. strikes, inr (λ other strikes. strikes, first))
+    inr (λ other strikes. strikes, inr (λ other strikes. strikes, inr (λ other strikes. strikes, first)))
 
 -- the caller is refused
 pub asks-refused : (at : Setting) (caller : Caller) (case : Setting → Case) (a : Answer) → HasAccess at.state.config.roles caller (Refused a) → IsFirst (in_order at caller (asks case)) (only_answer a)
@@ -77,49 +88,109 @@ asks-lacking at caller case scopes lack has there lacks =
     asks-first at caller case (only_answer (insufficient_scopes lack)) (inr (free, inr (idle (case at).absent there, inl (scopes, has, strikes))))
 
 -- what comes after the policy, for a caller whose scopes hold it
-asks-held : (at : Setting) (caller : Caller) (case : Setting → Case) (scopes : List (List ℕ)) (judgement : Judgement) → HasAccess at.state.config.roles caller (Has scopes) → (case at).absent ≡ None → missing scopes (case at).policy ≡ None → IsFirst (map Strikes (case at).rules ++ IsDone at (case at).deed ∷ []) judgement → IsFirst (in_order at caller (asks case)) judgement
+asks-held : (at : Setting) (caller : Caller) (case : Setting → Case) (scopes : List (List ℕ)) (judgement : Judgement) → HasAccess at.state.config.roles caller (Has scopes) → (case at).absent ≡ None → missing scopes (case at).policy ≡ None → IsFirst (map IsEnded (case at).rules ++ last_parts at (case at).deed) judgement → IsFirst (in_order at caller (asks case)) judgement
 asks-held at caller case scopes judgement has there none first =
     let free = not_refused at.state.config.roles caller scopes has in
     let holds = lacks_none at.state.config.roles caller scopes (case at).policy has none in
     asks-first at caller case judgement (inr (free, inr (idle (case at).absent there, inr (holds, first))))
 
--- a rule of the call strikes
-pub asks-ruled : (at : Setting) (caller : Caller) (case : Setting → Case) (scopes : List (List ℕ)) (a : Answer) → HasAccess at.state.config.roles caller (Has scopes) → (case at).absent ≡ None → missing scopes (case at).policy ≡ None → first_rule (case at).rules ≡ Some a → IsFirst (in_order at caller (asks case)) (only_answer a)
+-- a rule of the call ends it
+pub asks-ruled : (at : Setting) (caller : Caller) (case : Setting → Case) (scopes : List (List ℕ)) (a : Answer) → HasAccess at.state.config.roles caller (Has scopes) → (case at).absent ≡ None → missing scopes (case at).policy ≡ None → IsFirstRule (case at).rules (Some a) → IsFirst (in_order at caller (asks case)) (only_answer a)
 asks-ruled at caller case scopes a has there none rule =
-    asks-held at caller case scopes (only_answer a) has there none (rule_strikes (case at).rules (IsDone at (case at).deed ∷ []) a rule)
+    asks-held at caller case scopes (only_answer a) has there none (rule_ends (case at).rules (last_parts at (case at).deed) a rule)
 
--- nothing refuses the call, and it is done
-pub asks-done : (at : Setting) (caller : Caller) (case : Setting → Case) (scopes : List (List ℕ)) (judgement : Judgement) → HasAccess at.state.config.roles caller (Has scopes) → (case at).absent ≡ None → missing scopes (case at).policy ≡ None → first_rule (case at).rules ≡ None → judgement ≡ done at (case at).deed → IsFirst (in_order at caller (asks case)) judgement
-asks-done at caller case scopes judgement has there none unruled is =
-    asks-held at caller case scopes judgement has there none (rules_pass (case at).rules (IsDone at (case at).deed ∷ []) judgement unruled (inl is))
+-- nothing refuses the call before what it does is judged
+pub asks-passed : (at : Setting) (caller : Caller) (case : Setting → Case) (judgement : Judgement) → Passes at caller (case at) → IsFirst (last_parts at (case at).deed) judgement → IsFirst (in_order at caller (asks case)) judgement
+asks-passed at caller case judgement passes first =
+    asks-held at caller case passes.scopes judgement passes.has passes.there passes.held (rules_pass (case at).rules (last_parts at (case at).deed) judgement passes.unruled first)
+
+-- the first rule that ends the call refuses it, and where none does nothing refuses it
+pub refusal_by_rule : (at : Setting) (caller : Caller) (case : Setting → Case) (scopes : List (List ℕ)) (a : Option Answer) → HasAccess at.state.config.roles caller (Has scopes) → (case at).absent ≡ None → missing scopes (case at).policy ≡ None → IsFirstRule (case at).rules a → IsRefusal at caller case a
+refusal_by_rule at caller case scopes None has there none rule = record { scopes = scopes; has = has; there = there; held = none; unruled = rule }
+refusal_by_rule at caller case scopes (Some a) has there none rule = asks-ruled at caller case scopes a has there none rule
+
+-- a farm is not full for what changes nothing
+pub reads-first : (at : Setting) (deed : Deed) (judgement : Judgement) → deed.change ≡ None → judgement ≡ done at deed → IsFirst (last_parts at deed) judgement
+reads-first at deed judgement unchanged is =
+    let free : full at.state deed.change ≡ None = ap (full at.state) unchanged in
+    inr (idle (full at.state deed.change) free, inl is)
 
 -- the judgement of an answer whose body is that of a deed that changes nothing
-pub done-only : (at : Setting) (deed : Deed) (text : List ℕ) → deed.change ≡ None → text ≡ document_text (deed.body (applied at.state.contents at.moment deed.change)) → only_answer (ok text) ≡ done at deed
-done-only at deed text unchanged is = rw (unchanged, is, unchanged) refl
+pub done-only : (at : Setting) (deed : Deed) (text : List ℕ) → deed.change ≡ None → text ≡ document_text (deed.body (changed at.state.contents at.moment None)) → only_answer (ok text) ≡ done at deed
+done-only at deed text unchanged is = rw (unchanged, is) refl
+
+-- where it is full, that is the answer; and where it is not, the deed is done
+pub full-first : (at : Setting) (deed : Deed) (a : Answer) → full at.state deed.change ≡ Some a → IsFirst (last_parts at deed) (only_answer a)
+full-first at deed a is = inl (struck (full at.state deed.change) a is)
+
+pub done-first : (at : Setting) (deed : Deed) (judgement : Judgement) → full at.state deed.change ≡ None → judgement ≡ done at deed → IsFirst (last_parts at deed) judgement
+done-first at deed judgement free is = inr (idle (full at.state deed.change) free, inl is)
+
+-- ---- what the code makes of a judgement
+
+pub only-judged : (judged : Judged) (a : Answer) → judged.answer ≡ a → judged.change ≡ None → judgement_of judged ≡ only_answer a
+only-judged judged a answer change = rw (answer, change) refl
+
+pub only-kept : (judged : Judged) (contents : Contents) → judged.change ≡ None → IfSome judged.change (tasks.IsPlanOn contents)
+only-kept judged contents change = rw change tt
+
+pub IsJudged-only : (at : Setting) (caller : Caller) (form : Form) (judged : Judged) (a : Answer) → judged.answer ≡ a → judged.change ≡ None → IsFirst (in_order at caller form) (only_answer a) → IsJudged at caller form judged
+IsJudged-only at caller form judged a answer change first =
+    record { first = rw (only-judged judged a answer change) first; kept = only-kept judged at.state.contents change }
+
+pub IsJudged-made : (at : Setting) (caller : Caller) (case : Setting → Case) (creation : Creation) (judged : Judged) → Passes at caller (case at) → (case at).deed ≡ making at.moment creation → IsMade at creation judged → IsJudged at caller (asks case) judged
+IsJudged-made at caller case creation judged passes is made =
+    let P : Deed → Type 0 = λ deed. IsFirst (last_parts at deed) (judgement_of judged) in
+    record { first = asks-passed at caller case (judgement_of judged) passes (subst P (sym is) made.first); kept = made.kept }
 
 -- ---- there is one
 
-ruled_some : (at : Setting) (caller : Caller) (case : Setting → Case) (scopes : List (List ℕ)) (rule : Option Answer) → HasAccess at.state.config.roles caller (Has scopes) → (case at).absent ≡ None → missing scopes (case at).policy ≡ None → first_rule (case at).rules ≡ rule → (judgement : Judgement) × IsFirst (in_order at caller (asks case)) judgement
-ruled_some at caller case scopes (Some a) has there none is = (only_answer a, asks-ruled at caller case scopes a has there none is)
-ruled_some at caller case scopes None has there none is = (done at (case at).deed, asks-done at caller case scopes (done at (case at).deed) has there none is refl)
+-- the farm is full or not, and the deed is done
+last_some : (at : Setting) (deed : Deed) (answer : Option Answer) → full at.state deed.change ≡ answer → (judgement : Judgement) × IsFirst (last_parts at deed) judgement
+last_some at deed (Some a) is = (only_answer a, full-first at deed a is)
+last_some at deed None is = (done at deed, done-first at deed (done at deed) is refl)
 
-lacking_some : (at : Setting) (caller : Caller) (case : Setting → Case) (scopes : List (List ℕ)) (lack : Option Expression) → HasAccess at.state.config.roles caller (Has scopes) → (case at).absent ≡ None → missing scopes (case at).policy ≡ lack → (judgement : Judgement) × IsFirst (in_order at caller (asks case)) judgement
-lacking_some at caller case scopes (Some e) has there is = (only_answer (insufficient_scopes e), asks-lacking at caller case scopes e has there is)
-lacking_some at caller case scopes None has there is = ruled_some at caller case scopes (first_rule (case at).rules) has there is refl
+-- each rule ends a call or does not
+abbrev pub AreDecided : List Rule → Type 0
+AreDecided [] = Unit {0}
+AreDecided (rule ∷ rules) = (rule.Ends ⊎ ¬ rule.Ends) × AreDecided rules
 
-absent_some : (at : Setting) (caller : Caller) (case : Setting → Case) (scopes : List (List ℕ)) (absent : Option Answer) → HasAccess at.state.config.roles caller (Has scopes) → (case at).absent ≡ absent → (judgement : Judgement) × IsFirst (in_order at caller (asks case)) judgement
-absent_some at caller case scopes (Some a) has is = (only_answer a, asks-absent at caller case scopes a has is)
-absent_some at caller case scopes None has is = lacking_some at caller case scopes (missing scopes (case at).policy) has is refl
+first_rule_some : (rules : List Rule) → AreDecided rules → (a : Option Answer) × IsFirstRule rules a
+first_rule_some [] decided = (None, refl)
+first_rule_some (rule ∷ rules) (inl ends, rest) = (Some rule.answer, inl (ends, refl))
+first_rule_some (rule ∷ rules) (inr goes_on, rest) = let found = first_rule_some rules rest in (found.0, inr (goes_on, found.1))
 
-asks_some : (at : Setting) (caller : Caller) (case : Setting → Case) (access : Access) → HasAccess at.state.config.roles caller access → (judgement : Judgement) × IsFirst (in_order at caller (asks case)) judgement
-asks_some at caller case (Refused a) has = (only_answer a, asks-refused at caller case a has)
-asks_some at caller case (Has scopes) has = absent_some at caller case scopes (case at).absent has refl
+ruled_some : (at : Setting) (caller : Caller) (case : Setting → Case) (scopes : List (List ℕ)) (rule : Option Answer) → HasAccess at.state.config.roles caller (Has scopes) → (case at).absent ≡ None → missing scopes (case at).policy ≡ None → IsFirstRule (case at).rules rule → (judgement : Judgement) × IsFirst (in_order at caller (asks case)) judgement
+ruled_some at caller case scopes (Some a) has there none rule = (only_answer a, asks-ruled at caller case scopes a has there none rule)
+ruled_some at caller case scopes None has there none rule =
+    let last = last_some at (case at).deed (full at.state (case at).deed.change) refl in
+    (last.0, asks-passed at caller case last.0 (record { scopes = scopes; has = has; there = there; held = none; unruled = rule }) last.1)
+
+lacking_some : (at : Setting) (caller : Caller) (case : Setting → Case) → AreDecided (case at).rules → (scopes : List (List ℕ)) (lack : Option Expression) → HasAccess at.state.config.roles caller (Has scopes) → (case at).absent ≡ None → missing scopes (case at).policy ≡ lack → (judgement : Judgement) × IsFirst (in_order at caller (asks case)) judgement
+lacking_some at caller case decided scopes (Some e) has there is = (only_answer (insufficient_scopes e), asks-lacking at caller case scopes e has there is)
+lacking_some at caller case decided scopes None has there is =
+    let found = first_rule_some (case at).rules decided in
+    ruled_some at caller case scopes found.0 has there is found.1
+
+absent_some : (at : Setting) (caller : Caller) (case : Setting → Case) → AreDecided (case at).rules → (scopes : List (List ℕ)) (absent : Option Answer) → HasAccess at.state.config.roles caller (Has scopes) → (case at).absent ≡ absent → (judgement : Judgement) × IsFirst (in_order at caller (asks case)) judgement
+absent_some at caller case decided scopes (Some a) has is = (only_answer a, asks-absent at caller case scopes a has is)
+absent_some at caller case decided scopes None has is = lacking_some at caller case decided scopes (missing scopes (case at).policy) has is refl
+
+asks_some : (at : Setting) (caller : Caller) (case : Setting → Case) → AreDecided (case at).rules → (access : Access) → HasAccess at.state.config.roles caller access → (judgement : Judgement) × IsFirst (in_order at caller (asks case)) judgement
+asks_some at caller case decided (Refused a) has = (only_answer a, asks-refused at caller case a has)
+asks_some at caller case decided (Has scopes) has = absent_some at caller case decided scopes (case at).absent has refl
+
+-- each rule of what is called ends it or does not
+abbrev pub IsDecided : Form → Setting → Type 0
+IsDecided (asks case) at = AreDecided (case at).rules
+IsDecided form at = Unit {0}
 
 -- whatever is called, some judgement is the first, for a caller of some access
-pub in_order-some : (at : Setting) (caller : Caller) (form : Form) (access : Access) → HasAccess at.state.config.roles caller access → (judgement : Judgement) × IsFirst (in_order at caller form) judgement
-in_order-some at caller (has_no_route a) access has = (only_answer a, inl refl)
-in_order-some at caller (has_bad_parameter a) access has = (only_answer a, inr (λ other strikes. strikes, inl refl))
-in_order-some at caller (asks case) access has = asks_some at caller case access has
+pub in_order-some : (at : Setting) (caller : Caller) (form : Form) → IsDecided form at → (access : Access) → HasAccess at.state.config.roles caller access → (judgement : Judgement) × IsFirst (in_order at caller form) judgement
+in_order-some at caller (has_no_route a) decided access has = (only_answer a, inl refl)
+in_order-some at caller (has_bad_parameter a) decided access has = (only_answer a, inr (λ other strikes. strikes, inl refl))
+in_order-some at caller (has_bad_body a) decided access has = (only_answer a, inr (λ other strikes. strikes, inr (λ other strikes. strikes, inl refl)))
+in_order-some at caller (asks case) decided access has = asks_some at caller case decided access has
 
 -- ---- it is one
 
@@ -143,9 +214,9 @@ single_strikes : (answer : Option Answer) → IsSingle (Strikes answer)
 single_strikes None a b p q = absurd p
 single_strikes (Some answer) a b p q = p ∙ sym q
 
-single_rules : (rules : List (Option Answer)) (Ps : List (Judgement → Type 0)) → AreSingle Ps → AreSingle (map Strikes rules ++ Ps)
+single_rules : (rules : List Rule) (Ps : List (Judgement → Type 0)) → AreSingle Ps → AreSingle (map IsEnded rules ++ Ps)
 single_rules [] Ps single = single
-single_rules (rule ∷ rules) Ps single = (single_strikes rule, single_rules rules Ps single)
+single_rules (rule ∷ rules) Ps single = ((λ a b p q. p.1 ∙ sym q.1), single_rules rules Ps single)
 
 single_no_access : (roles : List RoleData) (caller : Caller) → IsSingle (HasNoAccess roles caller)
 single_no_access roles caller a b p q =
@@ -164,7 +235,7 @@ pub in_order-one : (at : Setting) (caller : Caller) (form : Form) (a b : Judgeme
 in_order-one at caller form a b p q =
     let roles = at.state.config.roles in
     let case = case_of form at in
-    let deed : AreSingle (IsDone at case.deed ∷ []) = (λ x y i j. i ∙ sym j, tt) in
+    let last : AreSingle (last_parts at case.deed) = (single_strikes (full at.state case.deed.change), (λ x y i j. i ∙ sym j, tt)) in
     IsFirst-one (in_order at caller form) a b
-    (single_strikes (route_of form), (single_strikes (parameter_of form), (single_no_access roles caller, (single_strikes case.absent, (single_lacks roles caller case.policy, single_rules case.rules (IsDone at case.deed ∷ []) deed)))))
+    (single_strikes (route_of form), (single_strikes (parameter_of form), (single_strikes (body_of form), (single_no_access roles caller, (single_strikes case.absent, (single_lacks roles caller case.policy, single_rules case.rules (last_parts at case.deed) last))))))
     p q

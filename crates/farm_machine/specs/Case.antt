@@ -1,12 +1,14 @@
 -- What one call has for the order of refusals, where it is judged.
-use Rattle.std.specs.Prelude.{ℕ, List, [], ◌∷◌, codes, Option, Some, None}
+use Rattle.std.specs.Prelude.{◌≡◌, ◌⊎◌, ℕ, Bool, IsTrue, List, [], ◌∷◌, codes, Option, Some, None}
 use Rattle.scope_sets.specs.Expressions.{Expression, all_of, no_members}
 use Rattle.farm_text.specs.Document.{Document, null}
 use Rattle.farm_text.specs.Slug.{slug_text}
+use Rattle.farm_record.specs.declared.change.Change.{Change}
+use Rattle.run_states.specs.Rows.{Row}
+use Rattle.farm_rows.specs.Contents.{Contents, row_with}
 use Rattle.farm_machine.specs.declared.reply.Answer.{Answer}
-use Rattle.farm_machine.specs.Judgement.{Change}
 use Rattle.farm_machine.specs.Replies.{not_found}
-use Rattle.farm_machine.specs.State.{Row, Contents, State, row_with}
+use Rattle.farm_machine.specs.State.{State}
 
 -- where a call is judged: the state, its moment, and the id that was drawn for it
 pub record Setting : Type 0 where
@@ -19,18 +21,30 @@ pub record Deed : Type 0 where
   pub change : Option Change
   pub body : Contents → Document
 
+-- a rule of a call: where it ends the call, and with which answer
+pub record Rule : Type 1 where
+  pub Ends : Type 0
+  pub answer : Answer
+
+-- a rule that ends the call where a test says so
+abbrev pub when : Bool → Answer → Rule
+when test answer = record { Ends = IsTrue test; answer = answer }
+
 -- What a call has for the order: the answer where what it names is not there, what its caller's scopes have to hold, its own rules in
--- order, each with its answer where it strikes, and what it does.
-pub record Case : Type 0 where
+-- order, and what it does.
+pub record Case : Type 1 where
   pub absent : Option Answer
   pub policy : Expression
-  pub rules : List (Option Answer)
+  pub rules : List Rule
   pub deed : Deed
+
+-- a call that only reads
+abbrev pub reading : (Contents → Document) → Deed
+reading body = record { change = None; body = body }
 
 -- nothing refuses it, and it does nothing
 abbrev pub passing : Case
-passing =
-    record { absent = None; policy = all_of no_members; rules = []; deed = record { change = None; body = λ contents. null } }
+passing = record { absent = None; policy = all_of no_members; rules = []; deed = reading (λ contents. null) }
 
 -- what a call of a task has: the row's case, or that no task has the id
 abbrev pub of_row : List ℕ → (Row → Case) → Option Row → Case
@@ -41,8 +55,7 @@ of_row id each (Some row) = each row
 abbrev pub on_task : List ℕ → Setting → (Row → Case) → Case
 on_task id at each = of_row id each (row_with id at.state.contents.rows)
 
--- the answer of the first rule that strikes
-abbrev pub first_rule : List (Option Answer) → Option Answer
-first_rule [] = None
-first_rule (None ∷ rules) = first_rule rules
-first_rule (Some answer ∷ rules) = Some answer
+-- the answer of the first rule that ends the call, where one does
+abbrev pub IsFirstRule : List Rule → Option Answer → Type 0
+IsFirstRule [] answer = answer ≡ None
+IsFirstRule (rule ∷ rules) answer = (rule.Ends × (answer ≡ Some rule.answer)) ⊎ ((¬ rule.Ends) × IsFirstRule rules answer)

@@ -1,8 +1,9 @@
--- The moment of a call, and what the tables keep after a change.
+-- The moment of a call, and what the tables keep after it.
 use Rattle.std.specs.Prelude.{ℕ, max, Option, Some, None}
+use Rattle.farm_record.specs.declared.change.Change.{Change}
+use Rattle.farm_rows.specs.Changes.{applied}
+use Rattle.farm_rows.specs.Contents.{Contents}
 use Rattle.farm_machine.specs.Entry.{Asking}
-use Rattle.farm_machine.specs.Judgement.{Change}
-use Rattle.farm_machine.specs.State.{Contents}
 
 -- the moment of a call: the greater of the clock's and the last
 abbrev pub moment_of : Contents → Asking → ℕ
@@ -12,7 +13,7 @@ moment_of contents asking = max asking.moment contents.last
 abbrev pub reached : Contents → ℕ → Contents
 reached contents moment = record contents { last = moment }
 
--- a change is made at a moment
-abbrev pub applied : Contents → ℕ → Option Change → Contents
-applied contents moment None = reached contents moment
-applied contents moment (Some change) = elim change [ ]
+-- what is kept after a call at a moment, with its change if it has one
+abbrev pub changed : Contents → ℕ → Option Change → Contents
+changed contents moment None = reached contents moment
+changed contents moment (Some change) = applied contents change

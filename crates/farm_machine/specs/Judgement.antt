@@ -1,9 +1,7 @@
 -- What a call is answered, and what it changes.
 use Rattle.std.specs.Prelude.{Option, None}
+use Rattle.farm_record.specs.declared.change.Change.{Change}
 use Rattle.farm_machine.specs.declared.reply.Answer.{Answer}
-
--- A change of the tasks. There is no kind of one until tasks can be created.
-pub data Change : Type 0 where
 
 -- what a call is answered, and what it changes
 pub record Judgement : Type 0 where

@@ -3,7 +3,7 @@ pub mod Calls
 pub mod Case
 pub mod Changes
 pub mod Config
-pub mod Due
+pub mod Deeds
 pub mod Entry
 pub mod Expressions
 pub mod Grants
@@ -11,6 +11,7 @@ pub mod Judgement
 pub mod Law
 pub mod Order
 pub mod Planned
+pub mod Refused
 pub mod Replies
 pub mod State
 pub mod Step

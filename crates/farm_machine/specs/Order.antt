@@ -1,20 +1,25 @@
 -- The one order of refusals, for every call.
-use Rattle.std.specs.Prelude.{◌≡◌, ◌⊎◌, ℕ, List, [], ◌∷◌, ◌++◌, map, Option, Some, None, option_map}
+use Rattle.std.specs.Prelude.{◌≡◌, ◌⊎◌, ℕ, min, nat_le, Bool, true, false, ◌&&◌, List, [], ◌∷◌, ◌++◌, map, length, Option, Some, None, option_map, if◌then◌else◌}
 use Rattle.scope_sets.specs.Expressions.{Expression, missing}
 use Rattle.role_expand.specs.Roles.{RoleData}
 use Rattle.farm_text.specs.Document.{document_text}
 use Rattle.farm_machine.specs.declared.question.Caller.{Caller}
 use Rattle.farm_machine.specs.declared.reply.Answer.{Answer}
 use Rattle.farm_machine.specs.Access.{Has, Refused, HasAccess}
-use Rattle.farm_machine.specs.Case.{Setting, Deed, Case, passing}
-use Rattle.farm_machine.specs.Changes.{applied}
+use Rattle.farm_record.specs.declared.change.Change.{Change}
+use Rattle.farm_record.specs.declared.change.Kind.{Kind}
+use Rattle.farm_record.specs.declared.change.Kind.TheVariants.{Create}
+use Rattle.farm_machine.specs.Case.{Setting, Deed, Rule, Case, passing}
+use Rattle.farm_machine.specs.Changes.{changed}
 use Rattle.farm_machine.specs.Judgement.{Judgement, only_answer}
-use Rattle.farm_machine.specs.Replies.{ok, insufficient_scopes}
+use Rattle.farm_machine.specs.Replies.{ok, insufficient_scopes, farm_full}
+use Rattle.farm_machine.specs.State.{State}
 
--- the form of what is called: it has no route, or a parameter off its form, with that answer, or it asks something
-pub data Form : Type 0 where
+-- the form of what is called: it has no route, or a parameter or a body off its form, with that answer, or it asks something
+pub data Form : Type 1 where
   has_no_route : (answer : Answer) → Form
   has_bad_parameter : (answer : Answer) → Form
+  has_bad_body : (answer : Answer) → Form
   asks : (case : Setting → Case) → Form
 
 -- the answer where no route has the method and the target
@@ -26,6 +31,11 @@ route_of form = None
 abbrev pub parameter_of : Form → Option Answer
 parameter_of (has_bad_parameter answer) = Some answer
 parameter_of form = None
+
+-- the answer where the body is off its form
+abbrev pub body_of : Form → Option Answer
+body_of (has_bad_body answer) = Some answer
+body_of form = None
 
 -- what a call that asks something has for the order
 abbrev pub case_of : Form → Setting → Case
@@ -48,10 +58,26 @@ LacksScopes roles caller policy judgement =
     (scopes : List (List ℕ)) × HasAccess roles caller (Has scopes)
     × Strikes (option_map insufficient_scopes (missing scopes policy)) judgement
 
+-- a rule of the call ends it with its answer, and nothing changes
+abbrev pub IsEnded : Rule → Judgement → Type 0
+IsEnded rule judgement = rule.Ends × (judgement ≡ only_answer rule.answer)
+
+-- it makes a task
+abbrev pub makes_task : Kind → Bool
+makes_task (Create creation) = true
+makes_task kind = false
+
+-- the answer where a change makes a task and the farm has as many as it takes, which are 1,000,000 at most
+abbrev pub full : State → Option Change → Option Answer
+full state None = None
+full state (Some change) =
+    if makes_task change.kind && nat_le (min state.config.max_tasks 1_000_000) (length state.contents.rows)
+    then Some (farm_full (length state.contents.rows)) else None
+
 -- the judgement of a call that does this
 abbrev pub done : Setting → Deed → Judgement
 done at deed = record {
-  answer = ok (document_text (deed.body (applied at.state.contents at.moment deed.change)));
+  answer = ok (document_text (deed.body (changed at.state.contents at.moment deed.change)));
   change = deed.change;
 }
 
@@ -69,7 +95,8 @@ abbrev pub in_order : Setting → Caller → Form → List (Judgement → Type 0
 in_order at caller form =
     Strikes (route_of form)
     ∷ Strikes (parameter_of form)
+    ∷ Strikes (body_of form)
     ∷ HasNoAccess at.state.config.roles caller
     ∷ Strikes (case_of form at).absent
     ∷ LacksScopes at.state.config.roles caller (case_of form at).policy
-    ∷ (map Strikes (case_of form at).rules ++ IsDone at (case_of form at).deed ∷ [])
+    ∷ (map IsEnded (case_of form at).rules ++ Strikes (full at.state (case_of form at).deed.change) ∷ IsDone at (case_of form at).deed ∷ [])

@@ -3,6 +3,10 @@ use Rattle.std.specs.Prelude.{ℕ, List, [], ◌∷◌, codes, true, pos}
 use Rattle.scope_sets.specs.Expressions.{Expression}
 use Rattle.farm_text.specs.Document.{Document, boolean, whole, text, object, Members, no_members, members_of, document_text}
 use Rattle.farm_machine.specs.Expressions.{document_of}
+use Rattle.run_states.specs.Rows.{Row}
+use Rattle.task_statuses.specs.Statuses.{status_of}
+use Rattle.farm_machine.specs.declared.question.BodyFault.{BodyFault}
+use Rattle.farm_machine.specs.declared.question.BodyFault.TheVariants.{NotJson, NotWhole, NoDefinition}
 use Rattle.farm_machine.specs.declared.reply.Answer.{Answer}
 use Rattle.farm_machine.specs.declared.reply.Reply.{Reply}
 use Rattle.farm_machine.specs.declared.reply.Reply.TheVariants.{Answered, OutOfMemory}
@@ -32,13 +36,41 @@ not_found kind name =
       body = error_text (codes "ResourceNotFound") (members_of ((codes "kind", text kind) ∷ (codes "name", text name) ∷ [])) (codes "nothing has that name");
     }
 
+-- the request breaks a rule, which these members tell
+abbrev pub input_error : List (List ℕ × Document) → Answer
+input_error details =
+    record { status = 400; body = error_text (codes "InputError") (members_of details) (codes "the request breaks a rule") }
+
 -- a parameter of the target is off its form
 abbrev pub bad_parameter : List ℕ → Answer
-bad_parameter name =
+bad_parameter name = input_error ((codes "name", text name) ∷ (codes "rule", whole (pos 22)) ∷ [])
+
+-- a body is no JSON, or has a number that is not whole, or is no definition
+abbrev pub bad_body : BodyFault → Answer
+bad_body NotJson = input_error ((codes "rule", whole (pos 20)) ∷ [])
+bad_body (NotWhole path) = input_error ((codes "path", text path) ∷ (codes "rule", whole (pos 21)) ∷ [])
+bad_body (NoDefinition fault) = input_error ((codes "key", text fault.key) ∷ (codes "rule", whole (pos fault.rule)) ∷ [])
+
+-- a task is to end before it begins
+abbrev pub too_late : Answer
+too_late = input_error ((codes "rule", whole (pos 15)) ∷ [])
+
+-- the status of a task, as the body of an answer
+abbrev pub status_body : Row → Document
+status_body row = object (members_of ((codes "status", status_of row) ∷ []))
+
+-- the state of this task forbids it
+abbrev pub conflict : ℕ → Row → Answer
+conflict rule row =
     record {
-      status = 400;
-      body = error_text (codes "InputError") (members_of ((codes "name", text name) ∷ (codes "rule", whole (pos 22)) ∷ [])) (codes "the request breaks a rule");
+      status = 409;
+      body = error_text (codes "RequestConflict") (members_of ((codes "rule", whole (pos rule)) ∷ (codes "status", status_of row) ∷ [])) (codes "the state forbids it");
     }
+
+-- the farm has as many tasks as it takes
+abbrev pub farm_full : ℕ → Answer
+farm_full count =
+    record { status = 507; body = error_text (codes "FarmFull") (members_of ((codes "count", whole (pos count)) ∷ [])) (codes "the farm is full") }
 
 -- the caller's credentials are not accepted
 abbrev pub not_authentic : List ℕ → Answer

@@ -5,8 +5,8 @@ use Rattle.farm_text.specs.declared.moment.TheConstants.{LAST_TOLD_MOMENT}
 use Rattle.farm_machine.specs.declared.reply.Asked.{Asked}
 use Rattle.farm_machine.specs.declared.reply.Reply.{Reply}
 use Rattle.farm_machine.specs.declared.reply.Reply.TheVariants.{Answered, OutOfMemory}
-use Rattle.farm_machine.specs.Changes.{moment_of, reached, applied}
-use Rattle.farm_machine.specs.Due.{is_due, advance}
+use Rattle.farm_rows.specs.Due.{is_due, advance}
+use Rattle.farm_machine.specs.Changes.{moment_of, reached, changed}
 use Rattle.farm_machine.specs.Entry.{Asking, Outcome, finished, out_of_memory, Entry, tick, call}
 use Rattle.farm_machine.specs.State.{State}
 use Rattle.farm_machine.specs.Verdict.{IsVerdict}
@@ -38,7 +38,7 @@ lawful state (call asking outcome) = MayCall state asking outcome
 -- the state after a call that became this
 abbrev pub after_call : State → Asking → Outcome → State
 after_call state asking (finished judgement) =
-    record state { contents = applied state.contents (moment_of state.contents asking) judgement.change }
+    record state { contents = changed state.contents (moment_of state.contents asking) judgement.change }
 after_call state asking out_of_memory =
     record state { contents = reached state.contents (moment_of state.contents asking) }
 

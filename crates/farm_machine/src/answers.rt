@@ -1,18 +1,21 @@
 //! The answers of calls: statuses of HTTP (RFC 9110), and bodies as JSON (RFC 8259).
 
-ghost use Rattle.std.specs.Prelude.{◌≡◌, IfOk};
-ghost use Rattle.farm_machine.specs.Replies.{ok, not_found, bad_parameter, not_authentic, expansion_limit, insufficient_scopes, error_text};
+ghost use Rattle.std.specs.Prelude.{◌≡◌, codes, IfOk};
+ghost use Rattle.farm_machine.specs.Replies.{ok, not_found, bad_parameter, bad_body, too_late, conflict, farm_full, status_body, not_authentic, expansion_limit, insufficient_scopes, error_text};
 ghost use Rattle.farm_text.specs.Doc.{document};
 ghost use Rattle.farm_text.specs.Document.{document_text};
 ghost use Rattle.farm_text.specs.Entries.{held};
 ghost use Rattle.scope_sets.specs.Expressions.{view};
 
 use crate::expressions::expression_doc;
+use crate::question::BodyFault;
 use crate::reply::Answer;
 use farm_text::{Doc, Entries, Text};
 use http::StatusCode;
+use run_states::TaskRow;
 use scope_sets::Expr;
 use std::alloc::{AllocError, Global};
+use task_statuses::status_doc;
 
 /// A call is done, with this body.
 pub(crate) fn ok(alloc: Global, body: &Doc) -> Result<Answer, AllocError>
@@ -37,6 +40,19 @@ pub(crate) fn not_found(alloc: Global, kind: &str, name: &str) -> Result<Answer,
     })
 }
 
+/// The request breaks a rule, which these details tell.
+fn input_error(alloc: Global, details: Entries) -> Result<Answer, AllocError>
+    ensures { IfOk result (λ a. a ≡ record {
+      status = 400;
+      body = error_text (codes "InputError") (held details) (codes "the request breaks a rule");
+    }) }
+{
+    Ok(Answer {
+        status: StatusCode::BAD_REQUEST,
+        body: error_text(alloc, "InputError", details, "the request breaks a rule")?,
+    })
+}
+
 /// This parameter of the target is off its form.
 pub(crate) fn bad_parameter(alloc: Global, name: &str) -> Result<Answer, AllocError>
     ensures { IfOk result (λ a. a ≡ bad_parameter name.now) }
@@ -44,9 +60,69 @@ pub(crate) fn bad_parameter(alloc: Global, name: &str) -> Result<Answer, AllocEr
     let details = Entries::new(alloc)
         .with(alloc, "name", Doc::text(alloc, name)?)?
         .with(alloc, "rule", Doc::Int(22))?;
+    input_error(alloc, details)
+}
+
+/// The body is off its form.
+pub(crate) fn bad_body(alloc: Global, fault: &BodyFault) -> Result<Answer, AllocError>
+    ensures { IfOk result (λ a. a ≡ bad_body fault.now) }
+{
+    let details = match fault {
+        BodyFault::NotJson => Entries::new(alloc).with(alloc, "rule", Doc::Int(20))?,
+        BodyFault::NotWhole(path) => Entries::new(alloc)
+            .with(alloc, "path", Doc::text(alloc, path.as_str())?)?
+            .with(alloc, "rule", Doc::Int(21))?,
+        BodyFault::NoDefinition(fault) => Entries::new(alloc)
+            .with(alloc, "key", Doc::text(alloc, fault.key.as_str())?)?
+            .with(alloc, "rule", Doc::Int(i64::from(fault.rule)))?,
+    };
+    input_error(alloc, details)
+}
+
+/// The task's deadline is not still to come.
+pub(crate) fn too_late(alloc: Global) -> Result<Answer, AllocError>
+    ensures { IfOk result (λ a. a ≡ too_late) }
+{
+    input_error(
+        alloc,
+        Entries::new(alloc).with(alloc, "rule", Doc::Int(15))?,
+    )
+}
+
+/// The status of a task, as the body of an answer.
+pub(crate) fn status_body(alloc: Global, row: &TaskRow) -> Result<Doc, AllocError>
+    ensures { IfOk result (λ d. document d ≡ status_body row.now) }
+{
+    let status = status_doc(alloc, row)?;
+    Ok(
+        Entries::new(alloc)
+            .with(alloc, "status", status)?
+            .into_doc(),
+    )
+}
+
+/// Another task stands under the id.
+pub(crate) fn another_stands(alloc: Global, row: &TaskRow) -> Result<Answer, AllocError>
+    ensures { IfOk result (λ a. a ≡ conflict 1 row.now) }
+{
+    let status = status_doc(alloc, row)?;
+    let details = Entries::new(alloc)
+        .with(alloc, "rule", Doc::Int(1))?
+        .with(alloc, "status", status)?;
     Ok(Answer {
-        status: StatusCode::BAD_REQUEST,
-        body: error_text(alloc, "InputError", details, "the request breaks a rule")?,
+        status: StatusCode::CONFLICT,
+        body: error_text(alloc, "RequestConflict", details, "the state forbids it")?,
+    })
+}
+
+/// The farm has as many tasks as it takes.
+pub(crate) fn farm_full(alloc: Global, count: u32) -> Result<Answer, AllocError>
+    ensures { IfOk result (λ a. a ≡ farm_full count) }
+{
+    let details = Entries::new(alloc).with(alloc, "count", Doc::Int(i64::from(count)))?;
+    Ok(Answer {
+        status: StatusCode::INSUFFICIENT_STORAGE,
+        body: error_text(alloc, "FarmFull", details, "the farm is full")?,
     })
 }
 

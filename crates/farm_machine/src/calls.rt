@@ -1,4 +1,4 @@
-//! The calls, a file each: what a call has for the one order of refusals.
-
+//! The calls: a file each.
+pub(crate) mod create_task;
 pub(crate) mod ping;
 pub(crate) mod status;

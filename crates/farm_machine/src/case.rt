@@ -1,13 +1,13 @@
 //! What one call has for the order of refusals, and where it is judged.
 ghost use Rattle.std.specs.Prelude.{◌≡◌, None, IfOk};
 ghost use Rattle.scope_sets.specs.Expressions.{view};
-ghost use Rattle.farm_text.specs.Doc.{document};
-ghost use Rattle.farm_machine.specs.Case.{Setting, Case, first_rule};
-ghost use Rattle.farm_machine.specs.Changes.{applied};
+ghost use Rattle.farm_machine.specs.Case.{Setting, Case, IsFirstRule};
+ghost use Rattle.farm_machine.specs.Deeds.{IsDeed, IsReady};
 
 use crate::config::Config;
 use crate::reply::Answer;
 use crate::tables::Tables;
+use farm_record::Creation;
 use farm_text::{Doc, Moment, SlugId};
 use scope_sets::Expr;
 use std::alloc::{AllocError, Global};
@@ -23,18 +23,25 @@ pub(crate) struct Scene<'a> {
 }
 
 impl<'a> Model for Scene<'a> {
+    ghost use Rattle.std.specs.Coded.{codes};
+    ghost use Rattle.task_defs.specs.Codes.{members_code};
     ghost use Rattle.farm_machine.specs.Case.{Setting};
     ghost use Rattle.farm_machine.specs.State.{working};
 
     ghost Value = { Setting };
 
+    ghost coded = { Prim.hlevel (codes, members_code) };
+
     ghost view = { λ s. record { state = working s.config.now s.tables.now; moment = s.moment; drawn = s.drawn } };
 }
 
-/// What a call does where nothing refuses it: (not yet) its change, and the body of its answer.
+/// What a call does where nothing refuses it.
 #[derive(Debug, Drop)]
-pub(crate) struct Done {
-    pub(crate) body: Doc,
+pub(crate) enum Done {
+    /// It changes nothing, and this is the body of its answer.
+    Reads(Doc),
+    /// It makes this task, and answers its status.
+    Makes(Creation),
 }
 
 /// A call that asks something: what it has for the order of refusals, part by part. Each part is asked only where those
@@ -49,15 +56,18 @@ pub(crate) trait Called {
 
     /// What the caller's scopes have to hold.
     fn policy(&self, alloc: Global, at: &Scene<'_>) -> Result<Expr, AllocError>
+        requires { (case self.now at.now).absent ≡ None }
         ensures { IfOk result (λ e. view e ≡ (case self.now at.now).policy) };
 
-    /// The answer of the first of its own rules that strikes.
+    /// The answer of the first of its own rules that ends it.
     fn rule(&self, alloc: Global, at: &Scene<'_>) -> Result<Option<Answer>, AllocError>
-        ensures { IfOk result (λ a. a ≡ first_rule (case self.now at.now).rules) };
+        requires { (case self.now at.now).absent ≡ None }
+        ensures { IfOk result (λ a. IsFirstRule (case self.now at.now).rules a) };
 
     /// What it does.
-    fn deed(&self, alloc: Global, at: &Scene<'_>) -> Result<Done, AllocError>
-        ensures change { IfOk result (λ d. (case self.now at.now).deed.change ≡ None) }
-        ensures body { IfOk result (λ d. document d.body ≡ (case self.now at.now).deed.body
-            (applied at.now.state.contents at.now.moment (case self.now at.now).deed.change)) };
+    fn deed(self, alloc: Global, at: &Scene<'_>) -> Result<Done, AllocError>
+        requires there { (case self at.now).absent ≡ None }
+        requires unruled { IsFirstRule (case self at.now).rules None }
+        requires ready { IsReady at.now }
+        ensures { IfOk result (λ d. IsDeed at.now (case self at.now).deed d) };
 }

@@ -1,35 +1,25 @@
-ghost use Rattle.std.specs.Prelude.{◌≡◌};
+ghost use Rattle.std.specs.Prelude.{◌≡◌, Some, None};
 ghost use Rattle.farm_machine.specs.Judgement.{only_answer};
 
 use crate::reply::Answer;
-use std::marker::Model;
+use farm_rows::TaskPlan;
 
-/// A judgement: what a call is answered, and (not yet) what it changes.
+/// A judgement: what a call is answered, and the plan of what it changes.
 #[derive(Debug, Drop)]
 pub(crate) struct Judged {
-    answer: Answer,
-}
-
-impl Model for Judged {
-    ghost use Rattle.farm_machine.specs.Judgement.{Judgement, only_answer};
-
-    ghost Value = { Judgement };
-
-    ghost view = { λ j. only_answer j.answer };
+    pub(crate) answer: Answer,
+    pub(crate) change: Option<TaskPlan>,
 }
 
 impl Judged {
     /// The judgement of this answer, which changes nothing.
     pub(crate) fn only(answer: Answer) -> Judged
-        ensures { result ≡ only_answer answer }
+        ensures answer { result.answer ≡ answer }
+        ensures change { result.change ≡ None }
     {
-        Judged { answer }
-    }
-
-    /// The answer.
-    pub(crate) fn into_answer(self) -> Answer
-        ensures { result ≡ self.answer }
-    {
-        self.answer
+        Judged {
+            answer,
+            change: None,
+        }
     }
 }

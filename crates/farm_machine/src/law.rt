@@ -21,9 +21,13 @@ pub struct Farm {}
 pub struct States {}
 
 impl Model for States {
+    ghost use Rattle.std.specs.Coded.{codes};
+    ghost use Rattle.task_defs.specs.Codes.{members_code};
     ghost use Rattle.farm_machine.specs.State.{State, empty_state, no_config};
 
     ghost Value = { State };
+
+    ghost coded = { Prim.hlevel (codes, members_code) };
 
     ghost view = { λ _. empty_state no_config };
 }
@@ -32,9 +36,13 @@ impl Model for States {
 pub struct Entries {}
 
 impl Model for Entries {
+    ghost use Rattle.std.specs.Coded.{codes};
+    ghost use Rattle.task_defs.specs.Codes.{members_code};
     ghost use Rattle.farm_machine.specs.Entry.{Entry, tick};
 
     ghost Value = { Entry };
+
+    ghost coded = { Prim.hlevel (codes, members_code) };
 
     ghost view = { λ _. tick 0 };
 }
@@ -43,10 +51,14 @@ impl Model for Entries {
 pub struct Openings {}
 
 impl Model for Openings {
+    ghost use Rattle.std.specs.Coded.{codes};
+    ghost use Rattle.task_defs.specs.Codes.{members_code};
     ghost use Rattle.farm_machine.specs.Law.{Opening};
     ghost use Rattle.farm_machine.specs.State.{empty_state, no_config};
 
     ghost Value = { Opening };
+
+    ghost coded = { Prim.hlevel (codes, members_code) };
 
     ghost view = { λ _. record { state = empty_state no_config } };
 }

@@ -1,37 +1,109 @@
 //! The one order of refusals, for every call that asks something.
-ghost use Rattle.std.specs.Prelude.{IfOk};
-ghost use Rattle.farm_machine.specs.Order.{asks, in_order, IsFirst};
+ghost use Rattle.std.specs.Prelude.{◌≡◌, true, Some, None, IfOk};
+ghost use Rattle.farm_rows.specs.Changes.{creating, may_apply};
+ghost use Rattle.farm_machine.specs.Calls.CreateTask.{making};
+ghost use Rattle.farm_machine.specs.Deeds.{IsReady};
+ghost use Rattle.farm_machine.specs.Order.{asks, full};
+ghost use Rattle.farm_machine.specs.Refused.{setting_at, IsRefusal, IsJudged, IsMade};
 
 use crate::access::{Access, access_of};
 use crate::answers;
-use crate::case::{Called, Scene};
+use crate::case::{Called, Done, Scene};
+use crate::config::Config;
 use crate::judged::Judged;
 use crate::question::Caller;
+use crate::reply::Answer;
+use crate::tables::Tables;
+use farm_record::{Change, Creation, Kind};
+use farm_text::{Moment, SlugId};
 use scope_sets::missing;
 use std::alloc::{AllocError, Global};
 
-/// Judges a call: it is done where nothing refuses it, in the one order.
-pub(crate) fn judge<C: Called>(
+/// How many tasks a farm has at most, whatever its configuration says.
+const MOST_TASKS: u32 = 1_000_000;
+
+/// Judges a call: it is done where nothing refuses it, in the one order. The tables stay as they were.
+pub(crate) fn judge<C: Called + Drop>(
+    alloc: Global,
+    caller: Caller,
+    call: C,
+    config: &Config,
+    tables: &mut Tables,
+    moment: Moment,
+    drawn: SlugId,
+) -> Result<Judged, AllocError>
+    requires { IsReady (setting_at config.now tables.old moment drawn) }
+    ensures judged { IfOk result (IsJudged (setting_at config.now tables.old moment drawn) caller (asks (C.case call))) }
+    ensures same { tables.new ≡ tables.old }
+{
+    let at = Scene {
+        config,
+        tables: &*tables,
+        moment,
+        drawn,
+    };
+    if let Some(answer) = refusal(alloc, caller, &call, &at)? {
+        return Ok(Judged::only(answer));
+    }
+    match call.deed(alloc, &at)? {
+        Done::Reads(body) => Ok(Judged::only(answers::ok(alloc, &body)?)),
+        Done::Makes(creation) => {
+            let made = make(alloc, config, tables, moment, drawn, creation)?;
+            Ok(made)
+        }
+    }
+}
+
+/// The answer that refuses a call, if one does: for its caller, for what it names, for scopes that are missing, by its own rules.
+fn refusal<C: Called>(
     alloc: Global,
     caller: Caller,
     call: &C,
     at: &Scene<'_>,
-) -> Result<Judged, AllocError>
-    ensures { IfOk result (λ j. IsFirst (in_order at.now caller (asks (C.case call.now))) j) }
+) -> Result<Option<Answer>, AllocError>
+    ensures { IfOk result (IsRefusal at.now caller (C.case call.now)) }
 {
     let scopes = match access_of(alloc, &at.config.roles, caller)? {
         Access::Has(scopes) => scopes,
-        Access::Refused(answer) => return Ok(Judged::only(answer)),
+        Access::Refused(answer) => return Ok(Some(answer)),
     };
     if let Some(answer) = call.absent(alloc, at)? {
-        return Ok(Judged::only(answer));
+        return Ok(Some(answer));
     }
     if let Some(lack) = missing(alloc, scopes, &call.policy(alloc, at)?)? {
-        return Ok(Judged::only(answers::insufficient_scopes(alloc, &lack)?));
+        return Ok(Some(answers::insufficient_scopes(alloc, &lack)?));
     }
-    if let Some(answer) = call.rule(alloc, at)? {
-        return Ok(Judged::only(answer));
+    let rule = call.rule(alloc, at)?;
+    Ok(rule)
+}
+
+/// Makes a task, where the farm is not full.
+fn make(
+    alloc: Global,
+    config: &Config,
+    tables: &mut Tables,
+    moment: Moment,
+    drawn: SlugId,
+    creation: Creation,
+) -> Result<Judged, AllocError>
+    requires { full (setting_at config.now tables.old moment drawn).state (making moment creation).change ≡ None
+        → may_apply tables.old (creating moment creation) ≡ true }
+    ensures made { IfOk result (IsMade (setting_at config.now tables.old moment drawn) creation) }
+    ensures same { tables.new ≡ tables.old }
+{
+    let _ = drawn;
+    let count = tables.len();
+    if count >= config.max_tasks.min(MOST_TASKS) {
+        return Ok(Judged::only(answers::farm_full(alloc, count)?));
     }
-    let done = call.deed(alloc, at)?;
-    Ok(Judged::only(answers::ok(alloc, &done.body)?))
+    let kind = Kind::Create(creation);
+    let Some(plan) = tables.plan(alloc, Change { at: moment, kind })? else {
+        unreachable!();
+    };
+    let body = answers::status_body(alloc, plan.row())?;
+    let answer = answers::ok(alloc, &body)?;
+    Ok(Judged {
+        answer,
+        change: Some(plan),
+    })
 }

@@ -1,8 +1,10 @@
 ghost use Rattle.std.specs.Prelude.{◌≡◌, ◌≤◌};
 ghost use Rattle.farm_text.specs.declared.moment.TheConstants.{LAST_TOLD_MOMENT};
 
+use farm_record::Creation;
 use farm_text::{Moment, SlugId, Text};
 use std::marker::Model;
+use task_defs::DefFault;
 
 /// A parameter of a target, by the name in its route.
 #[derive(Clone, Copy, Debug, PartialEq, Eq)]
@@ -19,6 +21,17 @@ pub enum Caller {
     BadHeader,
 }
 
+/// Why a body is none that its call has.
+#[derive(Debug, Drop)]
+pub enum BodyFault {
+    /// It is no JSON that nests at most 127 deep.
+    NotJson,
+    /// It has a number that is not whole, or has no `i64`: where the first one stands, as a JSON pointer (RFC 6901).
+    NotWhole(Text),
+    /// It is no task definition.
+    NoDefinition(DefFault),
+}
+
 /// What is called.
 #[derive(Debug, Drop)]
 pub enum Call {
@@ -26,10 +39,14 @@ pub enum Call {
     NoRoute(Text),
     /// A route has them, and this parameter is off its form.
     BadParameter(Parameter),
+    /// The parameters are of their form, and the body is not.
+    BadBody(BodyFault),
     /// Whether the farm is there.
     Ping,
     /// The status of a task.
     Status(SlugId),
+    /// A task is made.
+    CreateTask(Creation),
 }
 
 /// One question to the farm: the moment that the clock told, the id that was drawn, who calls, and what.
@@ -44,11 +61,15 @@ pub struct Question {
 }
 
 impl Model for Question {
+    ghost use Rattle.std.specs.Coded.{codes};
+    ghost use Rattle.task_defs.specs.Codes.{members_code};
     ghost use Rattle.std.specs.Prelude.{◌≤◌};
     ghost use Rattle.farm_text.specs.declared.moment.TheConstants.{LAST_TOLD_MOMENT};
     ghost use Rattle.farm_machine.specs.Entry.{Asking};
 
     ghost Value = { Asking };
+
+    ghost coded = { Prim.hlevel (codes, members_code) };
 
     ghost view = { λ q. record { moment = q.moment; drawn = q.drawn; caller = q.caller; call = q.call } };
 

@@ -1,24 +1,28 @@
-//! A call in two steps: `plan` judges it and takes all its memory, `apply` reaches its moment and gives its reply.
+//! A call in two steps: `plan` judges it and takes all its memory, `apply` makes its change and gives its reply.
 
 ghost use Rattle.std.specs.Prelude.{◌≡◌, ◌≤◌, false, IfOk};
-ghost use Rattle.farm_machine.specs.Changes.{moment_of, applied};
-ghost use Rattle.farm_machine.specs.Due.{is_due};
-ghost use Rattle.farm_machine.specs.Order.{in_order, IsFirst};
+ghost use Rattle.farm_rows.specs.Due.{is_due};
+ghost use Rattle.farm_machine.specs.Changes.{moment_of, changed};
+ghost use Rattle.farm_machine.specs.Deeds.{IsReady};
 ghost use Rattle.farm_machine.specs.Planned.{IsPlanOf, IsPlanOn};
-ghost use Rattle.farm_machine.specs.Verdict.{form_of};
+ghost use Rattle.farm_machine.specs.Refused.{setting_at, IsJudged};
+ghost use Rattle.farm_machine.specs.Verdict.{form_of, create_form};
 
 use crate::answers;
+use crate::calls::create_task::CreateTask;
 use crate::calls::ping::Ping;
 use crate::calls::status::Status;
-use crate::case::Scene;
 use crate::config::Config;
 use crate::judged::Judged;
 use crate::order::judge;
 use crate::plan::Plan;
-use crate::question::{Call, Caller, Parameter, Question};
+use crate::question::{BodyFault, Call, Caller, Parameter, Question};
 use crate::reply::Reply;
 use crate::tables::Tables;
+use farm_record::Creation;
+use farm_text::{Moment, SlugId};
 use std::alloc::{AllocError, Global};
+use task_defs::{DefError, check_alone};
 
 /// Judges a call and takes all the memory that it needs. The tables stay as they were.
 pub fn plan(
@@ -34,13 +38,8 @@ pub fn plan(
     let moment = question.moment().max(tables.last());
     let drawn = question.drawn();
     let caller = question.caller();
-    let at = Scene {
-        config,
-        tables: &*tables,
-        moment,
-        drawn,
-    };
-    let judged = judgement_of(alloc, caller, question.into_call(), &at)?;
+    let call = question.into_call();
+    let judged = judgement_of(alloc, caller, call, config, tables, moment, drawn)?;
     Ok(Plan { moment, judged })
 }
 
@@ -49,9 +48,14 @@ fn judgement_of(
     alloc: Global,
     caller: Caller,
     call: Call,
-    at: &Scene<'_>,
+    config: &Config,
+    tables: &mut Tables,
+    moment: Moment,
+    drawn: SlugId,
 ) -> Result<Judged, AllocError>
-    ensures { IfOk result (λ j. IsFirst (in_order at.now caller (form_of call)) j) }
+    requires { IsReady (setting_at config.now tables.old moment drawn) }
+    ensures judged { IfOk result (IsJudged (setting_at config.now tables.old moment drawn) caller (form_of call)) }
+    ensures same { tables.new ≡ tables.old }
 {
     match call {
         Call::NoRoute(name) => {
@@ -61,18 +65,52 @@ fn judgement_of(
         Call::BadParameter(Parameter::TaskId) => {
             Ok(Judged::only(answers::bad_parameter(alloc, "taskId")?))
         }
-        Call::Ping => judge(alloc, caller, &Ping {}, at),
-        Call::Status(id) => judge(alloc, caller, &Status { id }, at),
+        Call::BadBody(fault) => Ok(Judged::only(answers::bad_body(alloc, &fault)?)),
+        Call::Ping => judge(alloc, caller, Ping {}, config, tables, moment, drawn),
+        Call::Status(id) => judge(alloc, caller, Status { id }, config, tables, moment, drawn),
+        Call::CreateTask(creation) => {
+            create(alloc, caller, creation, config, tables, moment, drawn)
+        }
     }
 }
 
-/// Makes the change of a plan that was made on these tables, and gives its reply. It takes no memory. No plan has a change yet,
-/// so what is made is that its moment is reached.
+/// The judgement of a task's making. One that belongs to another's group, or waits for another, is refused until groups are built.
+fn create(
+    alloc: Global,
+    caller: Caller,
+    creation: Creation,
+    config: &Config,
+    tables: &mut Tables,
+    moment: Moment,
+    drawn: SlugId,
+) -> Result<Judged, AllocError>
+    requires { IsReady (setting_at config.now tables.old moment drawn) }
+    ensures judged { IfOk result (IsJudged (setting_at config.now tables.old moment drawn) caller (create_form creation)) }
+    ensures same { tables.new ≡ tables.old }
+{
+    match check_alone(alloc, &creation.definition, creation.id) {
+        Ok(()) => {
+            let call = CreateTask::new(creation);
+            judge(alloc, caller, call, config, tables, moment, drawn)
+        }
+        Err(DefError::Fault(fault)) => {
+            let fault = BodyFault::NoDefinition(fault);
+            Ok(Judged::only(answers::bad_body(alloc, &fault)?))
+        }
+        Err(DefError::NoMemory) => Err(AllocError),
+    }
+}
+
+/// Makes the change of a plan that was made on these tables, and gives its reply. It takes no memory.
 pub fn apply(tables: &mut Tables, plan: Plan) -> Reply
     requires { IsPlanOn tables.old plan }
-    ensures applied { tables.new ≡ applied tables.old plan.moment plan.judgement.change }
+    ensures applied { tables.new ≡ changed tables.old plan.moment plan.judgement.change }
     ensures reply { result ≡ Reply.Answered plan.judgement.answer }
 {
-    tables.reach(plan.moment);
-    Reply::Answered(plan.judged.into_answer())
+    let Judged { answer, change } = plan.judged;
+    match change {
+        Some(tasks) => tables.make(tasks),
+        None => tables.reach(plan.moment),
+    }
+    Reply::Answered(answer)
 }

@@ -1,37 +1,44 @@
-ghost use Rattle.std.specs.Prelude.{◌≡◌, ◌≤◌, ℕ};
+//! What a farm keeps.
+ghost use Rattle.std.specs.Prelude.{◌≡◌, ◌≤◌, false, IfOk, MatchOption, length, option_copied};
 ghost use Rattle.farm_text.specs.declared.moment.TheConstants.{LAST_TOLD_MOMENT};
-ghost use Rattle.farm_machine.specs.Due.{is_due, advance};
-ghost use Rattle.farm_machine.specs.State.{no_contents};
+ghost use Rattle.farm_rows.specs.Contents.{no_contents, row_with};
+ghost use Rattle.farm_rows.specs.Changes.{may_apply, applied};
+ghost use Rattle.farm_rows.specs.Due.{is_due, advance};
+ghost use Rattle.farm_rows.specs.Plans.{IsPlanOn};
 ghost use Rattle.farm_machine.specs.Changes.{reached};
 
-use farm_text::Moment;
+use farm_record::Change;
+use farm_rows::{TaskPlan, TaskTables};
+use farm_text::{Moment, SlugId};
+use run_states::TaskRow;
+use std::alloc::{AllocError, Global};
 use std::marker::Model;
 
-/// What a farm keeps: its tasks in the order of their creation (there are none yet), the last moment, and the next number.
+/// What a farm keeps: its tasks in the order of their creation, the last moment, and the next number.
 #[derive(Debug, Drop)]
 pub struct Tables {
-    last: Moment,
+    tasks: TaskTables,
 }
 
 impl Model for Tables {
-    ghost use Rattle.std.specs.Prelude.{◌≤◌, []};
-    ghost use Rattle.farm_text.specs.declared.moment.TheConstants.{LAST_TOLD_MOMENT};
-    ghost use Rattle.farm_machine.specs.State.{Contents};
+    ghost use Rattle.std.specs.Coded.{codes};
+    ghost use Rattle.task_defs.specs.Codes.{members_code};
+    ghost use Rattle.farm_rows.specs.Contents.{Contents};
 
     ghost Value = { Contents };
 
-    ghost view = { λ t. record { rows = []; last = t.last; next = 0 } };
+    ghost coded = { Prim.hlevel (codes, members_code) };
 
-    ghost invariant = { λ t. t.last ≤ LAST_TOLD_MOMENT };
+    ghost view = { λ t. t.tasks };
 }
 
 impl Tables {
     /// Tables without tasks. They take no memory.
-    pub fn new() -> Self
+    pub fn new(alloc: Global) -> Self
         ensures { result ≡ no_contents }
     {
         Tables {
-            last: Moment::FIRST,
+            tasks: TaskTables::new(alloc),
         }
     }
 
@@ -40,16 +47,52 @@ impl Tables {
         ensures last { result ≡ self.now.last }
         ensures told { result ≤ LAST_TOLD_MOMENT }
     {
-        self.last
+        self.tasks.counts().last
     }
 
-    /// Makes this the last moment, which it is not before.
-    pub fn reach(&mut self, moment: Moment)
+    /// How many tasks stand.
+    pub fn len(&self) -> u32
+        ensures { result ≡ length self.now.rows }
+    {
+        self.tasks.counts().rows
+    }
+
+    /// The task with this id.
+    pub(crate) fn row(&self, id: SlugId) -> Option<&TaskRow>
+        ensures { option_copied result ≡ row_with id self.now.rows }
+    {
+        self.tasks.row(id)
+    }
+
+    /// The plan of a change, with all the memory that it takes, or none where the change may not be made.
+    pub(crate) fn plan(
+        &mut self,
+        alloc: Global,
+        change: Change,
+    ) -> Result<Option<TaskPlan>, AllocError>
+        ensures planned { IfOk result (λ plan. MatchOption plan (may_apply self.old change ≡ false)
+            (λ p. (p.change ≡ change) × IsPlanOn self.old p)) }
+        ensures same { self.new ≡ self.old }
+    {
+        self.tasks.plan(alloc, change)
+    }
+
+    /// Makes the change of a plan that was made on these tables.
+    pub(crate) fn make(&mut self, plan: TaskPlan)
+        requires { IsPlanOn self.old plan }
+        ensures { self.new ≡ applied self.old plan.change }
+    {
+        self.tasks.apply(plan);
+    }
+
+    /// Makes this the last moment, which it is not before, where nothing is due at it.
+    pub(crate) fn reach(&mut self, moment: Moment)
         requires told { moment ≤ LAST_TOLD_MOMENT }
         requires later { self.old.last ≤ moment }
+        requires nothing_due { is_due self.old moment ≡ false }
         ensures { self.new ≡ reached self.old moment }
     {
-        self.last = moment;
+        self.tasks.tick(moment);
     }
 }
 
@@ -57,16 +100,13 @@ impl Tables {
 pub fn due(tables: &Tables, moment: Moment) -> bool
     ensures { result ≡ is_due tables.now moment }
 {
-    let _ = tables.last();
-    let _ = moment;
-    false
+    tables.tasks.due(moment)
 }
 
-/// Reaches this moment, where it is after the last. No task stands yet, so nothing is due and nothing is resolved. It takes no
-/// memory.
+/// Resolves all that is due at this moment, each at its own, and reaches the moment, where it is after the last. It takes no memory.
 pub fn tick(tables: &mut Tables, moment: Moment)
     requires { moment ≤ LAST_TOLD_MOMENT }
     ensures { tables.new ≡ advance tables.old moment }
 {
-    tables.reach(moment.max(tables.last()));
+    tables.tasks.tick(moment);
 }

@@ -191,12 +191,13 @@ ServesWithin-more room old middle new before between after left served some goes
     let m = goes.message in
     let from : Outside = record between { left = left } in
     let others = rest.spoke in
-    let ask : Ask = record { message = m; moment = goes.once.moment; id = goes.once.id } in
+    let ask : Ask = record { message = m; call = goes.call; moment = goes.once.moment; id = goes.once.id } in
     record {
       asks = ask ∷ rest.asks;
       replies = goes.reply ∷ rest.replies;
       spoke = record {
         count = IsCount-more room (length rest.asks) served some others.count;
+        routed = (goes.routed, others.routed);
         each = ap suc others.each;
         taken = taken-more room before.left left m (messages_of rest.asks) served some goes.taken goes.goes_on others.taken;
         moments = LogGrows-then before.moments between.moments after.moments (goes.once.moment ∷ []) (map (λ (ask : Ask). ask.moment) rest.asks) goes.once.moments others.moments;
@@ -206,7 +207,7 @@ ServesWithin-more room old middle new before between after left served some goes
         reads_later = omega (arith, goes.reads_kept, others.reads_later);
         writes_later = omega (arith, goes.writes_kept, others.writes_later);
       };
-      asked = AsksInTurn-then farm_rules opened old.stands middle.stands new.stands (question_of m goes.once.moment goes.once.id ∷ []) (questions_of rest.asks) (goes.reply ∷ []) rest.replies goes.once.asked rest.asked;
+      asked = AsksInTurn-then farm_rules opened old.stands middle.stands new.stands (question_of m goes.call goes.once.moment goes.once.id ∷ []) (questions_of rest.asks) (goes.reply ∷ []) rest.replies goes.once.asked rest.asked;
       spent = omega (arith, goes.once.spent, rest.spent);
     }
 

@@ -11,11 +11,12 @@ use Rattle.http_wire.specs.declared.message.Wire.{Wire}
 use Rattle.http_wire.specs.declared.message.Wire.TheVariants as wire
 use Rattle.http_wire.specs.Calls.{CountsReads}
 use Rattle.http_wire.specs.Stream.{whole, Gives, Messages, TakesOne, Stops, is_of_stream, stopped, closed}
+use Rattle.farm_machine.specs.declared.question.Call.{Call}
 use Rattle.farm_machine.specs.declared.reply.Reply.{Reply}
 use Rattle.farm_machine.specs.Law.{opened}
 use Rattle.farm_machine.specs.Step.{farm_rules}
 use Rattle.api_routes.specs.ReplyText.{reply_text}
-use Rattle.api_routes.specs.Routes.{call_of, caller_from}
+use Rattle.api_routes.specs.Routes.{IsCallOf, caller_from}
 use Rattle.farm_server.specs.Served.{Outside, Ask, IsFront, is_refused, EndsAs, WritesAndTells, BreaksReply, BreaksOwnReply, Writes, IsCaused, IsCount, Standing, ServesWithin}
 use Rattle.farm_server.specs.Turn.{Telling, AsksOnce, Ends, Refuses, Goes, Turns}
 use Rattle.farm_server.specs.declared.gate.When.{When}
@@ -30,6 +31,7 @@ ServesWithin-none room old new before after served asked same_spare same_moments
   replies = [];
   spoke = record {
     count = count;
+    routed = tt;
     each = refl;
     taken = taken;
     moments = rw same_moments (LogGrows-none after.moments);
@@ -44,12 +46,13 @@ ServesWithin-none room old new before after served asked same_spare same_moments
 }
 
 -- one message was asked, and it ended so
-ServesWithin-one : (room : ℕ) (old new : Standing) (before after : Outside) (m : Message) (reply : Reply) (served : Served) (once : AsksOnce old new before.moments after.moments before.ids after.ids (caller_from m.authorization) (call_of m) reply) → IsCount room 1 served → IfSome before.left (λ bytes. EndsAs room bytes (m ∷ []) served) → Writes room before after (record { message = m; moment = once.moment; id = once.id } ∷ []) (reply ∷ []) served → IsCaused before after served → before.read_faults ≤ after.read_faults → before.write_faults ≤ after.write_faults → ServesWithin room old new before after served
-ServesWithin-one room old new before after m reply served once count taken written cause reads writes = record {
-  asks = record { message = m; moment = once.moment; id = once.id } ∷ [];
+ServesWithin-one : (room : ℕ) (old new : Standing) (before after : Outside) (m : Message) (call : Call) (reply : Reply) (served : Served) → IsCallOf m call → (once : AsksOnce old new before.moments after.moments before.ids after.ids (caller_from m.authorization) call reply) → IsCount room 1 served → IfSome before.left (λ bytes. EndsAs room bytes (m ∷ []) served) → Writes room before after (record { message = m; call = call; moment = once.moment; id = once.id } ∷ []) (reply ∷ []) served → IsCaused before after served → before.read_faults ≤ after.read_faults → before.write_faults ≤ after.write_faults → ServesWithin room old new before after served
+ServesWithin-one room old new before after m call reply served routed once count taken written cause reads writes = record {
+  asks = record { message = m; call = call; moment = once.moment; id = once.id } ∷ [];
   replies = reply ∷ [];
   spoke = record {
     count = count;
+    routed = (routed, tt);
     each = refl;
     taken = taken;
     moments = once.moments;
@@ -106,6 +109,8 @@ Turns-from_ends room old new stream left_now rest reads now before after m None 
       message = m;
       reply = said.reply;
       taken = takes;
+      call = said.call;
+      routed = said.routed;
       once = said.once;
       written = said.written;
       gate = said.gate;
@@ -115,10 +120,10 @@ Turns-from_ends room old new stream left_now rest reads now before after m None 
     }
 Turns-from_ends room old new stream left_now rest reads now before after m (Some Closed) some takes kept ends =
     let said = ends.0 in
-    ServesWithin-one room old new (outside stream before reads) (outside left_now after now) m said.reply Closed said.once (omega (arith, some, ends.2)) (taken_closed room stream rest m some takes ends.1 ends.2) (record { written = rw append-nil said.written; gate = said.gate }) (kept, said.kept) (omega (arith, kept)) (omega (arith, said.kept))
+    ServesWithin-one room old new (outside stream before reads) (outside left_now after now) m said.call said.reply Closed said.routed said.once (omega (arith, some, ends.2)) (taken_closed room stream rest m some takes ends.1 ends.2) (record { written = rw append-nil said.written; gate = said.gate }) (kept, said.kept) (omega (arith, kept)) (omega (arith, said.kept))
 Turns-from_ends room old new stream left_now rest reads now before after m (Some WriteFault) some takes kept ends =
     let text = reply_text ends.reply (m.closes || eqb room 1) in
-    let ask : Ask = record { message = m; moment = ends.once.moment; id = ends.once.id } in
+    let ask : Ask = record { message = m; call = ends.call; moment = ends.once.moment; id = ends.once.id } in
     let broke : BreaksReply room (outside stream before reads) (outside left_now after now) (ask ∷ []) (ends.reply ∷ []) = record {
       some = λ none. cc;
       last = text;
@@ -127,7 +132,7 @@ Turns-from_ends room old new stream left_now rest reads now before after m (Some
       begins = ends.written.1;
       says = record { written = ends.written.2; gate = ends.gate };
     } in
-    ServesWithin-one room old new (outside stream before reads) (outside left_now after now) m ends.reply WriteFault ends.once (omega arith) (taken_front room stream rest m some takes) (inl broke) (ends.rose, kept) (omega (arith, kept)) ends.later
+    ServesWithin-one room old new (outside stream before reads) (outside left_now after now) m ends.call ends.reply WriteFault ends.routed ends.once (omega arith) (taken_front room stream rest m some takes) (inl broke) (ends.rose, kept) (omega (arith, kept)) ends.later
 Turns-from_ends room old new stream left_now rest reads now before after m (Some NoMemory) some takes kept ends =
     let P : Telling → Type 0 = λ t. ServesWithin room old new (outside stream before reads) (outside left_now t now) NoMemory in
     subst P (sym ends.0) (ServesWithin-none room old new (outside stream before reads) (outside left_now before now) NoMemory ends.1 ends.2 refl refl (omega arith) (no_front room stream some) (nothing_said (outside stream before reads) (outside left_now before now) (Appends-nil before.written) refl) (kept, refl) (omega (arith, kept)) (omega arith))

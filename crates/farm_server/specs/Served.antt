@@ -13,12 +13,13 @@ use Rattle.http_wire.specs.declared.message.Wire.{Wire}
 use Rattle.http_wire.specs.declared.message.Wire.TheVariants as wire
 use Rattle.http_wire.specs.Stream.{whole, Gives, Messages, stopped, closed, full}
 use Rattle.http_wire.specs.Whole.{IsProperFrontOf}
+use Rattle.farm_machine.specs.declared.question.Call.{Call}
 use Rattle.farm_machine.specs.declared.reply.Reply.{Reply}
 use Rattle.farm_machine.specs.Entry.{Asking, Entry}
 use Rattle.farm_machine.specs.Law.{Opening, opened}
 use Rattle.farm_machine.specs.Step.{farm_rules}
 use Rattle.api_routes.specs.ReplyText.{reply_text, wire_text}
-use Rattle.api_routes.specs.Routes.{question_of}
+use Rattle.api_routes.specs.Routes.{IsCallOf, question_of}
 use Rattle.farm_server.specs.declared.gate.Gate as gates
 use Rattle.farm_server.specs.declared.gate.When.{When}
 use Rattle.farm_server.specs.declared.gate.When.TheVariants.{Asked, Answered}
@@ -49,9 +50,10 @@ outside_of of_link of_clock of_draws of_gate link clock ids gate =
       write_faults = of_link.write_faults link;
     }
 
--- a message that was asked, with the moment and the id told for it
+-- a message that was asked, the call that it makes, and the moment and the id told for it
 pub record Ask : Type 0 where
   pub message : Message
+  pub call : Call
   pub moment : ℕ
   pub id : List ℕ
 
@@ -61,7 +63,12 @@ messages_of asks = map (λ ask. ask.message) asks
 
 -- the questions of asks
 abbrev pub questions_of : List Ask → List Asking
-questions_of asks = map (λ ask. question_of ask.message ask.moment ask.id) asks
+questions_of asks = map (λ ask. question_of ask.message ask.call ask.moment ask.id) asks
+
+-- each message was asked as the call that it makes
+abbrev pub AreRouted : List Ask → Type 0
+AreRouted [] = Unit {0}
+AreRouted (ask ∷ asks) = IsCallOf ask.message ask.call × AreRouted asks
 
 -- The bytes of the replies in order, with room for so many messages. A reply closes where its message does, and the last that there is room for does.
 abbrev pub reply_texts : ℕ → List Ask → List Reply → List ℕ
@@ -156,6 +163,7 @@ IsCount room count served = count < room
 -- What was said where there was room for so many messages: these were asked, with these replies, and then it ended so.
 pub record SpokeWithin (room : ℕ) (before after : Outside) (asks : List Ask) (replies : List Reply) (served : Served) : Type 0 where
   pub count : IsCount room (length asks) served
+  pub routed : AreRouted asks
   pub each : length replies ≡ length asks
   pub taken : IfSome before.left (λ bytes. EndsAs room bytes (messages_of asks) served)
   pub moments : LogGrows before.moments after.moments (map (λ ask. ask.moment) asks)

@@ -15,7 +15,7 @@ use Rattle.farm_machine.specs.declared.reply.Reply.{Reply}
 use Rattle.farm_machine.specs.Law.{opened}
 use Rattle.farm_machine.specs.Step.{farm_rules}
 use Rattle.api_routes.specs.ReplyText.{reply_text, wire_text}
-use Rattle.api_routes.specs.Routes.{call_of, caller_from}
+use Rattle.api_routes.specs.Routes.{IsCallOf, caller_from}
 use Rattle.farm_server.specs.Served.{Outside, is_refused, Standing, ServesWithin}
 use Rattle.farm_server.specs.declared.gate.When.{When}
 use Rattle.farm_server.specs.declared.gate.When.TheVariants.{Asked, Answered}
@@ -47,7 +47,9 @@ pub record AsksOnce (old new : Standing) (moments_before moments_after : Option 
 -- One message was asked, and its reply was written; the gate was told both.
 pub record Answers (room : ℕ) (old new : Standing) (before after : Telling) (message : Message) : Type 0 where
   pub reply : Reply
-  pub once : AsksOnce old new before.moments after.moments before.ids after.ids (caller_from message.authorization) (call_of message) reply
+  pub call : Call
+  pub routed : IsCallOf message call
+  pub once : AsksOnce old new before.moments after.moments before.ids after.ids (caller_from message.authorization) call reply
   pub written : Appends before.written after.written (reply_text reply (message.closes || (room == 1)))
   pub gate : LogGrows before.gate after.gate (Asked (REQUESTS - room) ∷ Answered (REQUESTS - room) ∷ [])
   pub kept : after.write_faults ≡ before.write_faults
@@ -55,7 +57,9 @@ pub record Answers (room : ℕ) (old new : Standing) (before after : Telling) (m
 -- One message was asked, which the gate was told, and a write of its reply failed.
 pub record Breaks (room : ℕ) (old new : Standing) (before after : Telling) (message : Message) : Type 0 where
   pub reply : Reply
-  pub once : AsksOnce old new before.moments after.moments before.ids after.ids (caller_from message.authorization) (call_of message) reply
+  pub call : Call
+  pub routed : IsCallOf message call
+  pub once : AsksOnce old new before.moments after.moments before.ids after.ids (caller_from message.authorization) call reply
   pub written : AppendsFront before.written after.written (reply_text reply (message.closes || (room == 1)))
   pub gate : LogGrows before.gate after.gate (Asked (REQUESTS - room) ∷ [])
   pub rose : Rose before.write_faults after.write_faults
@@ -88,7 +92,9 @@ pub record Goes (room : ℕ) (old new : Standing) (before after : Outside) (rest
   pub message : Message
   pub reply : Reply
   pub taken : TakesOne before.left message rest
-  pub once : AsksOnce old new before.moments after.moments before.ids after.ids (caller_from message.authorization) (call_of message) reply
+  pub call : Call
+  pub routed : IsCallOf message call
+  pub once : AsksOnce old new before.moments after.moments before.ids after.ids (caller_from message.authorization) call reply
   pub written : Appends before.written after.written (reply_text reply (message.closes || (room == 1)))
   pub gate : LogGrows before.gate after.gate (Asked (REQUESTS - room) ∷ Answered (REQUESTS - room) ∷ [])
   pub goes_on : (message.closes ≡ false) ⊎ (room ≡ 1)

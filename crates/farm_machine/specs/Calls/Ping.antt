@@ -1,8 +1,7 @@
 -- ping: whether the farm is there (the queue service of the Taskcluster reference).
-use Rattle.std.specs.Prelude.{None}
-use Rattle.farm_machine.specs.Case.{Setting, Case, passing}
+use Rattle.farm_machine.specs.Case.{Setting, Case, passing, reading}
 use Rattle.farm_machine.specs.Replies.{alive}
 
 -- nothing refuses it, and it changes nothing
 abbrev pub ping : Setting → Case
-ping at = record passing { deed = record { change = None; body = λ contents. alive } }
+ping at = record passing { deed = reading (λ contents. alive) }

@@ -2,6 +2,7 @@ ghost use Rattle.std.specs.Prelude.{None, ◌≡◌, IfOk};
 
 use crate::case::{Called, Done, Scene};
 use crate::reply::Answer;
+use call_rules::{Call, expression};
 use farm_text::{Doc, Entries};
 use scope_sets::Expr;
 use std::alloc::{AllocError, Global};
@@ -20,17 +21,17 @@ impl Called for Ping {
     }
 
     fn policy(&self, alloc: Global, _at: &Scene<'_>) -> Result<Expr, AllocError> {
-        Ok(Expr::AllOf(Vec::new(alloc)))
+        expression(alloc, Call::Ping)
     }
 
     fn rule(&self, _alloc: Global, _at: &Scene<'_>) -> Result<Option<Answer>, AllocError> {
         Ok(None)
     }
 
-    fn deed(&self, alloc: Global, _at: &Scene<'_>) -> Result<Done, AllocError> {
+    fn deed(self, alloc: Global, _at: &Scene<'_>) -> Result<Done, AllocError> {
         let body = Entries::new(alloc)
             .with(alloc, "alive", Doc::Bool(true))?
             .into_doc();
-        Ok(Done { body })
+        Ok(Done::Reads(body))
     }
 }

@@ -3,11 +3,12 @@ ghost use Rattle.std.specs.Prelude.{None, ◌≡◌, IfOk};
 use crate::answers;
 use crate::case::{Called, Done, Scene};
 use crate::reply::Answer;
-use farm_text::{Doc, SlugId};
+use call_rules::{Call, expression};
+use farm_text::SlugId;
 use scope_sets::Expr;
 use std::alloc::{AllocError, Global};
 
-/// The status of a task. No task stands yet, so its policy and its body come with the first that does.
+/// The status of a task.
 #[derive(Clone, Copy)]
 pub(crate) struct Status {
     pub(crate) id: SlugId,
@@ -18,20 +19,26 @@ impl Called for Status {
 
     ghost case = { λ call. status call.id };
 
-    fn absent(&self, alloc: Global, _at: &Scene<'_>) -> Result<Option<Answer>, AllocError> {
+    fn absent(&self, alloc: Global, at: &Scene<'_>) -> Result<Option<Answer>, AllocError> {
+        if at.tables.row(self.id).is_some() {
+            return Ok(None);
+        }
         let name = self.id.to_text(alloc)?;
         Ok(Some(answers::not_found(alloc, "task", name.as_str())?))
     }
 
     fn policy(&self, alloc: Global, _at: &Scene<'_>) -> Result<Expr, AllocError> {
-        Ok(Expr::AllOf(Vec::new(alloc)))
+        expression(alloc, Call::Status(self.id))
     }
 
     fn rule(&self, _alloc: Global, _at: &Scene<'_>) -> Result<Option<Answer>, AllocError> {
         Ok(None)
     }
 
-    fn deed(&self, _alloc: Global, _at: &Scene<'_>) -> Result<Done, AllocError> {
-        Ok(Done { body: Doc::Null })
+    fn deed(self, alloc: Global, at: &Scene<'_>) -> Result<Done, AllocError> {
+        let Some(row) = at.tables.row(self.id) else {
+            unreachable!();
+        };
+        Ok(Done::Reads(answers::status_body(alloc, row)?))
     }
 }

@@ -1,0 +1,2 @@
+pub mod CalendarLemmas
+mod MemberLemmas
