@@ -1,33 +1,49 @@
 //! Messages and the calls that they make, by the queue service's reference, and a head by HTTP/1.1.
 use super::*;
-use farm_machine::question::{Call, Caller, Parameter};
+use farm_machine::question::{BodyFault, Call, Caller, Parameter};
 use farm_machine::reply::Reply;
 use farm_text::Text;
 use http_wire::{Bytes, Message, Wire};
 use std::alloc::{AllocError, Global};
 use std::test::Fail;
 
-/// A message of this method and target, without a body.
-fn message(alloc: Global, method: &[u8], target: &[u8]) -> Result<Message, AllocError> {
+/// A message of this method and target, with this body.
+fn message(
+    alloc: Global,
+    method: &[u8],
+    target: &[u8],
+    body: &[u8],
+) -> Result<Message, AllocError> {
     Ok(Message {
         method: Bytes::from(Vec::from_slice(alloc, method)?),
         target: Bytes::from(Vec::from_slice(alloc, target)?),
         authorization: None,
         authorizations: 0,
         content_type: None,
-        body: Bytes::from(Vec::new(alloc)),
+        body: Bytes::from(Vec::from_slice(alloc, body)?),
         closes: false,
     })
 }
 
-/// The call of a method and a target, as a word.
-fn called(alloc: Global, method: &[u8], target: &[u8]) -> Result<Text, AllocError> {
-    match call_of(alloc, &message(alloc, method, target)?)? {
+/// A call, as a word.
+fn word_of(alloc: Global, call: Call) -> Result<Text, AllocError> {
+    match call {
         Call::NoRoute(name) => Ok(name),
         Call::BadParameter(Parameter::TaskId) => Text::from_str(alloc, "taskId"),
+        Call::BadBody(BodyFault::NotJson) => Text::from_str(alloc, "no JSON"),
+        Call::BadBody(BodyFault::NotWhole(path)) => Ok(path),
+        Call::BadBody(BodyFault::NoDefinition(fault)) => Ok(fault.key),
         Call::Ping => Text::from_str(alloc, "ping"),
         Call::Status(id) => id.to_text(alloc),
+        Call::CreateTask(creation) => creation.id.to_text(alloc),
     }
+}
+
+/// The call of a message, as a word.
+fn called(alloc: Global, method: &[u8], target: &[u8], body: &[u8]) -> Result<Text, AllocError> {
+    let message = message(alloc, method, target, body)?;
+    let call = call_of(alloc, &message)?;
+    word_of(alloc, call)
 }
 
 #[test]
@@ -55,14 +71,42 @@ fn each_route_is_its_own(rt: HostRuntime) -> Result<(), Fail> {
         (b"GET", b"/\xc3\xa9", "-"),
     ];
     for (method, target, wanted) in rows {
-        assert_eq!(rt; called(rt.alloc(), method, target)?.as_str(), wanted);
+        assert_eq!(rt; called(rt.alloc(), method, target, b"")?.as_str(), wanted);
+    }
+    Ok(())
+}
+
+/// The smallest definition of a task.
+const PLAIN: &[u8] =
+    b"{\"created\":\"2024-01-01T00:00:00.000Z\",\"deadline\":\"2024-01-02T00:00:00.000Z\",\"metadata\":{\"description\":\"d\",\"name\":\"n\",\"owner\":\"o@example.com\",\"source\":\"https://example.com/\"},\"payload\":{},\"taskQueueId\":\"prov/wt\"}";
+
+#[test]
+fn a_body_is_read_where_its_call_has_one(rt: HostRuntime) -> Result<(), Fail> {
+    let task = b"/api/queue/v1/task/AAAAAAAAQACAAAAAAAAAAA".as_slice();
+    let rows: [(&[u8], &[u8], &[u8], &str); 8] = [
+        (b"PUT", task, PLAIN, "AAAAAAAAQACAAAAAAAAAAA"),
+        (b"PUT", task, b"", "no JSON"),
+        (b"PUT", task, b"{\"payload\":{\"a\":1.5}}", "/payload/a"),
+        (b"PUT", task, b"{}", "created"),
+        (b"PUT", b"/api/queue/v1/task/x", b"", "taskId"),
+        (b"PUT", b"/api/queue/v1/task/", PLAIN, "/api/queue/v1/task/"),
+        (
+            b"GET",
+            task,
+            PLAIN,
+            "/api/queue/v1/task/AAAAAAAAQACAAAAAAAAAAA",
+        ),
+        (b"GET", b"/api/queue/v1/ping", b"{", "ping"),
+    ];
+    for (method, target, body, wanted) in rows {
+        assert_eq!(rt; called(rt.alloc(), method, target, body)?.as_str(), wanted);
     }
     Ok(())
 }
 
 #[test]
 fn credentials_have_no_reading(rt: HostRuntime) -> Result<(), Fail> {
-    let mut asked = message(rt.alloc(), b"GET", b"/")?;
+    let mut asked = message(rt.alloc(), b"GET", b"/", b"")?;
     assert_eq!(rt; caller_of(&asked), Caller::Anonymous);
     asked.authorization = Some(Bytes::from(Vec::from_slice(rt.alloc(), b"x")?));
     assert_eq!(rt; caller_of(&asked), Caller::BadHeader);

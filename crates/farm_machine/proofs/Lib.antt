@@ -1,7 +1,11 @@
 pub mod AccessLemmas
+pub mod ChangeLemmas
+pub mod DenialLemmas
 pub mod ExpressionLemmas
+pub mod OnceLemmas
 pub mod OrderLemmas
 pub mod PlanLemmas
 pub mod StepLemmas
 pub mod VerdictLemmas
+pub mod MakeLemmas
 mod EqualLemmas

@@ -33,7 +33,7 @@ struck None a is = cc
 struck (Some b) a is = let same : b ≡ a = cc in ap only_answer (sym same)
 
 -- whoever has access is not refused
-not_refused : (roles : List RoleData) (caller : Caller) (scopes : List (List ℕ)) → HasAccess roles caller (Has scopes) → (other : Judgement) → ¬ HasNoAccess roles caller other
+pub not_refused : (roles : List RoleData) (caller : Caller) (scopes : List (List ℕ)) → HasAccess roles caller (Has scopes) → (other : Judgement) → ¬ HasNoAccess roles caller other
 not_refused roles caller scopes has other refused =
     let same : Has scopes ≡ Refused refused.0 = HasAccess-one roles caller (Has scopes) (Refused refused.0) has refused.1 in cc
 
@@ -43,7 +43,7 @@ one_list roles caller scopes others has too =
     let same : Has scopes ≡ Has others = HasAccess-one roles caller (Has scopes) (Has others) has too in cc
 
 -- whose scopes hold what is asked for lacks none
-lacks_none : (roles : List RoleData) (caller : Caller) (scopes : List (List ℕ)) (policy : Expression) → HasAccess roles caller (Has scopes) → missing scopes policy ≡ None → (other : Judgement) → ¬ LacksScopes roles caller policy other
+pub lacks_none : (roles : List RoleData) (caller : Caller) (scopes : List (List ℕ)) (policy : Expression) → HasAccess roles caller (Has scopes) → missing scopes policy ≡ None → (other : Judgement) → ¬ LacksScopes roles caller policy other
 lacks_none roles caller scopes policy has none other lacks =
     let same : lacks.0 ≡ scopes = one_list roles caller lacks.0 scopes lacks.1 has in
     idle (option_map insufficient_scopes (missing lacks.0 policy)) (rw (same, none) refl) other lacks.2

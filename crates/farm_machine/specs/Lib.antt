@@ -9,6 +9,7 @@ pub mod Expressions
 pub mod Grants
 pub mod Judgement
 pub mod Law
+pub mod Laws
 pub mod Order
 pub mod Planned
 pub mod Refused

@@ -5,6 +5,7 @@ ghost use Rattle.role_expand.specs.Cycles.{IsAccepted};
 ghost use Rattle.farm_machine.specs.Entry.{Asking};
 ghost use Rattle.farm_machine.specs.State.{State};
 ghost use Rattle.farm_machine.specs.Judgement.{Judgement};
+ghost use Rattle.farm_machine.specs.Laws.{AccessIsExact, IsCreatedOnce, AnswersAgain};
 ghost use Rattle.farm_machine.specs.Step.{farm_rules};
 ghost use Rattle.farm_machine.specs.Verdict.{IsVerdict};
 ghost use Rattle.history.specs.Asks.{HasOneEntry};
@@ -99,4 +100,21 @@ pub fn a_question_and_a_reply_have_one_entry()
 pub fn each_call_has_a_verdict()
     ensures { (longest : ℕ) (state : State) (asking : Asking) → IsAccepted longest state.config.roles
         → (judgement : Judgement) × IsVerdict state asking judgement }
+{}
+
+/// A call that is of its form and names what is there is denied exactly where its caller's scopes do not hold what it asks; then its
+/// answer tells what is missing, which is something.
+pub fn a_denial_is_of_scopes_that_are_missing()
+    ensures { AccessIsExact }
+{}
+
+/// At most one task is ever created under an id.
+pub fn a_task_is_created_once()
+    ensures { IsCreatedOnce }
+{}
+
+/// After a task was created, a createTask of its id with an equal definition is answered with the status that the task has then, and
+/// changes nothing.
+pub fn an_equal_call_acts_once()
+    ensures { AnswersAgain }
 {}

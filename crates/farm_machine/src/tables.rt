@@ -86,7 +86,7 @@ impl Tables {
     }
 
     /// Makes this the last moment, which it is not before, where nothing is due at it.
-    pub(crate) fn reach(&mut self, moment: Moment)
+    pub fn reach(&mut self, moment: Moment)
         requires told { moment ≤ LAST_TOLD_MOMENT }
         requires later { self.old.last ≤ moment }
         requires nothing_due { is_due self.old moment ≡ false }

@@ -1,15 +1,17 @@
-use crate::answers::insufficient_scopes;
+use crate::answers::{farm_full, insufficient_scopes};
 use crate::config::{Config, ConfigCounts};
 use crate::grants::Grants;
-use crate::question::{Call, Caller, Parameter, Question};
+use crate::question::{BodyFault, Call, Caller, Parameter, Question};
 use crate::reply::Reply;
 use crate::step::{apply, plan};
 use crate::tables::{Tables, due, tick};
-use farm_text::{Moment, SlugId, Text};
+use farm_record::Creation;
+use farm_text::{Doc, Moment, SlugId, Text};
 use role_expand::{Role, RoleSet};
 use scope_sets::{Expr, Scope};
 use std::alloc::Global;
 use std::test::Fail;
+use task_defs::{TaskDef, read_task};
 
 /// The id that is written `AAAAAAAAQACAAAAAAAAAAA`.
 fn first_task(rt: &impl std::process::Abort) -> SlugId {
@@ -28,8 +30,22 @@ fn config(alloc: Global, roles: Vec<Role>) -> Result<Config, Fail> {
     })
 }
 
+/// The reply of these tables at the first moment.
+fn ask_in(
+    alloc: Global,
+    tables: &mut Tables,
+    config: &Config,
+    question: Question,
+) -> Result<Reply, Fail> {
+    let moment = question.moment().max(tables.last());
+    if due(tables, moment) {
+        return Err(Fail::from("something is due"));
+    }
+    let planned = plan(alloc, tables, config, question)?;
+    Ok(apply(tables, planned))
+}
+
 /// The reply of a farm of this configuration, without tasks.
-#[tactic(auto, using(crate::proofs::DueLemmas::nothing_due))]
 fn ask_of(
     alloc: Global,
     config: &Config,
@@ -37,14 +53,9 @@ fn ask_of(
     drawn: SlugId,
     call: Call,
 ) -> Result<Reply, Fail> {
-    let mut tables = Tables::new();
-    let planned = plan(
-        alloc,
-        &mut tables,
-        config,
-        Question::new(Moment::FIRST, drawn, caller, call),
-    )?;
-    Ok(apply(&mut tables, planned))
+    let mut tables = Tables::new(alloc);
+    let question = Question::new(Moment::FIRST, drawn, caller, call);
+    ask_in(alloc, &mut tables, config, question)
 }
 
 /// The reply of a farm without roles and tasks.
@@ -177,11 +188,77 @@ fn a_configuration_counts_its_rows(rt: HostRuntime) -> Result<(), Fail> {
 
 #[test]
 fn the_last_moment_never_falls(rt: HostRuntime) -> Result<(), Fail> {
-    let mut tables = Tables::new();
+    let mut tables = Tables::new(rt.alloc());
     let later = Moment::from_millis(5).ok_or("a moment")?;
     assert!(rt; !due(&tables, later));
     tick(&mut tables, later);
     tick(&mut tables, Moment::FIRST);
     assert_eq!(rt; tables.last().millis(), 5);
+    Ok(())
+}
+
+/// The smallest definition, with a deadline a day after its making.
+const PLAIN: &[u8] =
+    b"{\"created\":\"2024-01-01T00:00:00.000Z\",\"deadline\":\"2024-01-02T00:00:00.000Z\",\"metadata\":{\"description\":\"d\",\"name\":\"n\",\"owner\":\"o@example.com\",\"source\":\"https://example.com/\"},\"payload\":{},\"taskQueueId\":\"prov/wt\"}";
+
+/// The definition of a task that a text says.
+fn definition(alloc: Global, id: SlugId) -> Result<TaskDef, Fail> {
+    let doc = Doc::read(alloc, PLAIN).ok().ok_or("a document")?;
+    let found = read_task(alloc, &doc, id).ok().ok_or("a definition")?;
+    Ok(found)
+}
+
+/// The role `anonymous` with the scope `*`.
+fn open_to_all(alloc: Global) -> Result<Vec<Role>, Fail> {
+    let scope = Scope::new(String::from_str(alloc, "*")?).ok_or("a scope")?;
+    let role = Role {
+        id: String::from_str(alloc, "anonymous")?,
+        scopes: vec![in alloc; scope]?,
+    };
+    Ok(vec![in alloc; role]?)
+}
+
+/// The status of the reply to createTask of a task, in these tables.
+fn create_in(alloc: Global, tables: &mut Tables, config: &Config, id: SlugId) -> Result<u16, Fail> {
+    let definition = definition(alloc, id)?;
+    let call = Call::CreateTask(Creation { id, definition });
+    let question = Question::new(Moment::FIRST, id, Caller::Anonymous, call);
+    let reply = ask_in(alloc, tables, config, question)?;
+    Ok(reply.status().as_u16())
+}
+
+#[test]
+fn a_task_is_made_once(rt: HostRuntime) -> Result<(), Fail> {
+    let alloc = rt.alloc();
+    let config = config(alloc, open_to_all(alloc)?)?;
+    let mut tables = Tables::new(alloc);
+    for _ in 0..2 {
+        let status = create_in(alloc, &mut tables, &config, first_task(&rt))?;
+        assert_eq!(rt; status, 200);
+    }
+    assert_eq!(rt; tables.len(), 1);
+    Ok(())
+}
+
+#[test]
+fn bodies_and_full_farms_are_told(rt: HostRuntime) -> Result<(), Fail> {
+    let alloc = rt.alloc();
+    let reply = ask(
+        alloc,
+        Caller::BadHeader,
+        first_task(&rt),
+        Call::BadBody(BodyFault::NotJson),
+    )?;
+    assert_eq!(rt; reply.status().as_u16(), 400);
+    assert_eq!(rt;
+        reply.body(),
+        "{\"code\":\"InputError\",\"details\":{\"rule\":20},\"message\":\"the request breaks a rule\"}"
+    );
+    let reply = Reply::Answered(farm_full(alloc, 7)?);
+    assert_eq!(rt; reply.status().as_u16(), 507);
+    assert_eq!(rt;
+        reply.body(),
+        "{\"code\":\"FarmFull\",\"details\":{\"count\":7},\"message\":\"the farm is full\"}"
+    );
     Ok(())
 }

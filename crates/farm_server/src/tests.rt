@@ -20,6 +20,8 @@ use role_expand::RoleSet;
 use std::alloc::{AllocError, Global};
 use std::test::Fail;
 
+mod tasks;
+
 const PING: &[u8] = b"GET /api/queue/v1/ping HTTP/1.1\r\n\r\n";
 
 const STATUS: &[u8] = b"GET /api/queue/v1/task/AAAAAAAAQACAAAAAAAAAAA/status HTTP/1.1\r\n\r\n";

@@ -1,0 +1,115 @@
+-- A verdict that changes something is that of a createTask whose id no task had.
+use Rattle.std.proofs.Common.{◌≡◌, ◌⊎◌, ℕ, Bool, true, false, List, [], ◌∷◌, ◌++◌, ◌==◌, map, length, Option, Some, None, bytes_eq, refl, sym, ap, ◌∙◌, subst, inl, inr}
+use Rattle.farm_record.specs.declared.change.Change.{Change}
+use Rattle.farm_record.specs.declared.change.Creation.{Creation}
+use Rattle.run_states.specs.Rows.{Row}
+use Rattle.farm_rows.specs.Changes.{creating}
+use Rattle.farm_rows.specs.Contents.{row_with}
+use Rattle.task_defs.specs.declared.task_def.TaskDef.{TaskDef}
+use Rattle.farm_machine.specs.declared.question.Call.{Call}
+use Rattle.farm_machine.specs.declared.question.Call.TheVariants.{NoRoute, BadParameter, BadBody, Ping, Status, CreateTask}
+use Rattle.farm_machine.specs.declared.question.Caller.{Caller}
+use Rattle.farm_machine.specs.declared.reply.Answer.{Answer}
+use Rattle.farm_machine.specs.Calls.CreateTask.{standing, create_task}
+use Rattle.farm_machine.specs.Calls.Status.{status}
+use Rattle.farm_machine.specs.Case.{Setting, Deed, Rule, Case, of_row, IsFirstRule}
+use Rattle.farm_machine.specs.Entry.{Asking}
+use Rattle.farm_machine.specs.Judgement.{Judgement, only_answer}
+use Rattle.farm_machine.specs.Laws.{creation_of}
+use Rattle.farm_machine.specs.Order.{Form, route_of, parameter_of, body_of, case_of, Strikes, full, IsEnded, IsFirst, in_order, done}
+use Rattle.farm_machine.specs.State.{State}
+use Rattle.farm_machine.specs.Verdict.{form_of, create_form_where, setting_of, IsVerdict}
+use Rattle.farm_machine.proofs.OrderLemmas.{last_parts}
+
+-- ---- a judgement that changes something is none of a refusal
+
+no_refusal : (answer : Option Answer) (judgement : Judgement) (change : Change) → judgement.change ≡ Some change → ¬ Strikes answer judgement
+no_refusal None judgement change is strikes = strikes
+no_refusal (Some a) judgement change is strikes = let none : judgement.change ≡ None = ap (λ (j : Judgement). j.change) strikes in cc
+
+after_refusals : (at : Setting) (caller : Caller) (form : Form) (judgement : Judgement) (change : Change) → judgement.change ≡ Some change → IsFirst (in_order at caller form) judgement → IsFirst (map IsEnded (case_of form at).rules ++ last_parts at (case_of form at).deed) judgement
+after_refusals at caller form judgement change is (inl p) = absurd (no_refusal (route_of form) judgement change is p)
+after_refusals at caller form judgement change is (inr (a, inl p)) = absurd (no_refusal (parameter_of form) judgement change is p)
+after_refusals at caller form judgement change is (inr (a, inr (b, inl p))) = absurd (no_refusal (body_of form) judgement change is p)
+after_refusals at caller form judgement change is (inr (a, inr (b, inr (c, inl p)))) = absurd (no_refusal (Some p.0) judgement change is p.2)
+after_refusals at caller form judgement change is (inr (a, inr (b, inr (c, inr (d, inl p))))) = absurd (no_refusal (case_of form at).absent judgement change is p)
+after_refusals at caller form judgement change is (inr (a, inr (b, inr (c, inr (d, inr (e, inl p)))))) = absurd (no_refusal _ judgement change is p.2)
+after_refusals at caller form judgement change is (inr (a, inr (b, inr (c, inr (d, inr (e, inr (f, rest))))))) = rest
+
+after_rules : (rules : List Rule) (Ps : List (Judgement → Type 0)) (judgement : Judgement) (change : Change) → judgement.change ≡ Some change → IsFirst (map IsEnded rules ++ Ps) judgement → IsFirstRule rules None × IsFirst Ps judgement
+after_rules [] Ps judgement change is first = (refl, first)
+after_rules (rule ∷ rules) Ps judgement change is (inl ended) = let none : judgement.change ≡ None = ap (λ (j : Judgement). j.change) ended.1 in cc
+after_rules (rule ∷ rules) Ps judgement change is (inr (goes_on, rest)) =
+    let more = after_rules rules Ps judgement change is rest in
+    (inr ((λ ends. goes_on (only_answer rule.answer) (ends, refl)), more.0), more.1)
+
+last_done : (at : Setting) (deed : Deed) (judgement : Judgement) (change : Change) → judgement.change ≡ Some change → IsFirst (last_parts at deed) judgement → judgement ≡ done at deed
+last_done at deed judgement change is (inl p) = absurd (no_refusal (full at.state deed.change) judgement change is p)
+last_done at deed judgement change is (inr (a, inl p)) = p
+last_done at deed judgement change is (inr (a, inr (b, p))) = absurd p
+
+-- it is that of what the call does
+pub change-done : (at : Setting) (caller : Caller) (form : Form) (judgement : Judgement) (change : Change) → judgement.change ≡ Some change → IsFirst (in_order at caller form) judgement → IsFirstRule (case_of form at).rules None × (judgement ≡ done at (case_of form at).deed)
+change-done at caller form judgement change is first =
+    let case = case_of form at in
+    let passed = after_rules case.rules (last_parts at case.deed) judgement change is (after_refusals at caller form judgement change is first) in
+    (passed.0, last_done at case.deed judgement change is passed.1)
+
+-- ---- what creates a task
+
+-- a call that creates this task: it is createTask of it, which is its own group and waits for none, and no task has the id
+pub record Creates (at : Setting) (asked : Call) (judgement : Judgement) (creation : Creation) : Type 0 where
+  pub called : asked ≡ CreateTask creation
+  pub own : bytes_eq creation.definition.task_group_id creation.id ≡ true
+  pub alone : (length creation.definition.dependencies == 0) ≡ true
+  pub unknown : row_with creation.id at.state.contents.rows ≡ None
+  pub change : judgement.change ≡ Some (creating at.moment creation)
+
+-- a judgement without a change creates nothing
+no_creation : (judgement : Judgement) (creation : Creation) (deed : Deed) (at : Setting) → deed.change ≡ None → judgement ≡ done at deed → creation_of judgement.change ≡ Some creation → ⊥
+no_creation judgement creation deed at none is creates =
+    let change : judgement.change ≡ None = ap (λ (j : Judgement). j.change) is ∙ none in
+    let nothing : creation_of None ≡ Some creation = rw change at creates in cc
+
+status_reads : (id : List ℕ) (row : Option Row) (each : Row → Case) → ((r : Row) → (each r).deed.change ≡ None) → (of_row id each row).deed.change ≡ None
+status_reads id None each reads = refl
+status_reads id (Some row) each reads = reads row
+
+unknown_is : (definition : TaskDef) (row : Option Row) (rules : List Rule) → IsFirstRule (standing definition row ++ rules) None → row ≡ None
+unknown_is definition None rules none = refl
+unknown_is definition (Some row) rules (inl p) = let no_ = p.1 in cc
+unknown_is definition (Some row) rules (inr (a, inl p)) = let no_ = p.1 in cc
+unknown_is definition (Some row) rules (inr (a, inr (goes_on, rest))) = absurd (goes_on tt)
+
+create_creates : (at : Setting) (judgement : Judgement) (asked creation : Creation) (own alone : Bool) → bytes_eq asked.definition.task_group_id asked.id ≡ own → (length asked.definition.dependencies == 0) ≡ alone → IsFirstRule (case_of (create_form_where own alone asked) at).rules None → judgement ≡ done at (case_of (create_form_where own alone asked) at).deed → creation_of judgement.change ≡ Some creation → Creates at (CreateTask asked) judgement creation
+create_creates at judgement asked creation true true own alone rules is creates =
+    let change : judgement.change ≡ Some (creating at.moment asked) = ap (λ (j : Judgement). j.change) is in
+    let found : Some asked ≡ Some creation = rw change at creates in
+    let same : asked ≡ creation = cc in
+    subst (λ (c : Creation). Creates at (CreateTask asked) judgement c) same
+    (record { called = refl; own = own; alone = alone; unknown = unknown_is asked.definition (row_with asked.id at.state.contents.rows) _ rules; change = change })
+create_creates at judgement asked creation true false own alone rules is creates = absurd (no_creation judgement creation (case_of (create_form_where true false asked) at).deed at refl is creates)
+create_creates at judgement asked creation false alone own_is alone_is rules is creates = absurd (no_creation judgement creation (case_of (create_form_where false alone asked) at).deed at refl is creates)
+
+call_creates : (at : Setting) (asked : Call) (judgement : Judgement) (creation : Creation) → IsFirstRule (case_of (form_of asked) at).rules None → judgement ≡ done at (case_of (form_of asked) at).deed → creation_of judgement.change ≡ Some creation → Creates at asked judgement creation
+call_creates at (NoRoute name) judgement creation rules is creates = absurd (no_creation judgement creation (case_of (form_of (NoRoute name)) at).deed at refl is creates)
+call_creates at (BadParameter parameter) judgement creation rules is creates = absurd (no_creation judgement creation (case_of (form_of (BadParameter parameter)) at).deed at refl is creates)
+call_creates at (BadBody fault) judgement creation rules is creates = absurd (no_creation judgement creation (case_of (form_of (BadBody fault)) at).deed at refl is creates)
+call_creates at Ping judgement creation rules is creates = absurd (no_creation judgement creation (case_of (form_of Ping) at).deed at refl is creates)
+call_creates at (Status id) judgement creation rules is creates =
+    absurd (no_creation judgement creation (status id at).deed at (status_reads id (row_with id at.state.contents.rows) _ (λ row. refl)) is creates)
+call_creates at (CreateTask asked) judgement creation rules is creates =
+    create_creates at judgement asked creation (bytes_eq asked.definition.task_group_id asked.id) (length asked.definition.dependencies == 0) refl refl rules is creates
+
+-- a change that is there
+some_change : (change : Option Change) (creation : Creation) → creation_of change ≡ Some creation → (c : Change) × (change ≡ Some c)
+some_change None creation is = cc
+some_change (Some c) creation is = (c, refl)
+
+pub verdict-creates : (state : State) (asking : Asking) (judgement : Judgement) (creation : Creation) → IsVerdict state asking judgement → creation_of judgement.change ≡ Some creation → Creates (setting_of state asking) asking.call judgement creation
+unfolding IsVerdict
+verdict-creates state asking judgement creation verdict creates =
+    let at = setting_of state asking in
+    let some = some_change judgement.change creation creates in
+    let done_so = change-done at asking.caller (form_of asking.call) judgement some.0 some.1 verdict in
+    call_creates at asking.call judgement creation done_so.0 done_so.1 creates

@@ -1,0 +1,126 @@
+-- A call that is of its form and names what is there is denied exactly where its caller's scopes do not hold what it asks.
+use Rattle.std.proofs.Common.{◌≡◌, ◌≢◌, ◌⊎◌, ℕ, Bool, true, false, IsTrue, List, [], ◌∷◌, ◌++◌, map, Option, Some, None, option_map, bytes_eq, length, ◌==◌, min, nat_le, ◌&&◌, if◌then◌else◌, refl, sym, ap, ◌∙◌, subst, inl, inr, arith}
+use Rattle.scope_sets.specs.Expressions.{Expression, holds, missing, reduced, HasNoEmptyAllOf}
+use Rattle.scope_sets.proofs.LawLemmas.{missing_full}
+use Rattle.run_states.specs.Rows.{Row}
+use Rattle.farm_rows.specs.Contents.{row_with}
+use Rattle.farm_record.specs.declared.change.Change.{Change}
+use Rattle.farm_record.specs.declared.change.Creation.{Creation}
+use Rattle.task_defs.specs.declared.task_def.TaskDef.{TaskDef}
+use Rattle.farm_machine.specs.declared.question.Call.{Call}
+use Rattle.farm_machine.specs.declared.question.Call.TheVariants.{NoRoute, BadParameter, BadBody, Ping, Status, CreateTask}
+use Rattle.farm_machine.specs.declared.question.Caller.{Caller}
+use Rattle.farm_machine.specs.declared.reply.Answer.{Answer}
+use Rattle.farm_machine.specs.Access.{Has, HasAccess}
+use Rattle.farm_machine.specs.Calls.CreateTask.{standing}
+use Rattle.farm_machine.specs.Case.{Setting, Deed, Rule, Case, of_row}
+use Rattle.farm_machine.specs.Entry.{Asking, Entry, call, finished}
+use Rattle.farm_machine.specs.Judgement.{Judgement, only_answer}
+use Rattle.farm_machine.specs.Laws.{Finished, setting_behind, where_there, asked_policy, DeniesExactly}
+use Rattle.farm_machine.specs.Order.{Form, has_no_route, has_bad_parameter, has_bad_body, asks, case_of, Strikes, full, IsEnded, makes_task, IsFirst, in_order}
+use Rattle.farm_machine.specs.Replies.{insufficient_scopes, farm_full}
+use Rattle.farm_machine.specs.State.{State}
+use Rattle.farm_machine.specs.Verdict.{form_of, create_form_where, IsVerdict}
+use Rattle.farm_machine.proofs.OnceLemmas.{entry-may, entries-config}
+use Rattle.farm_machine.proofs.OrderLemmas.{last_parts, not_refused, lacks_none, asks-lacking, in_order-one}
+
+-- ---- no rule of a call denies
+
+-- none of these answers has the status of a denial
+abbrev AreOther : List Rule → Type 0
+AreOther [] = Unit {0}
+AreOther (rule ∷ rules) = (rule.answer.status ≢ 403) × AreOther rules
+
+standing-other : (definition : TaskDef) (row : Option Row) (rules : List Rule) → AreOther rules → AreOther (standing definition row ++ rules)
+standing-other definition None rules others = others
+standing-other definition (Some row) rules others = ((λ same. omega (arith, same)), (λ same. omega (arith, same)), others)
+
+status-other : (id : List ℕ) (row : Option Row) (each : Row → Case) → ((r : Row) → AreOther (each r).rules) → AreOther (of_row id each row).rules
+status-other id None each others = tt
+status-other id (Some row) each others = others row
+
+create-other : (at : Setting) (own alone : Bool) (creation : Creation) → AreOther (case_of (create_form_where own alone creation) at).rules
+create-other at true true creation = standing-other creation.definition (row_with creation.id at.state.contents.rows) _ ((λ same. omega (arith, same)), tt)
+create-other at true false creation = tt
+create-other at false alone creation = tt
+
+call-other : (at : Setting) (asked : Call) → AreOther (case_of (form_of asked) at).rules
+call-other at (NoRoute name) = tt
+call-other at (BadParameter parameter) = tt
+call-other at (BadBody fault) = tt
+call-other at Ping = tt
+call-other at (Status id) = status-other id (row_with id at.state.contents.rows) _ (λ row. tt)
+call-other at (CreateTask creation) = create-other at (bytes_eq creation.definition.task_group_id creation.id) (length creation.definition.dependencies == 0) creation
+
+-- ---- a call that is not denied
+
+full-other : (answer : Option Answer) (judgement : Judgement) → ((a : Answer) → answer ≡ Some a → a.status ≢ 403) → Strikes answer judgement → judgement.answer.status ≢ 403
+full-other None judgement other strikes = absurd strikes
+full-other (Some a) judgement other strikes = rw strikes (other a refl)
+
+full-when : (test : Bool) (count : ℕ) (a : Answer) → (if test then Some (farm_full count) else None) ≡ Some a → a.status ≢ 403
+full-when true count a is = let same : a ≡ farm_full count = cc in rw same (λ denied. omega (arith, denied))
+full-when false count a is = cc
+
+full-status : (at : Setting) (change : Option Change) (a : Answer) → full at.state change ≡ Some a → a.status ≢ 403
+full-status at None a is = cc
+full-status at (Some change) a is = full-when (makes_task change.kind && nat_le (min at.state.config.max_tasks 1_000_000) (length at.state.contents.rows)) (length at.state.contents.rows) a is
+
+last-other : (at : Setting) (deed : Deed) (judgement : Judgement) → IsFirst (last_parts at deed) judgement → judgement.answer.status ≢ 403
+last-other at deed judgement (inl strikes) = full-other (full at.state deed.change) judgement (full-status at deed.change) strikes
+last-other at deed judgement (inr (a, inl is)) = rw is (λ same. omega (arith, same))
+last-other at deed judgement (inr (a, inr (b, none))) = absurd none
+
+rules-other : (at : Setting) (deed : Deed) (rules : List Rule) (judgement : Judgement) → AreOther rules → IsFirst (map IsEnded rules ++ last_parts at deed) judgement → judgement.answer.status ≢ 403
+rules-other at deed [] judgement others first = last-other at deed judgement first
+rules-other at deed (rule ∷ rules) judgement others (inl ended) = rw ended.1 others.0
+rules-other at deed (rule ∷ rules) judgement others (inr (a, rest)) = rules-other at deed rules judgement others.1 rest
+
+-- what judges a call that is of its form, whose caller has access, that names what is there, and whose policy holds
+held-first : (at : Setting) (caller : Caller) (case : Setting → Case) (scopes : List (List ℕ)) (judgement : Judgement) → HasAccess at.state.config.roles caller (Has scopes) → (case at).absent ≡ None → missing scopes (case at).policy ≡ None → IsFirst (in_order at caller (asks case)) judgement → IsFirst (map IsEnded (case at).rules ++ last_parts at (case at).deed) judgement
+held-first at caller case scopes judgement has there none (inl p) = absurd p
+held-first at caller case scopes judgement has there none (inr (a, inl p)) = absurd p
+held-first at caller case scopes judgement has there none (inr (a, inr (b, inl p))) = absurd p
+held-first at caller case scopes judgement has there none (inr (a, inr (b, inr (c, inl p)))) = absurd (not_refused at.state.config.roles caller scopes has judgement p)
+held-first at caller case scopes judgement has there none (inr (a, inr (b, inr (c, inr (d, inl p))))) = absurd (subst (λ (answer : Option Answer). Strikes answer judgement) there p)
+held-first at caller case scopes judgement has there none (inr (a, inr (b, inr (c, inr (d, inr (e, inl p)))))) = absurd (lacks_none at.state.config.roles caller scopes (case at).policy has none judgement p)
+held-first at caller case scopes judgement has there none (inr (a, inr (b, inr (c, inr (d, inr (e, inr (f, rest))))))) = rest
+
+-- ---- denied exactly
+
+exactly : (at : Setting) (caller : Caller) (case : Setting → Case) (scopes : List (List ℕ)) (judgement : Judgement) → AreOther (case at).rules → HasAccess at.state.config.roles caller (Has scopes) → (case at).absent ≡ None → IsFirst (in_order at caller (asks case)) judgement → DeniesExactly scopes (case at).policy judgement.answer
+exactly at caller case scopes judgement others has there first = by (holds scopes (case at).policy) refl where
+  by : (test : Bool) → holds scopes (case at).policy ≡ test → DeniesExactly scopes (case at).policy judgement.answer
+  by true is = record {
+    held = λ held. rules-other at (case at).deed (case at).rules judgement others (held-first at caller case scopes judgement has there (rw is refl) first);
+    lacked = λ not_held. absurd (not_held is);
+  }
+  by false is =
+      let lack = reduced scopes (case at).policy in
+      let lacks : missing scopes (case at).policy ≡ Some lack = rw is refl in
+      let denied = asks-lacking at caller case scopes lack has there lacks in
+      let same = in_order-one at caller (asks case) judgement (only_answer (insufficient_scopes lack)) first denied in
+      record {
+        held = λ held. let no_ : false ≡ true = sym is ∙ held in cc;
+        lacked = λ not_held. (lack, lacks, missing_full scopes (case at).policy lack lacks, ap (λ (j : Judgement). j.answer) same);
+      }
+
+there-is : (absent : Option Answer) (policy asked : Expression) → where_there absent policy ≡ Some asked → (absent ≡ None) × (policy ≡ asked)
+there-is None policy asked is = (refl, cc)
+there-is (Some a) policy asked is = cc
+
+form-exactly : (at : Setting) (caller : Caller) (form : Form) (scopes : List (List ℕ)) (policy : Expression) (judgement : Judgement) → AreOther (case_of form at).rules → asked_policy form at ≡ Some policy → HasAccess at.state.config.roles caller (Has scopes) → IsFirst (in_order at caller form) judgement → DeniesExactly scopes policy judgement.answer
+form-exactly at caller (has_no_route a) scopes policy judgement others is has first = cc
+form-exactly at caller (has_bad_parameter a) scopes policy judgement others is has first = cc
+form-exactly at caller (has_bad_body a) scopes policy judgement others is has first = cc
+form-exactly at caller (asks case) scopes policy judgement others is has first =
+    let there = there-is (case at).absent (case at).policy policy is in
+    subst (λ (e : Expression). DeniesExactly scopes e judgement.answer) there.1 (exactly at caller case scopes judgement others has there.0 first)
+
+pub denies-exactly : (opening : State) (before later : List Entry) (asking : Asking) (judgement : Judgement) (scopes : List (List ℕ)) (policy : Expression) → Finished opening before later asking judgement → asked_policy (form_of asking.call) (setting_behind opening before asking) ≡ Some policy → HasAccess opening.config.roles asking.caller (Has scopes) → DeniesExactly scopes policy judgement.answer
+unfolding IsVerdict
+denies-exactly opening before later asking judgement scopes policy is asked has =
+    let at = setting_behind opening before asking in
+    let may = entry-may opening before later (call asking (finished judgement)) is.legal in
+    let access : HasAccess at.state.config.roles asking.caller (Has scopes) = rw (entries-config opening before) has in
+    form-exactly at asking.caller (form_of asking.call) scopes policy judgement (call-other at asking.call) asked access may.became

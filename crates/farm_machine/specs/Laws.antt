@@ -1,0 +1,97 @@
+-- What holds in every history of a farm: who is denied, and that a task is made once.
+use Rattle.std.specs.Prelude.{◌≡◌, ◌≢◌, ℕ, ◌≤◌, Bool, true, false, IsTrue, List, ◌∷◌, ◌++◌, filter, length, Option, Some, None, bytes_eq}
+use Rattle.scope_sets.specs.Expressions.{Expression, holds, missing, HasNoEmptyAllOf}
+use Rattle.history.specs.Histories.{IsLegal, end_state}
+use Rattle.call_rules.specs.Policy.{create_policy}
+use Rattle.farm_record.specs.declared.change.Change.{Change}
+use Rattle.farm_record.specs.declared.change.Creation.{Creation}
+use Rattle.farm_record.specs.declared.change.Kind.{Kind}
+use Rattle.farm_record.specs.declared.change.Kind.TheVariants.{Create}
+use Rattle.farm_text.specs.Document.{document_text}
+use Rattle.run_states.specs.Rows.{Row}
+use Rattle.farm_rows.specs.Contents.{row_with}
+use Rattle.farm_machine.specs.declared.question.Call.{Call}
+use Rattle.farm_machine.specs.declared.question.Call.TheVariants.{CreateTask}
+use Rattle.farm_machine.specs.declared.reply.Answer.{Answer}
+use Rattle.farm_machine.specs.Access.{Has, HasAccess}
+use Rattle.farm_machine.specs.Case.{Setting, Case}
+use Rattle.farm_machine.specs.Entry.{Asking, Entry, tick, call, Outcome, finished, out_of_memory}
+use Rattle.farm_machine.specs.Judgement.{Judgement, only_answer}
+use Rattle.farm_machine.specs.Order.{Form, asks}
+use Rattle.farm_machine.specs.Replies.{ok, status_body, insufficient_scopes}
+use Rattle.farm_machine.specs.State.{State}
+use Rattle.farm_machine.specs.Step.{farm_rules}
+use Rattle.farm_machine.specs.Verdict.{form_of, setting_of}
+
+-- In a legal history that goes on from this state, a call became this behind the first entries.
+pub record Finished (opening : State) (before after : List Entry) (asking : Asking) (judgement : Judgement) : Type 0 where
+  pub legal : IsLegal farm_rules opening (before ++ call asking (finished judgement) ∷ after)
+
+-- where a call is judged behind these entries
+abbrev pub setting_behind : State → List Entry → Asking → Setting
+setting_behind opening before asking = setting_of (end_state farm_rules opening before) asking
+
+-- what a case asks of scopes, where what the call names is there
+abbrev pub where_there : Option Answer → Expression → Option Expression
+where_there None policy = Some policy
+where_there (Some answer) policy = None
+
+-- what a call asks of scopes, where it is of its form and what it names is there
+abbrev pub asked_policy : Form → Setting → Option Expression
+asked_policy (asks case) at = where_there (case at).absent (case at).policy
+asked_policy form at = None
+
+-- The answer is a denial exactly where the scopes do not hold the expression: then it tells what is missing, which is something.
+pub record DeniesExactly (scopes : List (List ℕ)) (policy : Expression) (answer : Answer) : Type 0 where
+  pub held : IsTrue (holds scopes policy) → answer.status ≢ 403
+  pub lacked : ¬ IsTrue (holds scopes policy) → (lack : Expression) × (missing scopes policy ≡ Some lack) × HasNoEmptyAllOf lack × (answer ≡ insufficient_scopes lack)
+
+-- Access: a call that is of its form and names what is there is denied exactly where its caller's scopes do not hold what it asks.
+abbrev pub AccessIsExact : Type 0
+AccessIsExact =
+    (opening : State) (before after : List Entry) (asking : Asking) (judgement : Judgement) (scopes : List (List ℕ)) (policy : Expression)
+    → Finished opening before after asking judgement
+    → asked_policy (form_of asking.call) (setting_behind opening before asking) ≡ Some policy
+    → HasAccess opening.config.roles asking.caller (Has scopes)
+    → DeniesExactly scopes policy judgement.answer
+
+-- the creation that a change is, if it is one
+abbrev pub creation_of_kind : Kind → Option Creation
+creation_of_kind (Create creation) = Some creation
+creation_of_kind kind = None
+
+abbrev pub creation_of : Option Change → Option Creation
+creation_of None = None
+creation_of (Some change) = creation_of_kind change.kind
+
+-- the creation that an entry made, if it made one
+abbrev pub created_by : Entry → Option Creation
+created_by (call asking (finished judgement)) = creation_of judgement.change
+created_by entry = None
+
+-- a creation made a task of this id
+abbrev pub has_id : List ℕ → Option Creation → Bool
+has_id id None = false
+has_id id (Some creation) = bytes_eq creation.id id
+
+-- the entries that created a task of this id
+abbrev pub creations : List ℕ → List Entry → List Entry
+creations id history = filter (λ entry. has_id id (created_by entry)) history
+
+-- Once: in a legal history at most one creation has a given id.
+abbrev pub IsCreatedOnce : Type 0
+IsCreatedOnce =
+    (opening : State) (history : List Entry) (id : List ℕ) → IsLegal farm_rules opening history → length (creations id history) ≤ 1
+
+-- Again: after a task was created, each finished createTask of its id with an equal definition that passes the policy replies the present
+-- status of that task, and changes nothing.
+abbrev pub AnswersAgain : Type 0
+AnswersAgain =
+    (opening : State) (before between after : List Entry) (first : Entry) (creation : Creation) (asking : Asking) (judgement : Judgement) (scopes : List (List ℕ))
+    → created_by first ≡ Some creation
+    → Finished opening (before ++ first ∷ between) after asking judgement
+    → asking.call ≡ CreateTask creation
+    → HasAccess opening.config.roles asking.caller (Has scopes)
+    → IsTrue (holds scopes (create_policy creation.definition))
+    → (row : Row) × (row_with creation.id (end_state farm_rules opening (before ++ first ∷ between)).contents.rows ≡ Some row)
+    × (row.definition ≡ creation.definition) × (judgement ≡ only_answer (ok (document_text (status_body row))))
