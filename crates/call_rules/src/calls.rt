@@ -1,6 +1,7 @@
 //! The calls, and what each asks.
 ghost use Rattle.std.specs.Prelude.{◌≡◌, IfOk};
 ghost use Rattle.scope_sets.specs.Expressions.{view};
+ghost use Rattle.scope_sets.specs.Expressions.{all_of, no_members};
 ghost use Rattle.call_rules.specs.Policy.{policy, status_policy};
 
 use crate::create::create_policy;
@@ -26,14 +27,21 @@ pub fn expression(alloc: Global, call: Call<'_>) -> Result<Expr, AllocError>
     ensures { IfOk result (λ e. view e ≡ policy call.entry) }
 {
     match call {
-        Call::Ping => Ok(Expr::AllOf(Vec::new(alloc))),
+        Call::Ping => Ok(ping_scopes(alloc)),
         Call::Status(id) => status_scope(alloc, id),
         Call::CreateTask(def) => create_policy(alloc, def),
     }
 }
 
+/// A ping asks for nothing.
+pub fn ping_scopes(alloc: Global) -> Expr
+    ensures { view result ≡ all_of no_members }
+{
+    Expr::AllOf(Vec::new(alloc))
+}
+
 /// The scope of a task's status.
-fn status_scope(alloc: Global, id: SlugId) -> Result<Expr, AllocError>
+pub fn status_scope(alloc: Global, id: SlugId) -> Result<Expr, AllocError>
     ensures { IfOk result (λ e. view e ≡ status_policy id) }
 {
     // A slugid is printable, since these are the bytes of a version 4 UUID.

@@ -9,7 +9,7 @@ mod create;
 mod laws;
 mod scopes;
 
-pub use calls::{Call, expression};
+pub use calls::{Call, expression, ping_scopes, status_scope};
 pub use laws::a_lower_priority_asks_less;
 
 #[cfg(test)]

@@ -10,13 +10,21 @@ use Rattle.farm_machine.specs.Entry.{Asking, Outcome, call}
 use Rattle.farm_rows.specs.Contents.{Contents}
 use Rattle.farm_machine.specs.State.{working}
 use Rattle.farm_machine.specs.Step.{MayBecome, after_call, reply_to, farm_rules}
-use Rattle.farm_machine.proofs.DueLemmas.{nothing_due}
+use Rattle.farm_rows.proofs.AdvanceLemmas.{advance-none}
 use Rattle.farm_core.specs.Bare.{IsResolved, IsPerformed}
+
+-- the moment of a call stays, where it was reached
+advance-moment : (old : Contents) (moment : ℕ) (asking : Asking) → moment ≡ moment_of old asking → moment_of (advance old moment) asking ≡ moment
+unfolding advance
+advance-moment old moment asking at = omega (arith, at)
 
 -- where all that was due is resolved, nothing is due at the moment of the call
 pub IsResolved-nothing_due : (old : Contents) (moment : ℕ) (ticked : Bool) (new : Contents) (asking : Asking) → IsResolved old moment ticked new → moment ≡ moment_of old asking → is_due new (moment_of new asking) ≡ false
-IsResolved-nothing_due old moment ticked new asking resolved at =
-    nothing_due new (moment_of new asking)
+IsResolved-nothing_due old moment false new asking resolved at =
+    let none : is_due old moment ≡ false = sym resolved.tells in
+    subst (λ (b : Contents). is_due b (moment_of b asking) ≡ false) (sym resolved.leads) (rw (← at) none)
+IsResolved-nothing_due old moment true new asking resolved at =
+    subst (λ (b : Contents). is_due b (moment_of b asking) ≡ false) (sym resolved.leads) (rw (advance-moment old moment asking at) (advance-none old moment))
 
 -- no tick came
 ask_alone : (config : Config) (old new : Contents) (asking : Asking) (outcome : Outcome) (reply : Reply) → asking.moment ≤ LAST_TOLD_MOMENT → is_due old (moment_of old asking) ≡ false → MayBecome (working config old) asking outcome → working config new ≡ after_call (working config old) asking outcome → reply ≡ reply_to outcome → IsAsk farm_rules (working config old) asking (record { reply = reply; ticked = false }) (call asking outcome) (working config new)

@@ -1,7 +1,7 @@
 //! The farm without a disk.
 ghost use Rattle.std.specs.Prelude.{◌≡◌, ◌≤◌, false};
 ghost use Rattle.farm_text.specs.declared.moment.TheConstants.{LAST_TOLD_MOMENT};
-ghost use Rattle.farm_machine.specs.Changes.{moment_of};
+ghost use Rattle.farm_machine.specs.Changes.{moment_of as moment_by};
 ghost use Rattle.farm_rows.specs.Due.{is_due};
 ghost use Rattle.farm_machine.specs.State.{working, empty_state};
 ghost use Rattle.farm_core.specs.Bare.{IsResolved, IsPerformed};
@@ -11,7 +11,7 @@ use farm_machine::config::Config;
 use farm_machine::law::Farm;
 use farm_machine::question::Question;
 use farm_machine::reply::{Asked, Reply};
-use farm_machine::step::{apply, plan};
+use farm_machine::step::{apply, moment_of, plan};
 use farm_machine::tables::{Tables, due, tick};
 use farm_text::Moment;
 use std::alloc::Global;
@@ -60,7 +60,7 @@ impl Object for Bare {
     ghost state = { λ bare. bare };
 
     fn ask(&mut self, question: Question) -> Asked {
-        let moment = question.moment().max(self.tables.last());
+        let moment = moment_of(&self.tables, &question);
         let ticked = resolve_due(&mut self.tables, moment);
         let reply = perform(self.alloc, &mut self.tables, &self.config, question);
         Asked { reply, ticked }
@@ -81,10 +81,10 @@ fn resolve_due(tables: &mut Tables, moment: Moment) -> bool
 
 /// Performs a call at whose moment nothing is due.
 fn perform(alloc: Global, tables: &mut Tables, config: &Config, question: Question) -> Reply
-    requires { is_due tables.old (moment_of tables.old question) ≡ false }
+    requires { is_due tables.old (moment_by tables.old question) ≡ false }
     ensures { IsPerformed config.now tables.old question result tables.new }
 {
-    let moment = question.moment().max(tables.last());
+    let moment = moment_of(tables, &question);
     match plan(alloc, tables, config, question) {
         Ok(plan) => apply(tables, plan),
         Err(_) => {

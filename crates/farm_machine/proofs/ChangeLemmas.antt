@@ -1,5 +1,5 @@
 -- A verdict that changes something is that of a createTask whose id no task had.
-use Rattle.std.proofs.Common.{◌≡◌, ◌⊎◌, ℕ, Bool, true, false, List, [], ◌∷◌, ◌++◌, ◌==◌, map, length, Option, Some, None, bytes_eq, refl, sym, ap, ◌∙◌, subst, inl, inr}
+use Rattle.std.proofs.Common.{◌≡◌, ℕ, Bool, true, false, List, [], ◌∷◌, ◌++◌, ◌==◌, map, length, Option, Some, None, bytes_eq, refl, ap, ◌∙◌, subst, inl, inr}
 use Rattle.farm_record.specs.declared.change.Change.{Change}
 use Rattle.farm_record.specs.declared.change.Creation.{Creation}
 use Rattle.run_states.specs.Rows.{Row}
@@ -10,7 +10,7 @@ use Rattle.farm_machine.specs.declared.question.Call.{Call}
 use Rattle.farm_machine.specs.declared.question.Call.TheVariants.{NoRoute, BadParameter, BadBody, Ping, Status, CreateTask}
 use Rattle.farm_machine.specs.declared.question.Caller.{Caller}
 use Rattle.farm_machine.specs.declared.reply.Answer.{Answer}
-use Rattle.farm_machine.specs.Calls.CreateTask.{standing, create_task}
+use Rattle.farm_machine.specs.Calls.CreateTask.{standing}
 use Rattle.farm_machine.specs.Calls.Status.{status}
 use Rattle.farm_machine.specs.Case.{Setting, Deed, Rule, Case, of_row, IsFirstRule}
 use Rattle.farm_machine.specs.Entry.{Asking}

@@ -1,6 +1,6 @@
 -- A call that is of its form and names what is there is denied exactly where its caller's scopes do not hold what it asks.
-use Rattle.std.proofs.Common.{◌≡◌, ◌≢◌, ◌⊎◌, ℕ, Bool, true, false, IsTrue, List, [], ◌∷◌, ◌++◌, map, Option, Some, None, option_map, bytes_eq, length, ◌==◌, min, nat_le, ◌&&◌, if◌then◌else◌, refl, sym, ap, ◌∙◌, subst, inl, inr, arith}
-use Rattle.scope_sets.specs.Expressions.{Expression, holds, missing, reduced, HasNoEmptyAllOf}
+use Rattle.std.proofs.Common.{◌≡◌, ◌≢◌, ℕ, Bool, true, false, List, [], ◌∷◌, ◌++◌, map, Option, Some, None, bytes_eq, length, ◌==◌, min, nat_le, ◌&&◌, if◌then◌else◌, refl, sym, ap, ◌∙◌, subst, inl, inr}
+use Rattle.scope_sets.specs.Expressions.{Expression, holds, missing, reduced}
 use Rattle.scope_sets.proofs.LawLemmas.{missing_full}
 use Rattle.run_states.specs.Rows.{Row}
 use Rattle.farm_rows.specs.Contents.{row_with}
@@ -31,16 +31,20 @@ abbrev AreOther : List Rule → Type 0
 AreOther [] = Unit {0}
 AreOther (rule ∷ rules) = (rule.answer.status ≢ 403) × AreOther rules
 
+-- another number is not that of a denial
+not_denied : (n : ℕ) → (n == 403) ≡ false → n ≢ 403
+not_denied n other denied = let same : (403 == 403) ≡ false = rw denied at other in cc
+
 standing-other : (definition : TaskDef) (row : Option Row) (rules : List Rule) → AreOther rules → AreOther (standing definition row ++ rules)
 standing-other definition None rules others = others
-standing-other definition (Some row) rules others = ((λ same. omega (arith, same)), (λ same. omega (arith, same)), others)
+standing-other definition (Some row) rules others = (not_denied 200 refl, (not_denied 409 refl, others))
 
 status-other : (id : List ℕ) (row : Option Row) (each : Row → Case) → ((r : Row) → AreOther (each r).rules) → AreOther (of_row id each row).rules
 status-other id None each others = tt
 status-other id (Some row) each others = others row
 
 create-other : (at : Setting) (own alone : Bool) (creation : Creation) → AreOther (case_of (create_form_where own alone creation) at).rules
-create-other at true true creation = standing-other creation.definition (row_with creation.id at.state.contents.rows) _ ((λ same. omega (arith, same)), tt)
+create-other at true true creation = standing-other creation.definition (row_with creation.id at.state.contents.rows) _ (not_denied 400 refl, tt)
 create-other at true false creation = tt
 create-other at false alone creation = tt
 
@@ -59,7 +63,7 @@ full-other None judgement other strikes = absurd strikes
 full-other (Some a) judgement other strikes = rw strikes (other a refl)
 
 full-when : (test : Bool) (count : ℕ) (a : Answer) → (if test then Some (farm_full count) else None) ≡ Some a → a.status ≢ 403
-full-when true count a is = let same : a ≡ farm_full count = cc in rw same (λ denied. omega (arith, denied))
+full-when true count a is = let same : a ≡ farm_full count = cc in rw same (not_denied 507 refl)
 full-when false count a is = cc
 
 full-status : (at : Setting) (change : Option Change) (a : Answer) → full at.state change ≡ Some a → a.status ≢ 403
@@ -68,7 +72,7 @@ full-status at (Some change) a is = full-when (makes_task change.kind && nat_le 
 
 last-other : (at : Setting) (deed : Deed) (judgement : Judgement) → IsFirst (last_parts at deed) judgement → judgement.answer.status ≢ 403
 last-other at deed judgement (inl strikes) = full-other (full at.state deed.change) judgement (full-status at deed.change) strikes
-last-other at deed judgement (inr (a, inl is)) = rw is (λ same. omega (arith, same))
+last-other at deed judgement (inr (a, inl is)) = rw is (not_denied 200 refl)
 last-other at deed judgement (inr (a, inr (b, none))) = absurd none
 
 rules-other : (at : Setting) (deed : Deed) (rules : List Rule) (judgement : Judgement) → AreOther rules → IsFirst (map IsEnded rules ++ last_parts at deed) judgement → judgement.answer.status ≢ 403

@@ -1,4 +1,5 @@
 pub mod AccessLemmas
+pub mod AloneLemmas
 pub mod ChangeLemmas
 pub mod DenialLemmas
 pub mod ExpressionLemmas

@@ -1,5 +1,5 @@
 -- What is answered where a task is made, and where the farm is full.
-use Rattle.std.proofs.Common.{◌≡◌, ℕ, min, nat_le, true, false, List, length, Option, Some, None, refl, sym, ap, ◌∙◌, subst, inl, inr}
+use Rattle.std.proofs.Common.{◌≡◌, ℕ, min, nat_le, true, false, length, Some, None, refl, sym, ap, ◌∙◌, subst}
 use Rattle.farm_text.specs.Document.{document_text}
 use Rattle.farm_record.specs.declared.change.Change.{Change}
 use Rattle.farm_record.specs.declared.change.Creation.{Creation}

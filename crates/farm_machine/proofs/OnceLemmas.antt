@@ -1,5 +1,5 @@
 -- A task is created once, and a createTask of it that comes again is answered with its status.
-use Rattle.std.proofs.Common.{◌≡◌, ◌⊎◌, ℕ, ◌+◌, ◌≤◌, Bool, true, false, IsTrue, List, [], ◌∷◌, ◌++◌, ◌==◌, length, Option, Some, None, is_some, bytes_eq, refl, sym, ap, ◌∙◌, subst, inl, inr, arith}
+use Rattle.std.proofs.Common.{◌≡◌, ℕ, ◌≤◌, Bool, true, false, IsTrue, List, [], ◌∷◌, ◌++◌, ◌==◌, length, Option, Some, None, is_some, bytes_eq, refl, sym, ap, ◌∙◌, subst, inl, arith}
 use Rattle.std.proofs.lemmas.List.Folds.{find-append}
 use Rattle.std.proofs.lemmas.Slice.Eq.{bytes_eq-Decides}
 use Rattle.history.specs.Histories.{IsLegal, end_state}
@@ -10,8 +10,8 @@ use Rattle.farm_text.specs.Document.{document_text}
 use Rattle.farm_record.specs.declared.change.Change.{Change}
 use Rattle.farm_record.specs.declared.change.Creation.{Creation}
 use Rattle.run_states.specs.Rows.{Row, new_row, scheduled}
-use Rattle.run_states.specs.Later.{RowLater, RowsLater}
-use Rattle.run_states.proofs.LaterLemmas.{RowLater-refl, RowsLater-refl, RowsLater-trans}
+use Rattle.run_states.specs.Later.{RowsLater}
+use Rattle.run_states.proofs.LaterLemmas.{RowsLater-refl, RowsLater-trans}
 use Rattle.farm_rows.specs.Contents.{Contents, row_with}
 use Rattle.farm_rows.specs.Changes.{creating, applied}
 use Rattle.farm_rows.proofs.AdvanceLemmas.{advance-stays}
@@ -19,15 +19,14 @@ use Rattle.farm_rows.proofs.IdLemmas.{applied-stays}
 use Rattle.farm_machine.specs.declared.question.Call.{Call}
 use Rattle.farm_machine.specs.declared.question.Call.TheVariants.{CreateTask}
 use Rattle.farm_machine.specs.declared.question.Caller.{Caller}
-use Rattle.farm_machine.specs.declared.reply.Answer.{Answer}
 use Rattle.farm_machine.specs.Access.{Has, HasAccess}
 use Rattle.farm_machine.specs.Calls.CreateTask.{standing, create_task}
 use Rattle.farm_machine.specs.Case.{Setting, Rule, IsFirstRule}
 use Rattle.farm_machine.specs.Changes.{changed, moment_of}
-use Rattle.farm_machine.specs.Entry.{Asking, Entry, tick, call, Outcome, finished, out_of_memory}
+use Rattle.farm_machine.specs.Entry.{Asking, Entry, tick, call, finished, out_of_memory}
 use Rattle.farm_machine.specs.Judgement.{Judgement, only_answer}
-use Rattle.farm_machine.specs.Laws.{Finished, creation_of, created_by, has_id, creations}
-use Rattle.farm_machine.specs.Order.{Form, asks, IsFirst, in_order}
+use Rattle.farm_machine.specs.Laws.{Finished, created_by, has_id, creations}
+use Rattle.farm_machine.specs.Order.{asks, IsFirst, in_order}
 use Rattle.farm_machine.specs.Replies.{ok, status_body}
 use Rattle.farm_machine.specs.State.{State}
 use Rattle.farm_machine.specs.Step.{lawful, after, farm_rules}
@@ -141,15 +140,15 @@ creation-new id state entry may is =
     let behind : stands some.0.id (after state entry) ≡ true = ap is_some made.found in
     (subst (λ (i : List ℕ). stands i state ≡ false) some.2 before, subst (λ (i : List ℕ). stands i (after state entry) ≡ true) some.2 behind)
 
+most-one : (test : Bool) → most test ≤ 1
+most-one true = omega arith
+most-one false = omega arith
+
 fewer : (id : List ℕ) (state : State) (entry : Entry) → most (stands id (after state entry)) ≤ most (stands id state)
 fewer id state entry = by (stands id state) refl where
   by : (test : Bool) → stands id state ≡ test → most (stands id (after state entry)) ≤ most (stands id state)
   by true is = let later = stands-later id state entry is in rw (is, later) (omega arith)
-  by false is = rw is (under (stands id (after state entry)))
-
-  under : (test : Bool) → most test ≤ 1
-  under true = omega arith
-  under false = omega arith
+  by false is = rw is (most-one (stands id (after state entry)))
 
 creations-few : (id : List ℕ) (state : State) (history : List Entry) → IsLegal farm_rules state history → length (creations id history) ≤ most (stands id state)
 unfolding farm_rules

@@ -1,5 +1,5 @@
 -- The first judgement in the one order: where each part strikes, that there is one, and that it is one.
-use Rattle.std.proofs.Common.{◌≡◌, ◌⊎◌, ℕ, IfSome, inl, inr, List, [], ◌∷◌, ◌++◌, map, Option, Some, None, option_map, refl, sym, ap, ◌∙◌, subst}
+use Rattle.std.proofs.Common.{◌≡◌, ◌⊎◌, ℕ, IfSome, IfOk, Result, Ok, Err, inl, inr, List, [], ◌∷◌, ◌++◌, map, Option, Some, None, option_map, refl, sym, ap, ◌∙◌, subst}
 use Rattle.role_expand.specs.Roles.{RoleData}
 use Rattle.scope_sets.specs.Expressions.{Expression, missing}
 use Rattle.farm_text.specs.Document.{document_text}
@@ -137,6 +137,11 @@ only-kept judged contents change = rw change tt
 pub IsJudged-only : (at : Setting) (caller : Caller) (form : Form) (judged : Judged) (a : Answer) → judged.answer ≡ a → judged.change ≡ None → IsFirst (in_order at caller form) (only_answer a) → IsJudged at caller form judged
 IsJudged-only at caller form judged a answer change first =
     record { first = rw (only-judged judged a answer change) first; kept = only-kept judged at.state.contents change }
+
+-- the same of a call that gives it, or runs out of memory
+pub IsJudged-refused : {E : Type 0} (at : Setting) (caller : Caller) (form : Form) (result : Result Judged E) (a : Answer) → IfOk result (λ judged. judged.answer ≡ a) → IfOk result (λ judged. judged.change ≡ None) → IsFirst (in_order at caller form) (only_answer a) → IfOk result (IsJudged at caller form)
+IsJudged-refused at caller form (Ok judged) a answer change first = IsJudged-only at caller form judged a answer change first
+IsJudged-refused at caller form (Err e) a answer change first = tt
 
 pub IsJudged-made : (at : Setting) (caller : Caller) (case : Setting → Case) (creation : Creation) (judged : Judged) → Passes at caller (case at) → (case at).deed ≡ making at.moment creation → IsMade at creation judged → IsJudged at caller (asks case) judged
 IsJudged-made at caller case creation judged passes is made =

@@ -1,5 +1,5 @@
 -- A call that is judged in the state of its tables is planned.
-use Rattle.std.proofs.Common.{◌≡◌, ℕ, false, List, refl, subst, sym}
+use Rattle.std.proofs.Common.{◌≡◌, ℕ, false, List, refl}
 use Rattle.farm_rows.specs.Contents.{Contents}
 use Rattle.farm_rows.specs.Due.{is_due}
 use Rattle.farm_machine.specs.declared.config.Config.{Config}
@@ -10,7 +10,6 @@ use Rattle.farm_machine.specs.Changes.{moment_of}
 use Rattle.farm_machine.specs.Entry.{Asking}
 use Rattle.farm_machine.specs.Planned.{judgement_of, IsPlanOf}
 use Rattle.farm_machine.specs.Refused.{setting_at, IsJudged}
-use Rattle.farm_machine.specs.State.{working}
 use Rattle.farm_machine.specs.Verdict.{form_of, IsVerdict}
 
 -- the call, the caller and the drawn id are those of the question, and the moment is the call's

@@ -1,5 +1,5 @@
 -- The verdict is one, and each call has one.
-use Rattle.std.proofs.Common.{◌≡◌, ◌⊎◌, ℕ, ◌≤◌, ◌==◌, Bool, true, false, IsTrue, List, [], ◌∷◌, ◌++◌, length, Option, Some, None, bytes_eq, nat_le, refl, inl, inr}
+use Rattle.std.proofs.Common.{◌≡◌, ◌⊎◌, ℕ, ◌==◌, Bool, true, false, List, [], ◌∷◌, ◌++◌, length, Option, Some, None, bytes_eq, nat_le, refl, inl, inr}
 use Rattle.role_expand.specs.Cycles.{IsAccepted}
 use Rattle.farm_record.specs.declared.change.Creation.{Creation}
 use Rattle.run_states.specs.Rows.{Row}
@@ -8,8 +8,7 @@ use Rattle.task_defs.specs.declared.task_def.TaskDef.{TaskDef}
 use Rattle.farm_machine.specs.declared.question.Call.{Call}
 use Rattle.farm_machine.specs.declared.question.Call.TheVariants.{NoRoute, BadParameter, BadBody, Ping, Status, CreateTask}
 use Rattle.farm_machine.specs.declared.reply.Answer.{Answer}
-use Rattle.farm_machine.specs.Calls.CreateTask.{standing, create_task}
-use Rattle.farm_machine.specs.Calls.Status.{status}
+use Rattle.farm_machine.specs.Calls.CreateTask.{standing}
 use Rattle.farm_machine.specs.Case.{Setting, Case, Rule, when, of_row}
 use Rattle.farm_machine.specs.Entry.{Asking}
 use Rattle.farm_machine.specs.Judgement.{Judgement}

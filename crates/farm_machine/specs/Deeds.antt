@@ -1,5 +1,5 @@
 -- What the code says of a call that nothing refuses; for private clauses.
-use Rattle.std.specs.Prelude.{◌≡◌, ◌≤◌, true, false, Option, None}
+use Rattle.std.specs.Prelude.{◌≡◌, ◌≤◌, true, false, None}
 use Rattle.farm_text.specs.Doc.{document}
 use Rattle.farm_text.specs.declared.moment.TheConstants.{LAST_TOLD_MOMENT}
 use Rattle.farm_rows.specs.Changes.{creating, may_apply}

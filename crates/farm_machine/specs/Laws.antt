@@ -1,5 +1,5 @@
 -- What holds in every history of a farm: who is denied, and that a task is made once.
-use Rattle.std.specs.Prelude.{◌≡◌, ◌≢◌, ℕ, ◌≤◌, Bool, true, false, IsTrue, List, ◌∷◌, ◌++◌, filter, length, Option, Some, None, bytes_eq}
+use Rattle.std.specs.Prelude.{◌≡◌, ◌≢◌, ℕ, ◌≤◌, Bool, false, IsTrue, List, ◌∷◌, ◌++◌, filter, length, Option, Some, None, bytes_eq}
 use Rattle.scope_sets.specs.Expressions.{Expression, holds, missing, HasNoEmptyAllOf}
 use Rattle.history.specs.Histories.{IsLegal, end_state}
 use Rattle.call_rules.specs.Policy.{create_policy}
@@ -10,12 +10,11 @@ use Rattle.farm_record.specs.declared.change.Kind.TheVariants.{Create}
 use Rattle.farm_text.specs.Document.{document_text}
 use Rattle.run_states.specs.Rows.{Row}
 use Rattle.farm_rows.specs.Contents.{row_with}
-use Rattle.farm_machine.specs.declared.question.Call.{Call}
 use Rattle.farm_machine.specs.declared.question.Call.TheVariants.{CreateTask}
 use Rattle.farm_machine.specs.declared.reply.Answer.{Answer}
 use Rattle.farm_machine.specs.Access.{Has, HasAccess}
-use Rattle.farm_machine.specs.Case.{Setting, Case}
-use Rattle.farm_machine.specs.Entry.{Asking, Entry, tick, call, Outcome, finished, out_of_memory}
+use Rattle.farm_machine.specs.Case.{Setting}
+use Rattle.farm_machine.specs.Entry.{Asking, Entry, call, finished}
 use Rattle.farm_machine.specs.Judgement.{Judgement, only_answer}
 use Rattle.farm_machine.specs.Order.{Form, asks}
 use Rattle.farm_machine.specs.Replies.{ok, status_body, insufficient_scopes}

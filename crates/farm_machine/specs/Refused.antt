@@ -11,7 +11,7 @@ use Rattle.farm_machine.specs.declared.reply.Answer.{Answer}
 use Rattle.farm_machine.specs.Access.{Has, HasAccess}
 use Rattle.farm_machine.specs.Calls.CreateTask.{making}
 use Rattle.farm_machine.specs.Case.{Setting, Case, IsFirstRule}
-use Rattle.farm_machine.specs.Judgement.{Judgement, only_answer}
+use Rattle.farm_machine.specs.Judgement.{only_answer}
 use Rattle.farm_machine.specs.Order.{Form, asks, Strikes, full, IsDone, in_order, IsFirst}
 use Rattle.farm_machine.specs.Planned.{judgement_of}
 use Rattle.farm_machine.specs.State.{working}

@@ -1,11 +1,13 @@
 //! A call in two steps: `plan` judges it and takes all its memory, `apply` makes its change and gives its reply.
 
-ghost use Rattle.std.specs.Prelude.{◌≡◌, ◌≤◌, false, IfOk};
+ghost use Rattle.std.specs.Prelude.{◌≡◌, ◌≤◌, false, None, IfOk};
+ghost use Rattle.farm_text.specs.declared.moment.TheConstants.{LAST_TOLD_MOMENT};
 ghost use Rattle.farm_rows.specs.Due.{is_due};
-ghost use Rattle.farm_machine.specs.Changes.{moment_of, changed};
+ghost use Rattle.farm_machine.specs.Changes.{moment_of as moment_by, changed};
 ghost use Rattle.farm_machine.specs.Deeds.{IsReady};
 ghost use Rattle.farm_machine.specs.Planned.{IsPlanOf, IsPlanOn};
 ghost use Rattle.farm_machine.specs.Refused.{setting_at, IsJudged};
+ghost use Rattle.farm_machine.specs.Replies.{bad_body};
 ghost use Rattle.farm_machine.specs.Verdict.{form_of, create_form};
 
 use crate::answers;
@@ -24,6 +26,14 @@ use farm_text::{Moment, SlugId};
 use std::alloc::{AllocError, Global};
 use task_defs::{DefError, check_alone};
 
+/// The moment of a call: the greater of its clock's and the last.
+pub fn moment_of(tables: &Tables, question: &Question) -> Moment
+    ensures value { result ≡ moment_by tables.now question.now }
+    ensures told { result ≤ LAST_TOLD_MOMENT }
+{
+    question.moment().max(tables.last())
+}
+
 /// Judges a call and takes all the memory that it needs. The tables stay as they were.
 pub fn plan(
     alloc: Global,
@@ -31,11 +41,11 @@ pub fn plan(
     config: &Config,
     question: Question,
 ) -> Result<Plan, AllocError>
-    requires { is_due tables.old (moment_of tables.old question) ≡ false }
+    requires { is_due tables.old (moment_by tables.old question) ≡ false }
     ensures planned { IfOk result (IsPlanOf config.now tables.old question) }
     ensures same { tables.new ≡ tables.old }
 {
-    let moment = question.moment().max(tables.last());
+    let moment = moment_of(tables, &question);
     let drawn = question.drawn();
     let caller = question.caller();
     let call = question.into_call();
@@ -65,13 +75,21 @@ fn judgement_of(
         Call::BadParameter(Parameter::TaskId) => {
             Ok(Judged::only(answers::bad_parameter(alloc, "taskId")?))
         }
-        Call::BadBody(fault) => Ok(Judged::only(answers::bad_body(alloc, &fault)?)),
+        Call::BadBody(fault) => refused_body(alloc, fault),
         Call::Ping => judge(alloc, caller, Ping {}, config, tables, moment, drawn),
         Call::Status(id) => judge(alloc, caller, Status { id }, config, tables, moment, drawn),
         Call::CreateTask(creation) => {
             create(alloc, caller, creation, config, tables, moment, drawn)
         }
     }
+}
+
+/// The judgement of a body that is off its form.
+fn refused_body(alloc: Global, fault: BodyFault) -> Result<Judged, AllocError>
+    ensures answer { IfOk result (λ judged. judged.answer ≡ bad_body fault) }
+    ensures change { IfOk result (λ judged. judged.change ≡ None) }
+{
+    Ok(Judged::only(answers::bad_body(alloc, &fault)?))
 }
 
 /// The judgement of a task's making. One that belongs to another's group, or waits for another, is refused until groups are built.
@@ -93,10 +111,7 @@ fn create(
             let call = CreateTask::new(creation);
             judge(alloc, caller, call, config, tables, moment, drawn)
         }
-        Err(DefError::Fault(fault)) => {
-            let fault = BodyFault::NoDefinition(fault);
-            Ok(Judged::only(answers::bad_body(alloc, &fault)?))
-        }
+        Err(DefError::Fault(fault)) => refused_body(alloc, BodyFault::NoDefinition(fault)),
         Err(DefError::NoMemory) => Err(AllocError),
     }
 }

@@ -108,7 +108,7 @@ no_dependencies : (ids : List (List ℕ)) → ((ids ≡ [] → ⊥) → ⊥) →
 no_dependencies [] none = refl
 no_dependencies (id ∷ ids) none = absurd (none (λ e. cc))
 
-own_group : (group id : List ℕ) → ((group ≡ id → ⊥) → ⊥) → bytes_eq group id ≡ true
+pub own_group : (group id : List ℕ) → ((group ≡ id → ⊥) → ⊥) → bytes_eq group id ≡ true
 own_group group id same = by (bytes_eq group id) refl where
   by : (b : Bool) → bytes_eq group id ≡ b → bytes_eq group id ≡ true
   by true is = is

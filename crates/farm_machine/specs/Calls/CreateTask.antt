@@ -6,7 +6,7 @@ use Rattle.farm_record.specs.declared.change.Creation.{Creation}
 use Rattle.task_defs.specs.declared.task_def.TaskDef.{TaskDef}
 use Rattle.run_states.specs.Rows.{Row}
 use Rattle.farm_rows.specs.Changes.{creating}
-use Rattle.farm_rows.specs.Contents.{Contents, row_with}
+use Rattle.farm_rows.specs.Contents.{row_with}
 use Rattle.farm_machine.specs.Case.{Setting, Deed, Rule, when, Case, passing}
 use Rattle.farm_machine.specs.Replies.{ok, status_body, conflict, too_late}
 

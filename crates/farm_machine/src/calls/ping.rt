@@ -2,7 +2,7 @@ ghost use Rattle.std.specs.Prelude.{None, ◌≡◌, IfOk};
 
 use crate::case::{Called, Done, Scene};
 use crate::reply::Answer;
-use call_rules::{Call, expression};
+use call_rules::ping_scopes;
 use farm_text::{Doc, Entries};
 use scope_sets::Expr;
 use std::alloc::{AllocError, Global};
@@ -21,7 +21,7 @@ impl Called for Ping {
     }
 
     fn policy(&self, alloc: Global, _at: &Scene<'_>) -> Result<Expr, AllocError> {
-        expression(alloc, Call::Ping)
+        Ok(ping_scopes(alloc))
     }
 
     fn rule(&self, _alloc: Global, _at: &Scene<'_>) -> Result<Option<Answer>, AllocError> {

@@ -3,7 +3,7 @@ ghost use Rattle.std.specs.Prelude.{None, ◌≡◌, IfOk};
 use crate::answers;
 use crate::case::{Called, Done, Scene};
 use crate::reply::Answer;
-use call_rules::{Call, expression};
+use call_rules::status_scope;
 use farm_text::SlugId;
 use scope_sets::Expr;
 use std::alloc::{AllocError, Global};
@@ -28,7 +28,7 @@ impl Called for Status {
     }
 
     fn policy(&self, alloc: Global, _at: &Scene<'_>) -> Result<Expr, AllocError> {
-        expression(alloc, Call::Status(self.id))
+        status_scope(alloc, self.id)
     }
 
     fn rule(&self, _alloc: Global, _at: &Scene<'_>) -> Result<Option<Answer>, AllocError> {

@@ -2,7 +2,6 @@
 use Rattle.std.proofs.Common.{◌≡◌, Some, None, option_map, sym, ap, ◌∙◌}
 use Rattle.scope_sets.specs.Expressions.{view, missing}
 use Rattle.farm_machine.specs.Access.{Has, HasAccess}
-use Rattle.farm_machine.specs.Refused.{IsRefusal}
 use Rattle.farm_machine.proofs.AccessLemmas.{has_told}
 use Rattle.farm_machine.proofs.OrderLemmas.{asks-absent, asks-lacking, refusal_by_rule}
 use Rattle.farm_machine.proofs.order.refusal.Goals as goal

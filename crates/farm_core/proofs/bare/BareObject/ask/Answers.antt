@@ -1,22 +1,21 @@
-use Rattle.std.proofs.Common.{◌≡◌, ◌≤◌, arith, rules}
+use Rattle.std.proofs.Common.{◌≤◌, arith}
 use Rattle.farm_text.specs.declared.moment.TheConstants.{LAST_TOLD_MOMENT}
-use Rattle.farm_machine.specs.Changes.{moment_of}
 use Rattle.farm_machine.specs.Entry.{call}
 use Rattle.farm_core.proofs.BareLemmas.{IsResolved-nothing_due, IsAsk-from_parts}
 use Rattle.farm_core.proofs.bare.BareObject.ask.Goals as goal
 
 pub perform-reply-requires : goal.perform-reply-requires
 perform-reply-requires c =
-    let at : c.max-moment.result ≡ moment_of c.self.inside.tables c.args.question = search rules in
+    let at = c.moment_of-moment.ensures.value in
     IsResolved-nothing_due _ _ _ _ c.args.question c.resolve_due-ticked.ensures at
 
 pub returns : goal.returns
 returns c =
-    let at : c.max-moment.result ≡ moment_of c.self.inside.tables c.args.question = search rules in
+    let at = c.moment_of-moment.ensures.value in
     let told : c.args.question.moment ≤ LAST_TOLD_MOMENT = omega arith in
-    let within : c.max-moment.result ≤ LAST_TOLD_MOMENT = omega arith in (
+    let within = c.moment_of-moment.ensures.told in (
       call c.args.question c.perform-reply.ensures.outcome,
       rw (← c.self.view_is)
-          (IsAsk-from_parts c.self.inside.config c.self.inside.tables c.resolve_due-ticked.new.tables c.perform-reply.new.tables c.args.question c.max-moment.result c.resolve_due-ticked.result c.perform-reply.result told within at c.resolve_due-ticked.ensures c.perform-reply.ensures),
+          (IsAsk-from_parts c.self.inside.config c.self.inside.tables c.resolve_due-ticked.new.tables c.perform-reply.new.tables c.args.question c.moment_of-moment.result c.resolve_due-ticked.result c.perform-reply.result told within at c.resolve_due-ticked.ensures c.perform-reply.ensures),
       λ opening seen leads held. tt,
     )
