@@ -1,16 +1,16 @@
 -- The texts of scopes are printable, and how their lists grow.
-use Rattle.std.proofs.Common.{◌≡◌, ℕ, ◌+◌, ◌<◌, ◌≤◌, Bool, true, false, ◌&&◌, inl, inr, List, [], ◌∷◌, ◌++◌, length, take, get_or, map, refl, sym, ap, ◌∙◌, subst, All, arith, append_assoc, append-nil, leb, take_all, rules}
+use Rattle.std.proofs.Common.{◌≡◌, ℕ, ◌+◌, ◌<◌, ◌≤◌, true, inl, inr, List, [], ◌∷◌, ◌++◌, length, take, get_or, map, refl, sym, ap, ◌∙◌, All, arith, append_assoc, leb, take_all, rules}
 use Rattle.std.specs.List.{list_all}
-use Rattle.std.specs.Prelude.{Contains}
 use Rattle.std.specs.Char.{IsAsciiAlphanumeric}
 use Rattle.std.proofs.lemmas.Bool.{and_parts, leb-true}
 use Rattle.std.proofs.lemmas.List.{map-append, take_more}
-use Rattle.std.proofs.lemmas.List.Elements.{All-nil, All-cons, All-head, All-tail, All-append, All-contains, All-weaker}
+use Rattle.std.proofs.lemmas.List.Elements.{All-nil, All-cons, All-contains, All-weaker}
 use Rattle.farm_text.specs.Slug.{IsUuid4, slug_text, slug_pattern, Matches, IsSlug}
 use Rattle.farm_text.proofs.SlugLemmas.{slug_of_uuid}
 use Rattle.scope_sets.specs.Scopes.{IsPrintable}
 use Rattle.scope_sets.specs.Expressions.{Expression, one, view}
 use Rattle.scope_sets.specs.declared.expressions.Expr.{Expr, One, the_lemmas}
+use Rattle.call_rules.specs.Texts.{is_printable, are_printable}
 use Rattle.task_defs.specs.Forms.{IsIdentifierByte, IsProjectByte, IsIdentifier, IsProject}
 
 -- ---- printable texts
@@ -38,11 +38,7 @@ identifier_printable t form = All-weaker IsIdentifierByte IsPrintable identifier
 pub project_printable : (t : List ℕ) → IsProject t → All IsPrintable t
 project_printable t form = All-weaker IsProjectByte IsPrintable project_byte t form.bytes
 
--- printable ASCII, as a test
-abbrev is_printable : ℕ → Bool
-is_printable b = leb 32 b && leb b 126
-
-pub printable : (bs : List ℕ) → list_all is_printable bs ≡ true → All IsPrintable bs
+pub printable : (bs : List ℕ) → are_printable bs ≡ true → All IsPrintable bs
 printable [] all = All-nil IsPrintable
 printable (b ∷ bs) all =
     let parts = and_parts (is_printable b) (list_all is_printable bs) all in

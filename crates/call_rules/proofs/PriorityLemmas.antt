@@ -1,10 +1,10 @@
 -- The priorities down to one, their names, and that a lower one asks less.
-use Rattle.std.proofs.Common.{◌≡◌, ℕ, ◌+◌, ◌≤◌, Bool, true, false, ◌&&◌, ◌||◌, inl, inr, List, [], ◌∷◌, ◌++◌, take, drop, map, take-append-drop, refl, sym, ap, ◌∙◌, subst, All, Any, Contains, codes, arith}
+use Rattle.std.proofs.Common.{◌≡◌, ℕ, ◌+◌, ◌≤◌, true, inl, inr, List, [], ◌∷◌, ◌++◌, take, drop, map, take-append-drop, refl, sym, ap, ◌∙◌, subst, All, codes, arith}
 use Rattle.std.proofs.lemmas.Bool.{and_parts, and_from, or_cases, or_left, or_right, false≢true}
 use Rattle.std.proofs.lemmas.List.{map-append, append_assoc, take-take}
 use Rattle.std.proofs.lemmas.List.Elements.{All-append, All-cons}
 use Rattle.scope_sets.specs.Scopes.{IsPrintable}
-use Rattle.scope_sets.specs.Expressions.{Expression, one, all_of, any_of, Members, no_members, member, members_of, view, holds, all_hold, some_holds}
+use Rattle.scope_sets.specs.Expressions.{Expression, one, all_of, any_of, members_of, view, holds, all_hold, some_holds}
 use Rattle.scope_sets.specs.declared.expressions.Expr.{Expr}
 use Rattle.task_defs.specs.Forms.{queue_name}
 use Rattle.task_defs.specs.Choices.{priority_name, priorities}

@@ -1,13 +1,14 @@
 //! Scopes put together of texts.
-ghost use Rattle.std.specs.Prelude.{◌≡◌, ◌++◌, All, IfOk};
+ghost use Rattle.std.specs.Prelude.{◌≡◌, ◌++◌, All, IsTrue, IfOk};
 ghost use Rattle.scope_sets.specs.Scopes.{IsPrintable};
+ghost use Rattle.call_rules.specs.Texts.{are_printable};
 
 use scope_sets::Scope;
 use std::alloc::{AllocError, Global};
 
 /// The scope that begins so and goes on so.
 pub(crate) fn scope_of(alloc: Global, front: &str, rest: &str) -> Result<Scope, AllocError>
-    requires front { All IsPrintable front.now }
+    requires front { IsTrue (are_printable front.now) }
     requires rest { All IsPrintable rest.now }
     ensures { IfOk result (λ s. s ≡ front.now ++ rest.now) }
 {

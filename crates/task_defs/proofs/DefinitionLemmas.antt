@@ -1,5 +1,6 @@
 -- A document says one definition at most, and a definition has one full form.
-use Rattle.std.proofs.Common.{◌≡◌, ℕ, ◌<◌, List, [], codes, length, Option, Some, None, refl, sym, ap, ◌∙◌, subst, inl, inr}
+use Rattle.std.proofs.Common.{◌≡◌, ℕ, ◌<◌, ◌↔◌, Bool, true, false, IsTrue, MatchBool, Result, Ok, Err, IfOk, List, [], codes, length, Option, Some, None, refl, sym, ap, ◌∙◌, subst, inl, inr}
+use Rattle.std.proofs.lemmas.Bool.{false≢true}
 use Rattle.farm_text.specs.Document.{Document, text, get, document_text}
 use Rattle.farm_text.proofs.MomentLemmas.{IsMomentText-one}
 use Rattle.task_defs.specs.declared.names.TaskQueue.{TaskQueue}
@@ -11,7 +12,7 @@ use Rattle.task_defs.specs.Forms.{queue_name}
 use Rattle.task_defs.specs.Faults.{Tells, Refuses}
 use Rattle.task_defs.specs.Rules.{At, IsExpires, metadata_doc}
 use Rattle.task_defs.specs.Definitions.{IsDefinition, IsFullForm, IsQueueOf, IsTooLong, Says, full_form, rules}
-use Rattle.task_defs.specs.Parts.{IsOnlyAt, HeadHolds, TermsHold, SpanHolds, RestHolds, IsOnlyDefinition}
+use Rattle.task_defs.specs.Parts.{IsOnlyAt, HeadHolds, TermsHold, SpanHolds, RestHolds, IsOnlyDefinition, IsLongForm}
 use Rattle.task_defs.proofs.TimeLemmas.{only_same}
 use Rattle.task_defs.proofs.QueueLemmas.{queue_name_same}
 use Rattle.task_defs.proofs.FaultLemmas.{first_one, tells_first}
@@ -99,9 +100,18 @@ full_form_one def a b x y =
     let e = IsMomentText-one def.expires x.expires y.expires x.expires_text y.expires_text in
     x.is ∙ ap (λ (t : List ℕ). full_form def t x.deadline x.expires) c ∙ ap (λ (t : List ℕ). full_form def y.created t x.expires) d ∙ ap (full_form def y.created y.deadline) e ∙ sym y.is
 
+-- a definition is too long where its one full form is
+pub form_long : (def : TaskDef) (full : Document) (long : Bool) → IsFullForm def full → (IsTrue long ↔ (8388608 < length (document_text full))) → MatchBool long (IsLongForm def) (¬ IsLongForm def)
+form_long def full true form is = record { full = full; form = form; long = is.0 refl }
+form_long def full false form is = λ h. false≢true (is.1 (subst (λ (x : Document). 8388608 < length (document_text x)) (full_form_one def h.full full h.form form) h.long))
+
+pub form_long_ok : {E : Type 0} (def : TaskDef) (made : Document) (r : Result Bool E) → IsFullForm def made → IfOk r (λ long. IsTrue long ↔ (8388608 < length (document_text made))) → IfOk r (λ long. MatchBool long (IsLongForm def) (¬ IsLongForm def))
+form_long_ok def made (Ok long) form is = form_long def made long form is
+form_long_ok def made (Err e) form is = is
+
 -- what is not too long is said
-pub says : (d : Document) (id : List ℕ) (def : TaskDef) (full : Document) → IsOnlyDefinition d id def → IsFullForm def full → (¬ (8388608 < length (document_text full))) → Says d id def
-says d id def full h form short = record {
+pub says : (d : Document) (id : List ℕ) (def : TaskDef) → IsOnlyDefinition d id def → (¬ IsLongForm def) → Says d id def
+says d id def h short = record {
   sound = (
     h.head.keys,
     (
@@ -134,7 +144,7 @@ says d id def full h form short = record {
                                 (λ key w.
                                     let long = w.1 in
                                     let other : IsFullForm def long.full = subst (λ (x : TaskDef). IsFullForm x long.full) (sym (h.only long.def long.definition)) long.form in
-                                    short (subst (λ (x : Document). 8388608 < length (document_text x)) (full_form_one def long.full full other form) long.long)),
+                                    short record { full = long.full; form = other; long = long.long }),
                                 tt,
                               ),
                             ),
@@ -155,8 +165,7 @@ says d id def full h form short = record {
 }
 
 -- what is too long breaks rule 14 at the empty text
-pub too_long : (d : Document) (id : List ℕ) (def : TaskDef) (full : Document) (e : DefError) → IsOnlyDefinition d id def → IsFullForm def full → 8388608 < length (document_text full) → Tells 14 [] e
-    → Refuses (rules d id) e
-too_long d id def whole_form (Fault f) h form long t =
-    inr (h.head.keys, inr (h.head.queue, inr (h.head.names, inr (h.head.group, inr (h.terms.dependencies, inr (h.terms.asked, inr (h.terms.routes, inr (h.terms.priority, inr (h.terms.retries, inr (h.span.moments, inr (h.span.deadline, inr (h.span.expires, inr (h.rest.scopes, inr (h.rest.metadata, inl (tells_first 14 [] (At [] (IsTooLong d id)) (Fault f) t (first_one [] (IsTooLong d id) record { def = def; full = whole_form; definition = h.definition; form = form; long = long }))))))))))))))))
-too_long d id def whole_form NoMemory h form long t = tt
+pub too_long : (d : Document) (id : List ℕ) (def : TaskDef) (e : DefError) → IsOnlyDefinition d id def → IsLongForm def → Tells 14 [] e → Refuses (rules d id) e
+too_long d id def (Fault f) h long t =
+    inr (h.head.keys, inr (h.head.queue, inr (h.head.names, inr (h.head.group, inr (h.terms.dependencies, inr (h.terms.asked, inr (h.terms.routes, inr (h.terms.priority, inr (h.terms.retries, inr (h.span.moments, inr (h.span.deadline, inr (h.span.expires, inr (h.rest.scopes, inr (h.rest.metadata, inl (tells_first 14 [] (At [] (IsTooLong d id)) (Fault f) t (first_one [] (IsTooLong d id) record { def = def; full = long.full; definition = h.definition; form = long.form; long = long.long }))))))))))))))))
+too_long d id def NoMemory h long t = tt

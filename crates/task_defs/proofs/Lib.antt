@@ -9,5 +9,6 @@ pub mod DefinitionLemmas
 pub mod OneLemmas
 pub mod IdLemmas
 pub mod FullLemmas
+pub mod FullLengthLemmas
 pub mod SaysLemmas
 pub mod LengthLemmas

@@ -1,5 +1,5 @@
 -- What the parts of the reader tell one another: all of it follows from the rules of a definition.
-use Rattle.std.specs.Prelude.{◌≡◌, ℕ, ◌+◌, min, pos, List, map, codes, Option, Some, None}
+use Rattle.std.specs.Prelude.{◌≡◌, ℕ, ◌+◌, ◌<◌, min, pos, List, map, codes, length, Option, Some, None}
 use Rattle.farm_text.specs.Slug.{slug_text}
 use Rattle.farm_text.specs.Moment.{IsMomentText}
 use Rattle.farm_text.specs.DateTime.{IsDateTime}
@@ -8,9 +8,9 @@ use Rattle.task_defs.specs.Choices.{priority_name, requires_name}
 use Rattle.task_defs.specs.Faults.{Holds}
 use Rattle.task_defs.specs.Keys.{KeyBreaks}
 use Rattle.task_defs.specs.Rules.{metadata_doc, QueueBreaks, NameBreaks, GroupBreaks, DependenciesBreak, RequiresBreaks, RoutesBreak, PriorityBreaks, RetriesBreak, MomentBreaks, DeadlineBreaks, ExpiresBreaks, ScopesBreak, MetadataBreaks}
-use Rattle.task_defs.specs.Definitions.{text_list, IsDefinition}
+use Rattle.task_defs.specs.Definitions.{text_list, IsDefinition, IsFullForm}
 use Rattle.task_defs.specs.declared.task_def.TaskDef.{TaskDef}
-use Rattle.farm_text.specs.Document.{Document, text, whole, object, Members, no_members, put}
+use Rattle.farm_text.specs.Document.{Document, text, whole, object, Members, no_members, put, document_text}
 
 -- the document is the text of this moment, and of no other
 pub record IsOnlyMoment (d : Document) (m : ℕ) : Type 0 where
@@ -114,3 +114,9 @@ pub record IsOnlyDefinition (d : Document) (id : List ℕ) (def : TaskDef) : Typ
   pub rest : RestHolds d
   pub definition : IsDefinition d id def
   pub only : (other : TaskDef) → IsDefinition d id other → def ≡ other
+
+-- a full form of the definition has more than 8,388,608 bytes
+pub record IsLongForm (def : TaskDef) : Type 0 where
+  pub full : Document
+  pub form : IsFullForm def full
+  pub long : 8388608 < length (document_text full)

@@ -1,7 +1,7 @@
 //! What a definition says of a task in texts: its names, its metadata and its tags.
-ghost use Rattle.std.specs.Prelude.{◌≡◌, Some, codes, IfOk, MatchOption, MatchResult, option_and_then, option_map};
-ghost use Rattle.farm_text.specs.Document.{get};
-ghost use Rattle.farm_text.specs.Doc.{document};
+ghost use Rattle.std.specs.Prelude.{◌≡◌, ◌↔◌, IsTrue, Some, map, codes, IfOk, MatchOption, MatchResult, option_and_then, option_map};
+ghost use Rattle.farm_text.specs.Document.{get, members_of, text as plain_text};
+ghost use Rattle.farm_text.specs.Doc.{document, entries_of};
 ghost use Rattle.task_defs.specs.Documents.{text_of};
 ghost use Rattle.task_defs.specs.Values.{text_or, members_or_none};
 ghost use Rattle.task_defs.specs.Keys.{KeyBreaks};
@@ -9,7 +9,7 @@ ghost use Rattle.task_defs.specs.Faults.{Holds, Breaks};
 ghost use Rattle.task_defs.specs.Rules.{NameBreaks, MetadataBreaks, IsMetadata, metadata_doc};
 ghost use Rattle.task_defs.specs.declared.objects.Metadata.{Metadata as AnyMetadata};
 
-use crate::documents::{as_text, same_doc};
+use crate::documents::as_text;
 use crate::fault::DefError;
 use crate::keys::value;
 use crate::names::{Identifier, ProjectName};
@@ -17,6 +17,7 @@ use crate::objects::{Metadata, Tags};
 use crate::values;
 use farm_text::{Doc, Entries, Text};
 use std::alloc::{AllocError, Global};
+use std::collections::BTreeMap;
 
 /// Who owns a task, and who schedules it.
 #[derive(Drop)]
@@ -112,11 +113,53 @@ pub(crate) fn read_metadata(alloc: Global, value: &Doc) -> Result<Option<Metadat
         Some(metadata) => metadata,
         None => return Ok(None),
     };
-    let whole = metadata.to_doc(alloc)?;
-    if same_doc(value, &whole) {
+    if is_metadata(value, &metadata) {
         Ok(Some(metadata))
     } else {
         Ok(None)
+    }
+}
+
+/// Whether a value is this metadata, with no member more.
+fn is_metadata(value: &Doc, metadata: &Metadata) -> bool
+    ensures { IsTrue result ↔ (document value.now ≡ metadata_doc metadata.now) }
+{
+    match value {
+        Doc::Map(members) => has_texts(
+            members,
+            [
+                ("description", metadata.description.as_str()),
+                ("name", metadata.name.as_str()),
+                ("owner", metadata.owner.as_str()),
+                ("source", metadata.source.as_str()),
+            ]
+            .as_slice(),
+        ),
+        _ => false,
+    }
+}
+
+/// Whether a map has these texts at these keys, in their order, and no member more.
+fn has_texts(members: &BTreeMap<String, Doc>, texts: &[(&str, &str)]) -> bool
+    ensures { IsTrue result ↔ (members_of (entries_of members.now.entries) ≡ members_of (map (λ t. (t.0.now, plain_text t.1.now)) texts.now)) }
+{
+    let mut others = texts.iter();
+    for (key, value) in members.iter() {
+        match others.next() {
+            Some((name, text)) if key.as_str() == *name && is_text(value, text) => {}
+            _ => return false,
+        }
+    }
+    others.next().is_none()
+}
+
+/// Whether a document is this text.
+fn is_text(value: &Doc, text: &str) -> bool
+    ensures { IsTrue result ↔ (document value.now ≡ plain_text text.now) }
+{
+    match value {
+        Doc::Text(own) => own.as_str() == text,
+        _ => false,
     }
 }
 

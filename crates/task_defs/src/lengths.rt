@@ -1,7 +1,8 @@
 //! How long a document's text may be, without writing it.
+ghost use Rattle.std.specs.Prelude.{◌+◌, ◌*◌, length};
 ghost use Rattle.farm_text.specs.Document.{items_of, members_of, document_text, whole, text as plain_text, array, object};
 ghost use Rattle.farm_text.specs.Doc.{document, documents, entries_of};
-ghost use Rattle.task_defs.specs.Lengths.{Bounds};
+ghost use Rattle.task_defs.specs.Lengths.{Bounds, Covers};
 
 use farm_text::Doc;
 use std::collections::BTreeMap;
@@ -21,15 +22,16 @@ pub(crate) fn most_bytes(doc: &Doc) -> usize
 }
 
 /// One digit is one byte, and a number has at most twenty.
-fn number_bytes(n: i64) -> usize
+pub(crate) fn number_bytes(n: i64) -> usize
     ensures { Bounds result (document_text (whole n)) }
 {
     if 0 <= n && n <= 9 { 1 } else { 20 }
 }
 
 /// A byte of a text is written in six at most.
-fn text_bytes(text: &str) -> usize
-    ensures { Bounds result (document_text (plain_text text.now)) }
+pub(crate) fn text_bytes(text: &str) -> usize
+    ensures text { Bounds result (document_text (plain_text text.now)) }
+    ensures characters { Covers result (6 * length text.now + 2) }
 {
     text.len().saturating_mul(6).saturating_add(2)
 }

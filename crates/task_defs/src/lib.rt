@@ -6,6 +6,7 @@ mod choices;
 mod documents;
 mod fault;
 mod full_form;
+mod full_length;
 mod keys;
 mod labels;
 mod laws;

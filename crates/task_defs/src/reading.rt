@@ -1,21 +1,21 @@
 //! A definition from its document.
-ghost use Rattle.std.specs.Prelude.{◌≡◌, ℕ, ◌<◌, ◌↔◌, IsTrue, Some, None, codes, length, IfOk, MatchOption, MatchResult};
+ghost use Rattle.std.specs.Prelude.{◌≡◌, ℕ, ◌<◌, ◌↔◌, IsTrue, Some, None, codes, length, IfOk, MatchBool, MatchOption, MatchResult};
 ghost use Rattle.std.specs.List.{filter_map};
 ghost use Rattle.farm_text.specs.Slug.{slug_of};
-ghost use Rattle.farm_text.specs.Document.{Document, get, document_text};
+ghost use Rattle.farm_text.specs.Document.{get, document_text};
 ghost use Rattle.farm_text.specs.Doc.{document};
 ghost use Rattle.task_defs.specs.Faults.{Refuses};
 ghost use Rattle.task_defs.specs.Values.{text_or, texts_in, slug_or, requires_in, priority_in, retries_in, members_or_none};
-ghost use Rattle.task_defs.specs.Parts.{HeadHolds, TermsHold, SpanHolds, RestHolds, IsOnlyAt, IsOnlyDefinition};
+ghost use Rattle.task_defs.specs.Parts.{HeadHolds, TermsHold, SpanHolds, RestHolds, IsOnlyAt, IsOnlyDefinition, IsLongForm};
 ghost use Rattle.task_defs.specs.Rules.{IsExpires, metadata_doc};
-ghost use Rattle.task_defs.specs.Definitions.{IsFullForm, IsQueueOf, Says, rules};
+ghost use Rattle.task_defs.specs.Definitions.{IsQueueOf, Says, rules};
 ghost use Rattle.task_defs.specs.declared.task_def.TaskDef.{TaskDef as TaskDefinition};
 
 use crate::choices::{Priority, Requires};
 use crate::fault::DefError;
+use crate::full_length::full_form_bytes;
 use crate::keys::check_keys;
 use crate::labels::{read_labels, read_owners};
-use crate::lengths::most_bytes;
 use crate::lists::{Dependencies, Routes, Scopes};
 use crate::names::{Identifier, ProjectName, TaskQueue};
 use crate::objects::{Metadata, Object, Tags};
@@ -72,13 +72,23 @@ fn read_head(alloc: Global, doc: &Doc, id: SlugId) -> Result<Head, DefError>
     }
 }
 
-/// Whether the full form has more bytes than it may have.
+/// Whether the full form has more bytes than it may have. What is surely short is not put together.
 fn is_too_long(alloc: Global, def: &TaskDef) -> Result<bool, AllocError>
-    ensures { IfOk result (λ long. (full : Document) × IsFullForm def.now full × (IsTrue long ↔ (LONGEST_DEFINITION < length (document_text full)))) }
+    ensures { IfOk result (λ long. MatchBool long (IsLongForm def.now) (¬ IsLongForm def.now)) }
+{
+    if full_form_bytes(def) <= LONGEST_DEFINITION {
+        Ok(false)
+    } else {
+        is_form_long(alloc, def)
+    }
+}
+
+/// The same, by the full form itself.
+fn is_form_long(alloc: Global, def: &TaskDef) -> Result<bool, AllocError>
+    ensures { IfOk result (λ long. MatchBool long (IsLongForm def.now) (¬ IsLongForm def.now)) }
 {
     let full = def.doc(alloc)?;
-    // What is surely short is not written.
-    Ok(most_bytes(&full) > LONGEST_DEFINITION && is_long(alloc, &full)?)
+    is_long(alloc, &full)
 }
 
 /// Whether the text of a document has more bytes than a definition may have.

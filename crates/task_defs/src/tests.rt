@@ -24,21 +24,26 @@ fn whole(alloc: Global, row: &str) -> Result<String, AllocError> {
     }
 }
 
+/// The definition that a document says for the first task.
+fn read_doc(alloc: Global, doc: &Doc) -> Result<TaskDef, DefError> {
+    match SlugId::read(FIRST_TASK) {
+        Some(id) => read_task(alloc, doc, id),
+        None => Err(DefError::NoMemory),
+    }
+}
+
 /// The definition that a row says for the first task.
 fn read(alloc: Global, row: &str) -> Result<TaskDef, DefError> {
     let text = whole(alloc, row)?;
     match Doc::read(alloc, text.as_str().as_bytes()) {
-        Ok(doc) => match SlugId::read(FIRST_TASK) {
-            Some(id) => read_task(alloc, &doc, id),
-            None => Err(DefError::NoMemory),
-        },
+        Ok(doc) => read_doc(alloc, &doc),
         Err(_) => Err(DefError::NoMemory),
     }
 }
 
-/// The rule that a row breaks and the key that shows it, with a space between them, or `ok`.
-fn outcome(alloc: Global, row: &str) -> Result<String, AllocError> {
-    match read(alloc, row) {
+/// The rule that is broken and the key that shows it, with a space between them, or `ok`.
+fn outcome(alloc: Global, read: Result<TaskDef, DefError>) -> Result<String, AllocError> {
+    match read {
         Ok(_) => String::from_str(alloc, "ok"),
         Err(DefError::Fault(fault)) => {
             format!(in alloc; "{} {}", fault.rule, fault.key.as_str())
@@ -49,7 +54,15 @@ fn outcome(alloc: Global, row: &str) -> Result<String, AllocError> {
 
 /// Whether a row has this outcome.
 fn has_outcome(alloc: Global, wanted: &str, row: &str) -> bool {
-    match outcome(alloc, row) {
+    match outcome(alloc, read(alloc, row)) {
+        Ok(found) => found.as_str() == wanted,
+        Err(_) => false,
+    }
+}
+
+/// Whether a document has this outcome.
+fn tells(alloc: Global, doc: &Doc, wanted: &str) -> bool {
+    match outcome(alloc, read_doc(alloc, doc)) {
         Ok(found) => found.as_str() == wanted,
         Err(_) => false,
     }

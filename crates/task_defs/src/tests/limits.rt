@@ -1,5 +1,5 @@
 //! Definitions at their limits, and one past them.
-use super::outcome;
+use farm_text::Doc;
 use std::alloc::{AllocError, Global};
 
 /// A text of so many bytes, which begins with a number of four digits, after a comma where one is wanted.
@@ -45,29 +45,122 @@ fn so_many_scopes(rt: HostRuntime) {
     assert!(rt; are(rt.alloc(), "scopes", 1, 4097, "13 scopes"));
 }
 
-/// A payload with so many lists inside each other, as a member.
-fn lists(alloc: Global, depth: usize) -> Result<String, AllocError> {
-    let mut member = String::from_str(alloc, ",\"payload\":{\"a\":")?;
-    for _ in 0..depth {
-        member.push_str("[")?;
+/// So many slugids, as the dependencies.
+fn ids(alloc: Global, count: u16) -> Result<String, AllocError> {
+    let mut member = String::from_str(alloc, ",\"dependencies\":[")?;
+    for n in 0..count {
+        member.push_str(if n == 0 { "" } else { "," })?;
+        member.push_str(format!(in alloc; "\"{:04}AAAAQACAAAAAAAAAAA\"", n)?.as_str())?;
     }
-    for _ in 0..depth {
-        member.push_str("]")?;
-    }
-    member.push_str("}")?;
+    member.push_str("]")?;
     Ok(member)
 }
 
-/// The outcome of the smallest definition with such a payload. The definition is one map, the payload another.
-fn deep(alloc: Global, depth: usize) -> Result<String, AllocError> {
-    let member = lists(alloc, depth)?;
-    outcome(alloc, member.as_str())
+/// Whether the smallest definition with so many dependencies has this outcome.
+fn wait_for(alloc: Global, count: u16, wanted: &str) -> bool {
+    match ids(alloc, count) {
+        Ok(member) => super::has_outcome(alloc, wanted, member.as_str()),
+        Err(_) => false,
+    }
 }
 
 #[test]
-fn so_deep(rt: HostRuntime) -> Result<(), AllocError> {
-    assert_eq!(rt; deep(rt.alloc(), 125)?.as_str(), "ok");
-    // No document nests deeper than 127.
-    assert_eq!(rt; deep(rt.alloc(), 126)?.as_str(), "no document");
-    Ok(())
+fn so_many_dependencies(rt: HostRuntime) {
+    assert!(rt; wait_for(rt.alloc(), 100, "ok"));
+    assert!(rt; wait_for(rt.alloc(), 101, "5 dependencies"));
+}
+
+/// A map with so many lists inside each other.
+fn lists(alloc: Global, depth: usize) -> Result<String, AllocError> {
+    let mut map = String::from_str(alloc, "{\"a\":")?;
+    for _ in 0..depth {
+        map.push_str("[")?;
+    }
+    for _ in 0..depth {
+        map.push_str("]")?;
+    }
+    map.push_str("}")?;
+    Ok(map)
+}
+
+/// The document that a text is, if it is one.
+fn document(alloc: Global, text: &str) -> Option<Doc> {
+    match Doc::read(alloc, text.as_bytes()) {
+        Ok(doc) => Some(doc),
+        Err(_) => None,
+    }
+}
+
+/// The map with so many lists inside each other, as a document.
+fn deep(alloc: Global, depth: usize) -> Option<Doc> {
+    match lists(alloc, depth) {
+        Ok(map) => document(alloc, map.as_str()),
+        Err(_) => None,
+    }
+}
+
+/// The definition with this payload.
+fn paid(alloc: Global, definition: Doc, payload: Doc) -> Result<Doc, AllocError> {
+    match definition {
+        Doc::Map(mut members) => {
+            drop(members.insert(String::from_str(alloc, "payload")?, payload)?);
+            Ok(Doc::Map(members))
+        }
+        other => Ok(other),
+    }
+}
+
+/// The smallest definition, whose payload has so many lists inside each other.
+fn deep_definition(alloc: Global, depth: usize) -> Option<Doc> {
+    let payload = match deep(alloc, depth) {
+        Some(payload) => payload,
+        None => return None,
+    };
+    match document(alloc, super::PLAIN_IN_FULL) {
+        Some(definition) => paid(alloc, definition, payload).ok(),
+        None => None,
+    }
+}
+
+/// Whether the smallest definition with such a payload has this outcome. The definition is one map, the payload another.
+fn is_deep(alloc: Global, depth: usize, wanted: &str) -> bool {
+    match deep_definition(alloc, depth) {
+        Some(definition) => super::tells(alloc, &definition, wanted),
+        None => false,
+    }
+}
+
+#[test]
+fn so_deep(rt: HostRuntime) {
+    assert!(rt; is_deep(rt.alloc(), 125, "ok"));
+    assert!(rt; is_deep(rt.alloc(), 126, "1 payload"));
+}
+
+/// No document that is read nests deeper than 127.
+#[test]
+fn as_deep_as_a_document(rt: HostRuntime) {
+    assert!(rt; deep(rt.alloc(), 126).is_some());
+    assert!(rt; deep(rt.alloc(), 127).is_none());
+}
+
+/// A payload with one text of so many bytes, as a member.
+fn long(alloc: Global, len: usize) -> Result<String, AllocError> {
+    let text = "x".repeat(alloc, len)?;
+    format!(in alloc; ",\"payload\":{{\"a\":\"{}\"}}", text.as_str())
+}
+
+/// Whether the smallest definition with such a payload has this outcome.
+fn is_long(alloc: Global, len: usize, wanted: &str) -> bool {
+    match long(alloc, len) {
+        Ok(member) => super::has_outcome(alloc, wanted, member.as_str()),
+        Err(_) => false,
+    }
+}
+
+/// The smallest definition has 487 bytes in full form, and 493 with the member `"a":""` in its payload, so 8,388,115 bytes are left.
+#[test]
+fn so_long(rt: HostRuntime) {
+    assert_eq!(rt; super::PLAIN_IN_FULL.len(), 487);
+    assert!(rt; is_long(rt.alloc(), 8_388_115, "ok"));
+    assert!(rt; is_long(rt.alloc(), 8_388_116, "14 "));
 }

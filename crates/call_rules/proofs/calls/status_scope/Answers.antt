@@ -1,12 +1,9 @@
-use Rattle.std.proofs.Common.{List, ℕ, All, codes, refl, sym, ap, ◌∙◌, ◌++◌, subst}
+use Rattle.std.proofs.Common.{List, ℕ, All, codes, sym, ap, ◌∙◌, ◌++◌, subst}
 use Rattle.farm_text.specs.Slug.{IsUuid4}
 use Rattle.scope_sets.specs.Scopes.{IsPrintable}
 use Rattle.scope_sets.specs.Expressions.{one}
-use Rattle.call_rules.proofs.PolicyLemmas.{printable, slug_printable, view-One}
+use Rattle.call_rules.proofs.PolicyLemmas.{slug_printable, view-One}
 use Rattle.call_rules.proofs.calls.status_scope.Goals as goal
-
-pub scope_of-requires-clause-front : goal.scope_of-requires-clause-front
-scope_of-requires-clause-front c = printable (codes "queue:status:") refl
 
 pub scope_of-requires-clause-rest : goal.scope_of-requires-clause-rest
 scope_of-requires-clause-rest c =

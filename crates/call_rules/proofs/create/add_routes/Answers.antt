@@ -1,14 +1,11 @@
-use Rattle.std.proofs.Common.{List, ℕ, ◌++◌, map, codes, sym, ap, ◌∙◌, append-nil, arith, refl, All, subst}
+use Rattle.std.proofs.Common.{List, ℕ, ◌++◌, map, codes, sym, ap, ◌∙◌, append-nil, arith, All, subst}
 use Rattle.scope_sets.specs.Scopes.{IsPrintable}
 use Rattle.scope_sets.specs.Expressions.{Expression, view, one}
-use Rattle.call_rules.proofs.PolicyLemmas.{printable, view-One, grown, all_grown}
+use Rattle.call_rules.proofs.PolicyLemmas.{view-One, grown, all_grown}
 use Rattle.call_rules.proofs.create.add_routes.Goals as goal
 
 abbrev route_scope : List ℕ → Expression
 route_scope route = one (codes "queue:route:" ++ route)
-
-pub scope_of-requires-clause-front : goal.scope_of-requires-clause-front
-scope_of-requires-clause-front c = printable (codes "queue:route:") refl
 
 pub scope_of-requires-clause-rest : goal.scope_of-requires-clause-rest
 scope_of-requires-clause-rest c = subst (All IsPrintable) (sym c.as_str.ensures.value) c.as_str.ensures.form.bytes

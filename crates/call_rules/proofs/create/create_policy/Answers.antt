@@ -1,16 +1,13 @@
-use Rattle.std.proofs.Common.{◌≡◌, List, ℕ, All, [], ◌∷◌, ◌++◌, map, codes, refl, sym, ap, ◌∙◌, subst}
+use Rattle.std.proofs.Common.{◌≡◌, List, ℕ, All, ◌++◌, map, codes, sym, ap, ◌∙◌, subst}
 use Rattle.std.proofs.lemmas.List.{append_assoc}
 use Rattle.scope_sets.specs.Scopes.{IsPrintable}
 use Rattle.scope_sets.specs.Expressions.{Expression, view, one, all_of, any_of, members_of}
 use Rattle.scope_sets.proofs.ExpressionLemmas.{view-AllOf, view-AnyOf}
 use Rattle.scope_sets.specs.declared.expressions.Expr.{Expr}
 use Rattle.call_rules.specs.Policy.{create_scope, from_highest}
-use Rattle.call_rules.proofs.PolicyLemmas.{printable, identifier_printable, project_printable, view-One}
+use Rattle.call_rules.proofs.PolicyLemmas.{project_printable, view-One}
 use Rattle.call_rules.proofs.PriorityLemmas.{three_more}
 use Rattle.call_rules.proofs.create.create_policy.Goals as goal
-
-pub scope_of-requires-clause-front : goal.scope_of-requires-clause-front
-scope_of-requires-clause-front c = printable (codes "queue:create-task:project:") refl
 
 pub scope_of-requires-clause-rest : goal.scope_of-requires-clause-rest
 scope_of-requires-clause-rest c = subst (All IsPrintable) (sym c.as_str.ensures.value) (project_printable _ c.as_str.ensures.form)

@@ -1,10 +1,6 @@
-use Rattle.std.proofs.Common.{◌≡◌, List, ℕ, All, ◌++◌, codes, refl, sym, ◌∙◌, subst, IfOk}
+use Rattle.std.proofs.Common.{◌≡◌, List, ℕ, All, ◌++◌, codes, sym, ◌∙◌, subst, IfOk}
 use Rattle.scope_sets.specs.Scopes.{IsPrintable}
-use Rattle.call_rules.proofs.PolicyLemmas.{printable}
 use Rattle.call_rules.proofs.create.create_scope.Goals as goal
-
-pub scope_of-requires-clause-front : goal.scope_of-requires-clause-front
-scope_of-requires-clause-front c = printable (codes "queue:create-task:") refl
 
 pub scope_of-requires-clause-rest : goal.scope_of-requires-clause-rest
 scope_of-requires-clause-rest c = subst (All IsPrintable) (sym c.as_str.ensures.value) c.in_ok-name.ensures.printable

@@ -1,4 +1,4 @@
-use Rattle.std.proofs.Common.{List, ◌+◌, map, take, sym, ap, ◌∙◌, arith, []}
+use Rattle.std.proofs.Common.{◌+◌, map, take, ap, ◌∙◌, arith, []}
 use Rattle.scope_sets.specs.Expressions.{Expression, view, one}
 use Rattle.task_defs.specs.Choices.{priorities}
 use Rattle.task_defs.specs.declared.choices.Priority.{Priority}
