@@ -1,7 +1,6 @@
 //! The calls, and what each asks.
 ghost use Rattle.std.specs.Prelude.{◌≡◌, IfOk};
-ghost use Rattle.scope_sets.specs.Expressions.{view};
-ghost use Rattle.scope_sets.specs.Expressions.{all_of, no_members};
+ghost use Rattle.scope_sets.specs.Expressions.{view, all_of, no_members};
 ghost use Rattle.call_rules.specs.Policy.{policy, status_policy};
 
 use crate::create::create_policy;
