@@ -1,4 +1,4 @@
-use Rattle.std.proofs.Common.{◌≡◌, ◌++◌, sym, ◌∙◌, List, ℕ}
+use Rattle.std.proofs.Common.{sym, ◌∙◌}
 use Rattle.api_routes.proofs.PathLemmas.{front, front_is, no_create_front, no_create_part, create_found}
 use Rattle.api_routes.proofs.routes.create_id.Goals as goal
 use Rattle.api_routes.proofs.routes.create_id.Goals.{in_default-via-in-Some+else-is_part, in_default-via-in_default}
