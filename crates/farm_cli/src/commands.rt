@@ -38,7 +38,7 @@ pub(crate) fn obey<H: House>(
     }
 }
 
-/// Serves the console over a farm without tasks.
+/// Serves the console over a farm that begins without tasks.
 fn converse<H: House>(alloc: Global, config: Config, house: &mut H) -> Status
     ensures conversed { let views = views_of H.File.Source H.Console.Link H.Notes.Sink H.Time.Clock H.Ids.Draws in
         Conversed views (H.lends house.old) (H.lends house.new) config result }

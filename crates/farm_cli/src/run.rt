@@ -20,9 +20,13 @@ use causes::Failed;
 use command_line::{Command, WordsFault, read_words};
 use std::alloc::Global;
 
-/// Runs what the words ask for, over what the house lends: `answer FARM` serves one connection on the console over a farm without
-/// tasks, `expand FARM` writes all that the console's scopes give, `check FARM` counts what the farm file has. All that was asked for
-/// is given back, and the notes are told a line where the status is not `Done`.
+/// Runs what the words ask for, over what the house lends: `answer FARM` serves one connection on the console over a farm that begins
+/// without tasks, `expand FARM` writes all that the console's scopes give, `check FARM` counts what the farm file has. All that was
+/// asked for is given back, and the notes are told a line where the status is not `Done`.
+///
+/// The history that `answer` leads through is legal, so the laws of `farm_machine::law` hold of it: a call is denied exactly where its
+/// caller's scopes do not hold what it asks (`a_denial_is_of_scopes_that_are_missing`), a task is created once
+/// (`a_task_is_created_once`), and an equal createTask after it is answered with the task's status (`an_equal_call_acts_once`).
 pub fn run<H: House>(alloc: Global, words: &[String], house: &mut H) -> Status
     ensures runs { let views = views_of H.File.Source H.Console.Link H.Notes.Sink H.Time.Clock H.Ids.Draws in
         Runs views (H.lends house.old) (H.lends house.new) (H.refusals house.old) (H.refusals house.new)

@@ -1,8 +1,8 @@
 //! The farm as a machine without memory of its disk: what a call is answered and what it changes.
 //!
 //! A question is planned (`plan` takes all memory and leaves the tables as they were) and then applied (`apply` takes none).
-//! Each call has a file (`calls`), and `judge` asks its parts in the one order of refusals. What is due at a moment is to be
-//! resolved before, by `tick`; nothing can be due until tasks stand.
+//! Each call has a file (`calls`), and `judge` asks its parts in the one order of refusals. What is due at a moment is resolved before,
+//! by `tick`.
 #![tactic(auto)]
 
 mod access;
