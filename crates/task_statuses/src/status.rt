@@ -53,11 +53,7 @@ fn add_queue(alloc: Global, entries: Entries, queue: &TaskQueue) -> Result<Entri
 }
 
 /// These members with those of its owners.
-fn add_owners(
-    alloc: Global,
-    entries: Entries,
-    definition: &TaskDef,
-) -> Result<Entries, AllocError>
+fn add_owners(alloc: Global, entries: Entries, definition: &TaskDef) -> Result<Entries, AllocError>
     ensures { IfOk result (λ e. held e ≡ with_owners definition.now (held entries)) }
 {
     let project = Doc::text(alloc, definition.project_id.as_str())?;
