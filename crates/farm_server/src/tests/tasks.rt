@@ -58,13 +58,19 @@ struct Exchange<'a> {
     reply: &'a str,
 }
 
+/// The body of a request.
+fn body_of(alloc: Global, exchange: &Exchange) -> Result<String, AllocError> {
+    let end = if exchange.front.is_empty() { "" } else { "}" };
+    format!(in alloc; "{}{}{end}", exchange.front, exchange.more)
+}
+
 /// The bytes of a request.
 fn request_of(alloc: Global, exchange: &Exchange) -> Result<String, AllocError> {
-    let end = if exchange.front.is_empty() { "" } else { "}" };
-    let length = exchange.front.len() + exchange.more.len() + end.len();
+    let body = body_of(alloc, exchange)?;
+    let length = body.len();
     format!(in alloc;
-        "{} HTTP/1.1\r\nContent-Length: {length}\r\n\r\n{}{}{end}",
-        exchange.request, exchange.front, exchange.more
+        "{} HTTP/1.1\r\nContent-Length: {length}\r\n\r\n{body}",
+        exchange.request
     )
 }
 
