@@ -175,6 +175,31 @@ fn moments_and_labels_that_are_refused(rt: HostRuntime) {
     assert_eq!(rt; first_other(rt.alloc(), MOMENTS_AND_LABELS), "none");
 }
 
+/// What is said of a row that is refused.
+fn words(alloc: Global, row: &str) -> Result<String, AllocError> {
+    match read(alloc, row) {
+        Err(DefError::Fault(fault)) => format!(in alloc; "{fault}"),
+        _ => String::from_str(alloc, "no fault"),
+    }
+}
+
+/// Whether this is said of a row.
+fn has_words(alloc: Global, row: &str, wanted: &str) -> bool {
+    match words(alloc, row) {
+        Ok(found) => found.as_str() == wanted,
+        Err(_) => false,
+    }
+}
+
+#[test]
+fn what_is_said_of_faults(rt: HostRuntime) {
+    let retries = "retries: it is 0 to 49 (rule 9)";
+    assert!(rt; has_words(rt.alloc(), ",\"retries\":50", retries));
+    let whole =
+        "the definition: a definition is a map of known keys, each of its kind, that nests at most 127 deep (rule 1)";
+    assert!(rt; has_words(rt.alloc(), "[]", whole));
+}
+
 /// The full form of a definition, as text.
 fn full_text(alloc: Global, def: &TaskDef) -> Result<String, AllocError> {
     Ok(def.doc(alloc)?.write(alloc)?.into_string())
