@@ -1,9 +1,9 @@
 -- What is kept at a shared desk between any two steps, and what a step tells who makes it. These definitions stand in proofs alone.
-use Rattle.std.specs.Prelude.{◌≡◌, ℕ, ◌+◌, ◌-◌, ◌<◌, ◌≤◌, ◌==◌, ◌≢◌, ◌⊎◌, List, [], ◌∷◌, ◌++◌, length, Some, MatchBool, AllPairs, option_map}
+use Rattle.std.specs.Prelude.{◌≡◌, ℕ, ◌+◌, ◌-◌, ◌%◌, ◌^◌, ◌<◌, ◌≤◌, ◌==◌, ◌≢◌, ◌⊎◌, List, [], ◌∷◌, ◌++◌, length, Some, MatchBool, AllPairs, option_map}
 use mathlib.Core.Option.{some, none}
 use mathlib.Core.List.{IsPrefix}
 use lib.ListN.{get_elem?}
-use Rattle.atomic_table.specs.Table.{State, Step, Me}
+use Rattle.atomic_table.specs.Table.{State, Step, Me, Allows, step}
 use Rattle.atomic_table.specs.Seated.{TableId}
 use Rattle.history.specs.Rules.{Rules}
 use Rattle.history.specs.Histories.{entries, end_state, IsLegal, calls_of, Leads}
@@ -64,6 +64,10 @@ pub record IsKept {O P Q A S E R : Type 0} (r : Rules Q A S E R) (start : P → 
   pub apart : AreApart s.views
   pub asks : drawn + total (λ (view : View O E). view.left) s.views ≡ 9223372036854775808
   pub places : (f : ℕ → ℕ) → total (λ (view : View O E). total f view.mine) s.views ≡ total f calls
+
+-- whatever stands at the table, a seat may make a word one more, so that the rule is kept and this is told of the step
+abbrev pub AllowsOneMore : {S V : Type 0} → (State S V → Type 0) → ℕ → ℕ → Me S V → ℕ → (Step S → Me S V → ℕ → Me S V → Type 0) → Type 0
+AllowsOneMore holds slots id me word then = Allows holds slots id me word (λ n. (n + 1) % 2 ^ 64) (then (step slots word 1 0 none) me)
 
 -- a caller took the object: it has seen the history as it is, which is legal, and the object is as it leaves it
 abbrev pub HasTaken : {O P Q A S E R : Type 0} → Rules Q A S E R → (P → S) → (O → S) → (O → P → List E → Type 0) → Me O (View O E) → ℕ → Me O (View O E) → Type 0

@@ -2,12 +2,35 @@
 ghost use Rattle.std.specs.Prelude.{◌≡◌, ◌<◌, ◌≤◌, ◌==◌, [], ◌∷◌, MatchBool};
 ghost use Rattle.shared_desk.specs.declared.view.Stage.TheVariants.{Idle, Waiting};
 ghost use Rattle.shared_desk.specs.Views.{fewer, fresh, merged, waiting};
-ghost use Rattle.shared_desk.specs.Rule.{IsAt, HasTaken, MayRaise, raised, IsMerged, HasLearned};
+ghost use Rattle.shared_desk.specs.Rule.{IsAt, IsKept, AllowsOneMore, HasTaken, MayRaise, raised, IsMerged, HasLearned};
+ghost use Rattle.atomic_table.specs.Table.{step};
+ghost use mathlib.Core.Option.{none};
 
-use crate::rule::{Asked, Cut, Draw, Hall, Learn, Look, Merge, Portion, Raise, Seat};
+use crate::rule::{Asked, Cut, Draw, Hall, Learn, Look, Merge, Portion, Raise, Seat, ViewOf};
+use atomic_table::Play;
 use farm_desk::Object;
 use history::Machine;
 use std::snapshot::Snapshot;
+
+/// Makes the number of tickets that are drawn one more, where the rule of the desk allows it.
+fn add_ticket<O: Object, M: Play<O, ViewOf<O>>>(hall: &Hall<O>, seat: &mut Seat<O>) -> u64
+    requires at { IsAt hall.now.table_id seat.old.table_id }
+    requires kept { AllowsOneMore (IsKept O.Law.rules O.Law.start O.state O.holds hall.now.key.value) hall.now.table_id.slots seat.old.id seat.old.me 0 M.then }
+    ensures at { seat.new.table_id ≡ seat.old.table_id }
+    ensures told { M.then (step hall.now.table_id.slots 0 1 0 none) seat.old.me result seat.new.me }
+{
+    hall.fetch_add::<M>(seat, 0, 1)
+}
+
+/// Makes the number of calls one more, where the rule of the desk allows it: the next ticket is served.
+fn add_call<O: Object, M: Play<O, ViewOf<O>>>(hall: &Hall<O>, seat: &mut Seat<O>) -> u64
+    requires at { IsAt hall.now.table_id seat.old.table_id }
+    requires kept { AllowsOneMore (IsKept O.Law.rules O.Law.start O.state O.holds hall.now.key.value) hall.now.table_id.slots seat.old.id seat.old.me 1 M.then }
+    ensures at { seat.new.table_id ≡ seat.old.table_id }
+    ensures told { M.then (step hall.now.table_id.slots 1 1 0 none) seat.old.me result seat.new.me }
+{
+    hall.fetch_add::<M>(seat, 1, 1)
+}
 
 /// Draws a ticket.
 pub(crate) fn draw<O: Object>(hall: &Hall<O>, seat: &mut Seat<O>) -> u64
@@ -17,7 +40,7 @@ pub(crate) fn draw<O: Object>(hall: &Hall<O>, seat: &mut Seat<O>) -> u64
     ensures at { seat.new.table_id ≡ seat.old.table_id }
     ensures drawn { seat.new.me ≡ (waiting seat.old.me.0 result, []) }
 {
-    hall.fetch_add::<Draw>(seat, 0, 1)
+    add_ticket::<O, Draw>(hall, seat)
 }
 
 /// Looks which ticket is served, and takes the object where it is this one.
@@ -44,7 +67,7 @@ pub(crate) fn raise<O: Object, M: Asked<O::Question, O::Answer>>(
     ensures at { seat.new.table_id ≡ seat.old.table_id }
     ensures raised { raised O.Law.rules O.state M.asked seat.old.me seat.new.me }
 {
-    hall.fetch_add::<Raise<M>>(seat, 1, 1);
+    add_call::<O, Raise<M>>(hall, seat);
 }
 
 /// Gives asks to a new caller.
