@@ -1,0 +1,13 @@
+//! Who calls: clients with tokens, and the Hawk scheme of HTTP authentication (version 1, the `Authorization` header).
+//!
+//! A client signs its request with a MAC under its token. The farm looks the client up, makes the MAC again, and answers with
+//! the scopes of the caller, or with the first condition that fails.
+#![tactic(auto)]
+
+mod hmac;
+mod macs;
+mod payload;
+
+pub use hmac::hmac_sha256;
+pub use macs::{Parts, mac};
+pub use payload::payload_hash;
