@@ -4,10 +4,14 @@
 //! the scopes of the caller, or with the first condition that fails.
 #![tactic(auto)]
 
+mod attributes;
+mod header;
 mod hmac;
 mod macs;
 mod payload;
+mod spaces;
 
+pub use header::{HawkHeader, HeaderFault};
 pub use hmac::hmac_sha256;
 pub use macs::{Parts, mac};
 pub use payload::payload_hash;

@@ -1,12 +1,13 @@
 //! The hash of a body.
-ghost use Rattle.std.specs.Prelude.{◌≡◌, ◌==◌, ℕ, List, ◌++◌, map, reverse};
+ghost use Rattle.std.specs.Prelude.{◌≡◌, ◌==◌, ℕ, List, ◌++◌, map};
 ghost use Rattle.std.specs.Char.{to_ascii_lowercase};
 ghost use Rattle.std.specs.List.{before_first};
 ghost use Rattle.std.specs.Option.{option_copied};
 ghost use Rattle.sha2.specs.Hashers.{Holds256};
-ghost use Rattle.hawk_auth.specs.Mac.{payload_hash_of, line, or_empty, skip_spaces, trimmed};
+ghost use Rattle.hawk_auth.specs.Mac.{payload_hash_of, line, or_empty, trimmed};
 
 use crate::hmac::base64_of;
+use crate::spaces::trim;
 use sha2::{Digest, Sha256};
 
 /// The hash of a body, in base64: SHA-256 of `hawk.1.payload`, the content type before any `;`, in lower case and without spaces
@@ -66,32 +67,4 @@ fn before_semicolon(text: &[u8]) -> &[u8]
         }
     }
     text
-}
-
-fn trim(text: &[u8]) -> &[u8]
-    ensures { result.now ≡ trimmed text.now }
-{
-    trim_end(skip_spaces(text))
-}
-
-/// The text without the spaces at its front.
-fn skip_spaces(text: &[u8]) -> &[u8]
-    ensures { result.now ≡ skip_spaces text.now }
-{
-    let mut start = 0;
-    while start < text.len() && text[start] == b' ' {
-        start += 1;
-    }
-    &text[start..]
-}
-
-/// The text without the spaces at its end.
-fn trim_end(text: &[u8]) -> &[u8]
-    ensures { result.now ≡ reverse (skip_spaces (reverse text.now)) }
-{
-    let mut end = text.len();
-    while end > 0 && text[end - 1] == b' ' {
-        end -= 1;
-    }
-    &text[..end]
 }
