@@ -5,12 +5,16 @@
 #![tactic(auto)]
 
 mod attributes;
+mod book;
+mod client;
 mod header;
 mod hmac;
 mod macs;
 mod payload;
 mod spaces;
 
+pub use book::{BookFault, ClientBook};
+pub use client::{Client, has_client_form, is_client_id, is_token};
 pub use header::{HawkHeader, HeaderFault};
 pub use hmac::hmac_sha256;
 pub use macs::{Parts, mac};
