@@ -1,2 +1,4 @@
 pub mod AttributeLemmas
 pub mod HeaderLemmas
+pub mod PlaceLemmas
+pub mod RepeatLemmas

@@ -1,5 +1,5 @@
 -- Clients, as they are written into the farm's settings (Taskcluster reference, "Clients"; the two forms are this project's own).
-use Rattle.std.specs.Prelude.{◌≡◌, ◌≢◌, ℕ, ◌<◌, ◌≤◌, ◌⊎◌, Bool, List, [], ◌∷◌, ◌++◌, map, take, length, codes, All, AllPairs, Contains, Some, slice_get}
+use Rattle.std.specs.Prelude.{◌≡◌, ◌≢◌, ℕ, ◌<◌, ◌≤◌, ◌⊎◌, Bool, List, [], ◌∷◌, ◌++◌, map, take, length, All, AllPairs, Contains, Some, slice_get}
 use Rattle.std.specs.Char.{IsAsciiAlphanumeric}
 use Rattle.scope_sets.specs.Scopes.{HasHandedInForm}
 use Rattle.hawk_auth.specs.declared.client.Client.{Client}
@@ -24,11 +24,12 @@ clients_data clients = map client_data clients
 
 -- the class `[A-Za-z0-9!@/:.+|_-]`
 abbrev pub IsIdByte : ℕ → Type 0
-IsIdByte b = IsAsciiAlphanumeric b ⊎ Contains (codes "!@/:.+|_-") b
+IsIdByte b =
+    IsAsciiAlphanumeric b ⊎ (b ≡ 33) ⊎ (b ≡ 64) ⊎ (b ≡ 47) ⊎ (b ≡ 58) ⊎ (b ≡ 46) ⊎ (b ≡ 43) ⊎ (b ≡ 124) ⊎ (b ≡ 95) ⊎ (b ≡ 45)
 
 -- the class `[A-Za-z0-9_-]`
 abbrev pub IsTokenByte : ℕ → Type 0
-IsTokenByte b = IsAsciiAlphanumeric b ⊎ Contains (codes "_-") b
+IsTokenByte b = IsAsciiAlphanumeric b ⊎ (b ≡ 95) ⊎ (b ≡ 45)
 
 -- so many bytes of a class, at least and at most
 pub record HasForm (least most : ℕ) (Class : ℕ → Type 0) (text : List ℕ) : Type 0 where

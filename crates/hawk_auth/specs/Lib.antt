@@ -4,4 +4,6 @@ pub mod Attributes
 pub mod Found
 pub mod Clients
 pub mod Places
+pub mod Ext
+pub mod Read
 pub mod Hashing

@@ -76,7 +76,9 @@ impl ClientBook {
             (λ c. IsClientOf self.now id.now (client_data c.now)) }
         ensures book { IsBook self.now }
     {
-        let place = self.places.get(id)?;
+        let Some(place) = self.places.get(id) else {
+            return None;
+        };
         Some(&self.clients[*place])
     }
 }
@@ -106,7 +108,10 @@ fn places_of(alloc: Global, clients: &[Client]) -> Result<BTreeMap<String, usize
         if let Some(earlier) = places.get(client.id.as_str()) {
             return Err(BookFault::DuplicateClient(*earlier, later));
         }
-        places.insert(String::from_str(alloc, client.id.as_str())?, later)?;
+        let id = String::from_str(alloc, client.id.as_str())?;
+        let Ok(_) = places.insert(id, later) else {
+            return Err(BookFault::NoMemory);
+        };
     }
     Ok(places)
 }

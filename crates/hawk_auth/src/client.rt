@@ -19,18 +19,32 @@ pub struct Client {
     pub disabled: bool,
 }
 
+fn is_id_byte(b: u8) -> bool
+    ensures { IsTrue result ↔ IsIdByte b }
+{
+    b.is_ascii_alphanumeric()
+        || b == b'!'
+        || b == b'@'
+        || b == b'/'
+        || b == b':'
+        || b == b'.'
+        || b == b'+'
+        || b == b'|'
+        || b == b'_'
+        || b == b'-'
+}
+
 fn are_id_bytes(text: &[u8]) -> bool
     ensures { IsTrue result ↔ All IsIdByte text.now }
 {
-    text.iter()
-        .all(|b| b.is_ascii_alphanumeric() || b"!@/:.+|_-".contains(b))
+    text.iter().all(|b| is_id_byte(*b))
 }
 
 fn are_token_bytes(text: &[u8]) -> bool
     ensures { IsTrue result ↔ All IsTokenByte text.now }
 {
     text.iter()
-        .all(|b| b.is_ascii_alphanumeric() || b"_-".contains(b))
+        .all(|b| b.is_ascii_alphanumeric() || *b == b'_' || *b == b'-')
 }
 
 /// Whether a text is 1 to 128 of `[A-Za-z0-9!@/:.+|_-]`, as a client's id is.

@@ -7,6 +7,7 @@
 mod attributes;
 mod book;
 mod client;
+mod ext;
 mod header;
 mod hmac;
 mod macs;
