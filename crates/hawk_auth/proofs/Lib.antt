@@ -2,3 +2,4 @@ pub mod AttributeLemmas
 pub mod HeaderLemmas
 pub mod PlaceLemmas
 pub mod RepeatLemmas
+pub mod ExtLemmas

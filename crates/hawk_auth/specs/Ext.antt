@@ -3,7 +3,7 @@ use Rattle.std.specs.Prelude.{◌≡◌, ℕ, List, [], codes, map, All, Option,
 use Rattle.base64.specs.GeneralPurpose.{encode_of, IsBytes}
 use Rattle.base64.specs.Engines.{standard}
 use Rattle.scope_sets.specs.Scopes.{IsPrintable, HasHandedInForm}
-use Rattle.farm_text.specs.Document.{Document, Members, text, array, object, items_of, get, data_of}
+use Rattle.farm_text.specs.Document.{Document, text, array, object, items_of, get, data_of}
 use Rattle.farm_text.specs.Reading.{IsJson, unwhole}
 
 -- a scope that may be handed in
@@ -28,10 +28,14 @@ pub record IsDocument (bytes : List ℕ) (d : Document) : Type 0 where
   pub json : IsJson bytes (data_of d)
   pub whole : unwhole (data_of d) ≡ []
 
+-- the document is a JSON object
+abbrev pub IsObject : Document → Type 0
+IsObject (object members) = Unit {0}
+IsObject d = ⊥
+
 -- the document is an object without a certificate, and allows this
 pub record Allows (d : Document) (allowed : Option (List (List ℕ))) : Type 0 where
-  pub members : Members
-  pub is : d ≡ object members
+  pub is_object : IsObject d
   pub free : get (codes "certificate") d ≡ None
   pub scopes : AllowsOnly (get (codes "authorizedScopes") d) allowed
 

@@ -1,15 +1,15 @@
 //! The ext of a header.
-ghost use Rattle.std.specs.Prelude.{◌≡◌, ◌≢◌, ℕ, List, [], IfOk, MatchBool, MatchOption, All};
+ghost use Rattle.std.specs.Prelude.{◌≡◌, ◌≢◌, ◌↔◌, ℕ, List, [], IfOk, IsTrue, MatchOption, All};
 ghost use Rattle.base64.specs.Engines.{standard};
 ghost use Rattle.base64.specs.GeneralPurpose.{encode_of, IsBytes};
-ghost use Rattle.farm_text.specs.Document.{Document, Members, array, items_of, object, text as plain_text};
+ghost use Rattle.farm_text.specs.Document.{Document, array, items_of, text as plain_text};
 ghost use Rattle.farm_text.specs.Doc.{document, documents};
-ghost use Rattle.hawk_auth.specs.Ext.{Allows, AreScopes, IsDocument, IsExt, IsScope};
+ghost use Rattle.hawk_auth.specs.Ext.{Allows, AreScopes, IsDocument, IsExt, IsObject, IsScope};
 ghost use Rattle.hawk_auth.specs.Read.{IsAllowedBy};
 
 use base64::DecodeAllocError;
 use base64::engine::general_purpose::STANDARD;
-use farm_text::{Doc, ReadFault};
+use farm_text::{Doc, ReadFault, a_text_is_of_one_document};
 use scope_sets::Scope;
 use std::alloc::{AllocError, Global};
 
@@ -41,7 +41,8 @@ pub(crate) fn read_ext(alloc: Global, ext: &str) -> Result<Allowed, AllocError>
 fn decoded(alloc: Global, text: &str) -> Result<Option<Vec<u8>>, AllocError>
     ensures { IfOk result (λ found. MatchOption found
         ((bytes : List ℕ) → IsBytes bytes → text.now ≢ encode_of standard bytes)
-        (λ v. IsBytes v.items × (text.now ≡ encode_of standard v.items))) }
+        (λ v. IsBytes v.items × (text.now ≡ encode_of standard v.items)
+        × ((bytes : List ℕ) → IsBytes bytes → text.now ≡ encode_of standard bytes → bytes ≡ v.items))) }
 {
     match STANDARD.decode(alloc, text.as_bytes()) {
         Ok(bytes) => Ok(Some(bytes)),
@@ -53,8 +54,10 @@ fn decoded(alloc: Global, text: &str) -> Result<Option<Vec<u8>>, AllocError>
 /// The document that the bytes are.
 fn document_of(alloc: Global, bytes: &[u8]) -> Result<Option<Doc>, AllocError>
     ensures { IfOk result (λ found. MatchOption found ((d : Document) → ¬ IsDocument bytes.now d)
-        (λ doc. IsDocument bytes.now (document doc))) }
+        (λ doc. IsDocument bytes.now (document doc)
+        × ((d : Document) → IsDocument bytes.now d → d ≡ document doc))) }
 {
+    a_text_is_of_one_document();
     match Doc::read(alloc, bytes) {
         Ok(doc) => Ok(Some(doc)),
         Err(ReadFault::NotJson) => Ok(None),
@@ -67,21 +70,23 @@ fn document_of(alloc: Global, bytes: &[u8]) -> Result<Option<Doc>, AllocError>
 fn allowed_by(alloc: Global, doc: &Doc) -> Result<Allowed, AllocError>
     ensures { IfOk result (IsAllowedBy (Allows (document doc.now))) }
 {
-    if !is_object(doc) || doc.get("certificate").is_some() {
+    if !is_object(doc) {
         return Ok(Allowed::Off);
     }
-    match doc.get("authorizedScopes") {
-        None => Ok(Allowed::Everything),
-        Some(value) => match scopes_in(alloc, value)? {
-            Some(scopes) => Ok(Allowed::Only(scopes)),
-            None => Ok(Allowed::Off),
-        },
+    if doc.get("certificate").is_some() {
+        return Ok(Allowed::Off);
+    }
+    let Some(value) = doc.get("authorizedScopes") else {
+        return Ok(Allowed::Everything);
+    };
+    match scopes_in(alloc, value)? {
+        Some(scopes) => Ok(Allowed::Only(scopes)),
+        None => Ok(Allowed::Off),
     }
 }
 
 fn is_object(doc: &Doc) -> bool
-    ensures { MatchBool result ((members : Members) × (document doc.now ≡ object members))
-        ((members : Members) → document doc.now ≢ object members) }
+    ensures { IsTrue result ↔ IsObject (document doc.now) }
 {
     matches!(doc, Doc::Map(_))
 }
@@ -98,10 +103,10 @@ fn scopes_in(alloc: Global, value: &Doc) -> Result<Option<Vec<Scope>>, AllocErro
     }
 }
 
-fn scopes_of(alloc: Global, items: &Vec<Doc>) -> Result<Option<Vec<Scope>>, AllocError>
+fn scopes_of(alloc: Global, items: &[Doc]) -> Result<Option<Vec<Scope>>, AllocError>
     ensures { IfOk result (λ found. MatchOption found
-        ((scopes : List (List ℕ)) → ¬ AreScopes (array (items_of (documents items.now.items))) scopes)
-        (λ v. AreScopes (array (items_of (documents items.now.items))) v.items)) }
+        ((scopes : List (List ℕ)) → ¬ AreScopes (array (items_of (documents items.now))) scopes)
+        (λ v. AreScopes (array (items_of (documents items.now))) v.items)) }
 {
     let mut scopes = Vec::with_capacity(alloc, items.len())?;
     for item in items {
