@@ -3,3 +3,4 @@ pub mod HeaderLemmas
 pub mod PlaceLemmas
 pub mod RepeatLemmas
 pub mod ExtLemmas
+pub mod AccessLemmas

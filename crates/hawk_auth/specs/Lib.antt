@@ -5,5 +5,8 @@ pub mod Found
 pub mod Clients
 pub mod Places
 pub mod Ext
+pub mod Access
+pub mod Admitted
+pub mod Signed
 pub mod Read
 pub mod Hashing

@@ -6,17 +6,24 @@
 
 mod attributes;
 mod book;
+mod check;
 mod client;
 mod ext;
 mod header;
 mod hmac;
 mod macs;
 mod payload;
+mod signing;
 mod spaces;
 
 pub use book::{BookFault, ClientBook};
+pub use check::{AuthFault, AuthHead};
 pub use client::{Client, has_client_form, is_client_id, is_token};
 pub use header::{HawkHeader, HeaderFault};
 pub use hmac::hmac_sha256;
 pub use macs::{Parts, mac};
 pub use payload::payload_hash;
+pub use signing::sign;
+
+#[cfg(test)]
+mod tests;
