@@ -4,3 +4,4 @@ pub mod PlaceLemmas
 pub mod RepeatLemmas
 pub mod ExtLemmas
 pub mod AccessLemmas
+pub mod LawLemmas

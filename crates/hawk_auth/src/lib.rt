@@ -11,6 +11,7 @@ mod client;
 mod ext;
 mod header;
 mod hmac;
+pub mod laws;
 mod macs;
 mod payload;
 mod signing;
