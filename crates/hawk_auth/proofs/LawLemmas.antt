@@ -56,7 +56,7 @@ client_once clients id c d book ((i, lt, here), e) ((j, low, there), f) = elim (
   | inr more ↦ (elim (cases_lt j i) [
     | inl less ↦ absurd (apart clients book.apart j i d c less lt there here (f ∙ sym e))
     | inr other ↦
-      let same : i ≡ j = omega (arith, more, other) in
-      sym here ∙ ap (λ (n : ℕ). get_or clients n c) same ∙ get_or_default clients j c d low ∙ there
+        let same : i ≡ j = omega (arith, more, other) in
+        sym here ∙ ap (λ (n : ℕ). get_or clients n c) same ∙ get_or_default clients j c d low ∙ there
   ])
 ]

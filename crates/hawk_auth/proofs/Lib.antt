@@ -5,3 +5,4 @@ pub mod RepeatLemmas
 pub mod ExtLemmas
 pub mod AccessLemmas
 pub mod LawLemmas
+pub mod SignLemmas

@@ -30,9 +30,9 @@ is_name name =
     bytes_eq name (codes "id") || bytes_eq name (codes "ts") || bytes_eq name (codes "nonce")
     || bytes_eq name (codes "mac") || bytes_eq name (codes "hash") || bytes_eq name (codes "ext")
 
--- what may stand in a value, which no quote does: printable ASCII without a backslash
+-- what may stand in a value: printable ASCII without a quote and a backslash
 abbrev pub IsValueByte : ℕ → Type 0
-IsValueByte b = IsPrintable b × (b ≢ 92)
+IsValueByte b = IsPrintable b × (b ≢ 34) × (b ≢ 92)
 
 -- the text begins with an attribute: its name, `=` and its value in quotes; and goes on with this
 pub record BeginsWith (text : List ℕ) (a : AttributeData) (after : List ℕ) : Type 0 where

@@ -58,13 +58,13 @@ fn is_name(name: &[u8]) -> bool
         || is_called(name, "ext")
 }
 
-/// Whether each byte is printable ASCII and no backslash.
+/// Whether each byte is printable ASCII, no quote and no backslash.
 pub(crate) fn is_plain(value: &[u8]) -> bool
     ensures { IsTrue result ↔ All IsValueByte value.now }
 {
     value
         .iter()
-        .all(|b| (b' '..=b'~').contains(b) && *b != b'\\')
+        .all(|b| (b' '..=b'~').contains(b) && *b != b'"' && *b != b'\\')
 }
 
 /// Whether an attribute may have this name and this value.

@@ -1,7 +1,8 @@
 //! HMAC-SHA-256 (RFC 2104), without memory.
-ghost use Rattle.std.specs.Prelude.{◌≡◌, ◌≤◌, ◌-◌, ℕ, List, [], ◌++◌, length, replicate};
+ghost use Rattle.std.specs.Prelude.{◌≡◌, ◌≤◌, ◌-◌, ℕ, List, [], ◌++◌, All, length, replicate};
 ghost use Rattle.base64.specs.Engines.{standard};
 ghost use Rattle.base64.specs.GeneralPurpose.{encode_of};
+ghost use Rattle.hawk_auth.specs.Header.{IsValueByte};
 ghost use Rattle.hawk_auth.specs.Hashing.{Authenticates};
 ghost use Rattle.hawk_auth.specs.Mac.{hmac, key_block, masked, line};
 
@@ -109,7 +110,8 @@ pub fn hmac_sha256(key: &[u8], message: &[u8]) -> [u8; 32]
 
 /// A digest in base64, with padding (RFC 4648).
 pub(crate) fn base64_of(digest: &[u8; 32]) -> [u8; 44]
-    ensures { result ≡ encode_of standard digest.now }
+    ensures value { result ≡ encode_of standard digest.now }
+    ensures plain { All IsValueByte result }
 {
     let mut text = [0u8; 44];
     let Ok(_) = STANDARD.encode_slice(digest, &mut text) else {

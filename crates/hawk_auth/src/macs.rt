@@ -1,7 +1,8 @@
 //! The MAC of a request.
-ghost use Rattle.std.specs.Prelude.{◌≡◌, ℕ, List, ◌++◌, map, decimal};
+ghost use Rattle.std.specs.Prelude.{◌≡◌, ℕ, List, ◌++◌, All, map, decimal};
 ghost use Rattle.std.specs.Char.{to_ascii_lowercase, to_ascii_uppercase};
 ghost use Rattle.std.specs.Option.{option_copied};
+ghost use Rattle.hawk_auth.specs.Header.{IsValueByte};
 ghost use Rattle.hawk_auth.specs.Hashing.{Authenticates};
 ghost use Rattle.hawk_auth.specs.Mac.{parts_data, mac_of, line, or_empty, signed_text};
 
@@ -31,7 +32,8 @@ pub struct Parts<'a> {
 /// The MAC of a request under the token, in base64: HMAC-SHA-256 of `hawk.1.header`, the ts, the nonce, the method in capitals, the
 /// target, the host in lower case, the port, the hash and the ext, each ended by a line feed, an absent one empty (Hawk, scheme 1).
 pub fn mac(parts: &Parts) -> [u8; 44]
-    ensures { result ≡ mac_of (parts_data parts.now) }
+    ensures value { result ≡ mac_of (parts_data parts.now) }
+    ensures plain { All IsValueByte result }
 {
     let hmac = signed(parts);
     base64_of(&hmac.finish())

@@ -1,8 +1,9 @@
 //! The header that signs a request.
 ghost use Rattle.std.specs.Prelude.{◌≡◌, ◌++◌, IfOk, IsUtf8, codes, string_bytes};
 ghost use Rattle.std.specs.Option.{option_copied};
+ghost use Rattle.hawk_auth.specs.Header.{IsHeader};
 ghost use Rattle.hawk_auth.specs.Mac.{parts_data, mac_of};
-ghost use Rattle.hawk_auth.specs.Signed.{attribute_text, header_text, next_text, optional_text};
+ghost use Rattle.hawk_auth.specs.Signed.{IsSignable, attribute_text, header_text, next_text, optional_text, signed_header};
 
 use crate::macs::{Parts, mac};
 use farm_text::Text;
@@ -10,8 +11,13 @@ use std::alloc::{AllocError, Global};
 use std::str;
 
 /// The value of the `Authorization` header that signs these parts, with the attributes in the order id, ts, nonce, hash, ext, mac.
+///
+/// `HawkHeader::read` reads these parts back, with the MAC, where their values are printable ASCII without `"` and `\` and not
+/// empty, and the ts is 1 to 12 digits.
 pub fn sign(alloc: Global, parts: &Parts) -> Result<Text, AllocError>
-    ensures { IfOk result (λ t. t ≡ header_text (parts_data parts.now)) }
+    ensures text { IfOk result (λ t. t ≡ header_text (parts_data parts.now)) }
+    ensures reads_back { IfOk result (λ t. IsSignable (parts_data parts.now)
+        → IsHeader t (signed_header (parts_data parts.now))) }
 {
     let mac = mac(parts);
     let Ok(mac) = str::from_utf8(&mac) else {

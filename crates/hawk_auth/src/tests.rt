@@ -102,7 +102,12 @@ fn name_of(access: &Result<ScopeSet, AuthFault>) -> &'static str {
 fn example(alloc: Global, header: &str, millis: u64, disabled: bool) -> Result<&'static str, Fail> {
     let book = book_of(
         alloc,
-        client(alloc, "dh37fgj492je", moment(millis + 1)?, disabled)?,
+        client(
+            alloc,
+            "dh37fgj492je",
+            moment(millis.saturating_add(1))?,
+            disabled,
+        )?,
     )?;
     let access = book.check(
         alloc,

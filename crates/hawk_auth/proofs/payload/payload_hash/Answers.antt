@@ -16,4 +16,4 @@ returns c =
     c.media_type.ensures ∙ ap (λ (t : List ℕ). trimmed (before_first (λ b. b == 59) t)) c.or_empty.ensures in
     let held = subst (λ (t : List ℕ). Holds256 c.add_line-2.new.hasher (line (codes "hawk.1.payload") ++ line (map to_ascii_lowercase t) ++ line c.args.body.now)) type_is
     (c.add_line-2.ensures _ (c.add_line_in_lower_case.ensures _ (c.add_line.ensures [] c.new-hasher.ensures))) in
-    c.base64_of.ensures ∙ ap (encode_of standard) (c.finalize.ensures _ held)
+    c.base64_of.ensures.value ∙ ap (encode_of standard) (c.finalize.ensures _ held)
