@@ -1,5 +1,5 @@
 -- The access of a caller, by the conditions in their order.
-use Rattle.std.proofs.Common.{◌≡◌, ◌≢◌, ◌⊎◌, inl, inr, ℕ, suc, ◌+◌, ◌-◌, ◌*◌, ◌^◌, ◌<◌, ◌≤◌, List, [], ◌∷◌, ◌++◌, length, take, get_or, refl, sym, ap, ◌∙◌, subst, arith, lit<, rules}
+use Rattle.std.proofs.Common.{◌≡◌, inl, inr, ℕ, ◌+◌, ◌-◌, ◌*◌, ◌^◌, ◌<◌, ◌≤◌, List, [], ◌∷◌, length, take, get_or, refl, sym, ap, ◌∙◌, subst, lit<, rules}
 use Rattle.std.specs.Prelude.{codes, map, Option, Some, None, Ok, Err}
 use Rattle.std.specs.Int.Digits.{number_from_digits}
 use Rattle.std.proofs.lemmas.List.{take_more, map_push}
@@ -11,11 +11,11 @@ use Rattle.base64.proofs.EngineFacts.{decode_of-encode_of}
 use Rattle.scope_sets.specs.Expressions.{Expression, missing, view}
 use Rattle.role_expand.specs.Roles.{RoleData}
 use Rattle.role_expand.specs.Closures.{IsClosure, HasMoreDerivable}
-use Rattle.farm_text.specs.Document.{Document, text, array, items_of, data_of, get}
+use Rattle.farm_text.specs.Document.{Document, text, data_of, get}
 use Rattle.farm_text.specs.Reading.{IsJson}
 use Rattle.hawk_auth.specs.Header.{HeaderData}
 use Rattle.hawk_auth.specs.Clients.{ClientData}
-use Rattle.hawk_auth.specs.Ext.{Allows, AllowsOnly, AreScopes, IsDocument, IsExt}
+use Rattle.hawk_auth.specs.Ext.{Allows, AllowsOnly, AreScopes, IsExt}
 use Rattle.hawk_auth.specs.Access.{Access, Expands, IsFirst, Limits, Refused, UnlessNoMemory, all_scopes, ext_conditions, own_scopes, seconds_of}
 use Rattle.hawk_auth.specs.Admitted.{within_conditions}
 use Rattle.hawk_auth.specs.declared.check.AuthFault.TheVariants.{BadHeader, UnknownClient, Disabled, Expired, Skew, BadMac, BadHash, BadExt, Oversteps, TooMany, NoMemory}

@@ -1,5 +1,5 @@
 -- A map from ids to places.
-use Rattle.std.proofs.Common.{String, ◌≡◌, ◌≢◌, ℕ, ◌+◌, ◌<◌, ◌⊎◌, inl, inr, Bool, true, false, cond, List, Some, None, Option, refl, sym, ap, ◌∙◌, subst, arith, ◌≤◌, length, take, get_or, length-take-le}
+use Rattle.std.proofs.Common.{◌≡◌, ◌≢◌, ℕ, ◌+◌, ◌<◌, ◌⊎◌, inl, inr, Bool, true, false, cond, List, Some, None, Option, refl, sym, ap, ◌∙◌, subst, arith, ◌≤◌, length, take, get_or, length-take-le}
 use Rattle.std.proofs.lemmas.Bool.{true≢false, cases_lt}
 use Rattle.std.proofs.lemmas.Slice.Eq.{bytes_eq-Decides}
 use Rattle.std.proofs.lemmas.List.{get_or-take}
@@ -7,7 +7,7 @@ use Rattle.std.proofs.lemmas.Option.{slice_get-get_or}
 use Rattle.std.specs.List.{All, slice_get}
 use Rattle.std.specs.Str.{bytes_eq}
 use Rattle.hawk_auth.specs.Clients.{ClientData}
-use Rattle.hawk_auth.specs.Places.{IsPlaceOf, HasPlaces}
+use Rattle.hawk_auth.specs.Places.{IsPlaceOf}
 
 either : (b : Bool) → (b ≡ true) ⊎ (b ≡ false)
 either true = inl refl

@@ -1,5 +1,5 @@
 -- What is signed is read back.
-use Rattle.std.proofs.Common.{◌≡◌, ◌≢◌, ℕ, suc, ◌<◌, ◌≤◌, ◌+◌, ◌*◌, ◌/◌, ◌%◌, Bool, true, ◌&&◌, List, [], ◌∷◌, ◌++◌, length, refl, sym, ap, ◌∙◌, subst, arith, rules, inl, append_assoc}
+use Rattle.std.proofs.Common.{◌≡◌, ◌≢◌, ℕ, ◌<◌, ◌+◌, ◌*◌, ◌/◌, ◌%◌, Bool, true, ◌&&◌, List, [], ◌∷◌, ◌++◌, length, refl, sym, ap, ◌∙◌, subst, arith, rules, inl, append_assoc}
 use Rattle.std.specs.Prelude.{All, IfSome, IsTrue, Option, Some, None, codes, not, nat_eq, nat_le, replicate, slice_index}
 use Rattle.std.proofs.lemmas.List.{append-nil}
 use Rattle.std.proofs.lemmas.List.Elements.{All-nil, All-cons, All-tail, All-weaker, All-append, All-replicate}
@@ -7,10 +7,9 @@ use Rattle.std.specs.Char.{IsAsciiDigit}
 use Rattle.base64.specs.Rfc4648.{encode_symbols, padding_len}
 use Rattle.base64.specs.GeneralPurpose.{encode_of}
 use Rattle.base64.specs.Engines.{standard}
-use Rattle.base64.specs.Tables.{all_below}
 use Rattle.base64.proofs.Tables.{all_below_at}
 use Rattle.sha2.proofs.Facts256.{length-sha256}
-use Rattle.hawk_auth.specs.Header.{AttributeData, BeginsWith, GoesOn, HeaderData, IsAttributes, IsHeader, IsOptional, IsTs, IsValueByte, Says, is_name}
+use Rattle.hawk_auth.specs.Header.{AttributeData, BeginsWith, GoesOn, HeaderData, IsHeader, IsTs, IsValueByte, Says, is_name}
 use Rattle.hawk_auth.specs.Mac.{PartsData, hmac, mac_of, signed_text, skip_spaces}
 use Rattle.hawk_auth.specs.Signed.{IsSignable, IsValue, attribute_text, header_text, next_text, optional_text, signed_header}
 

@@ -1,5 +1,5 @@
 -- Clients, as they are written into the farm's settings (Taskcluster reference, "Clients"; the two forms are this project's own).
-use Rattle.std.specs.Prelude.{◌≡◌, ◌≢◌, ℕ, ◌<◌, ◌≤◌, ◌⊎◌, Bool, List, [], ◌∷◌, ◌++◌, map, take, length, All, AllPairs, Contains, Some, slice_get}
+use Rattle.std.specs.Prelude.{◌≡◌, ◌≢◌, ℕ, ◌<◌, ◌≤◌, ◌⊎◌, Bool, List, map, take, length, All, AllPairs, Contains, Some, slice_get}
 use Rattle.std.specs.Char.{IsAsciiAlphanumeric}
 use Rattle.scope_sets.specs.Scopes.{HasHandedInForm}
 use Rattle.hawk_auth.specs.declared.client.Client.{Client}

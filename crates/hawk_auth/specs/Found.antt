@@ -1,5 +1,5 @@
 -- What is found of a name among attributes; for private clauses.
-use Rattle.std.specs.Prelude.{◌≡◌, ℕ, ◌<◌, List, [], ◌∷◌, length, Option, Some, None}
+use Rattle.std.specs.Prelude.{◌≡◌, ℕ, ◌<◌, List, [], ◌∷◌, length, Some, None}
 use Rattle.hawk_auth.specs.Header.{IsOptional}
 use Rattle.hawk_auth.specs.declared.header.Found.{Found}
 use Rattle.hawk_auth.specs.declared.header.Found.TheVariants.{Never, Once, Again}

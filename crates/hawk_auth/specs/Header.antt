@@ -1,7 +1,6 @@
 -- The Authorization header of Hawk (scheme 1, "Authorization: Hawk .."), as this project reads it: spaces alone, and no others of its attributes.
 use Rattle.std.specs.Prelude.{◌≡◌, ◌≢◌, ℕ, ◌<◌, ◌≤◌, ◌⊎◌, Bool, ◌||◌, IsTrue, List, [], ◌∷◌, ◌++◌, map, filter, take, drop, length, codes, All, Option, Some, None}
 use Rattle.std.specs.Char.{to_ascii_lowercase, IsAsciiDigit}
-use Rattle.std.specs.Int.Digits.{number_from_digits}
 use Rattle.std.specs.Option.{option_copied}
 use Rattle.std.specs.Str.{bytes_eq}
 use Rattle.scope_sets.specs.Scopes.{IsPrintable}

@@ -1,7 +1,5 @@
 -- What is read of an ext; for private clauses.
-use Rattle.std.specs.Prelude.{◌≡◌, ℕ, List, Option, Some, None}
-use Rattle.farm_text.specs.Document.{Document}
-use Rattle.hawk_auth.specs.Ext.{Allows, IsExt}
+use Rattle.std.specs.Prelude.{ℕ, List, Option, Some, None}
 use Rattle.hawk_auth.specs.declared.ext.Allowed.{Allowed}
 use Rattle.hawk_auth.specs.declared.ext.Allowed.TheVariants.{Everything, Only, Off}
 

@@ -1,5 +1,5 @@
 -- The text of the Authorization header that signs a request (Hawk, scheme 1).
-use Rattle.std.specs.Prelude.{ℕ, ◌<◌, length, All, IfSome, List, [], ◌∷◌, ◌++◌, codes, Option, Some, None}
+use Rattle.std.specs.Prelude.{ℕ, ◌<◌, length, All, IfSome, List, [], ◌++◌, codes, Option, Some, None}
 use Rattle.hawk_auth.specs.Header.{HeaderData, IsTs, IsValueByte}
 use Rattle.hawk_auth.specs.Mac.{PartsData, mac_of}
 

@@ -1,4 +1,4 @@
-use Rattle.std.proofs.Common.{◌≡◌, ◌≢◌, ℕ, ◌<◌, get_or}
+use Rattle.std.proofs.Common.{◌≢◌, ℕ, ◌<◌, get_or}
 use Rattle.hawk_auth.proofs.attributes.cut.Given as goal
 
 abbrev pub invariant-loop-place : goal.invariant-loop-place

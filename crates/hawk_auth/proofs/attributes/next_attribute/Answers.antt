@@ -1,4 +1,4 @@
-use Rattle.std.proofs.Common.{◌≡◌, ◌≢◌, ◌<◌, ◌≤◌, List, ℕ, [], length, ap, sym, ◌∙◌, subst, arith, rules, ◌∷◌}
+use Rattle.std.proofs.Common.{◌≡◌, ◌<◌, ◌≤◌, List, ℕ, [], length, ap, sym, ◌∙◌, subst, arith, ◌∷◌}
 use Rattle.std.proofs.lemmas.Grind.{common_steps}
 use Rattle.hawk_auth.specs.Header.{AttributeData, attribute_data, IsAttributes}
 use Rattle.hawk_auth.specs.Mac.{skip_spaces}

@@ -1,4 +1,4 @@
-use Rattle.std.proofs.Common.{◌≡◌, ℕ, List, ◌++◌, length}
+use Rattle.std.proofs.Common.{◌≡◌, List, ◌++◌, length}
 use Rattle.hawk_auth.specs.Header.{AttributeData, attributes_data, IsAttributes}
 use Rattle.hawk_auth.proofs.attributes.read_attributes.Given as goal
 

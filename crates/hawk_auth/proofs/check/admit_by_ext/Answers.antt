@@ -1,4 +1,4 @@
-use Rattle.std.proofs.Common.{◌≡◌, List, ℕ, ap, sym, ◌∙◌, subst}
+use Rattle.std.proofs.Common.{List, ℕ, ◌∙◌, subst}
 use Rattle.role_expand.specs.Roles.{RoleData}
 use Rattle.hawk_auth.specs.Header.{HeaderData, header_data}
 use Rattle.hawk_auth.specs.Clients.{ClientData, client_data}

@@ -1,8 +1,6 @@
-use Rattle.std.proofs.Common.{ℕ, List, subst, sym}
-use Rattle.std.specs.Prelude.{IfOk}
+use Rattle.std.proofs.Common.{ℕ, List}
 use Rattle.farm_text.specs.Document.{Document}
 use Rattle.farm_text.specs.Doc.{document}
-use Rattle.hawk_auth.specs.Ext.{IsDocument}
 use Rattle.hawk_auth.proofs.ExtLemmas.{ext_allows, ext_of_none, on_ok}
 use Rattle.hawk_auth.proofs.ext.read_ext.Goals as goal
 

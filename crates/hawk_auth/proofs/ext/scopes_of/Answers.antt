@@ -1,9 +1,7 @@
-use Rattle.std.proofs.Common.{◌≡◌, List, ap, sym, ◌∙◌, arith, subst, take, length}
-use Rattle.std.specs.Prelude.{map}
+use Rattle.std.proofs.Common.{◌≡◌, List, ap, sym, ◌∙◌, take}
 use Rattle.std.proofs.lemmas.List.{take_all}
-use Rattle.farm_text.specs.Document.{Document, array, items_of, text}
+use Rattle.farm_text.specs.Document.{Document, array, items_of}
 use Rattle.farm_text.specs.Doc.{documents}
-use Rattle.farm_text.specs.declared.doc.Doc.{Doc}
 use Rattle.hawk_auth.proofs.ExtLemmas.{not_scopes_at, one_more, formed_more}
 use Rattle.hawk_auth.proofs.ext.scopes_of.Goals as goal
 

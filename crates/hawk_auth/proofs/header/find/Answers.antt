@@ -1,4 +1,4 @@
-use Rattle.std.proofs.Common.{◌≡◌, ◌+◌, [], ℕ, List, take, sym, subst, ◌∙◌}
+use Rattle.std.proofs.Common.{◌+◌, ℕ, List, take, sym, subst, ◌∙◌}
 use Rattle.hawk_auth.specs.Found.{IsFound}
 use Rattle.hawk_auth.specs.Header.{attributes_data, values_of}
 use Rattle.hawk_auth.specs.declared.attributes.Attribute.{Attribute}

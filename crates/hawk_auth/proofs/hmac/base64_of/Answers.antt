@@ -1,9 +1,7 @@
-use Rattle.std.proofs.Common.{◌≡◌, ◌<◌, ℕ, List, length, get_or, sym, subst, arith, rules}
+use Rattle.std.proofs.Common.{◌<◌, ℕ, List, sym, subst, arith, rules}
 use Rattle.std.specs.List.{All}
 use Rattle.std.proofs.lemmas.Grind.{common_steps}
 use Rattle.std.proofs.lemmas.List.{get_or_default}
-use Rattle.base64.specs.Engines.{standard}
-use Rattle.base64.specs.GeneralPurpose.{encode_of}
 use Rattle.hawk_auth.specs.Header.{IsValueByte}
 use Rattle.hawk_auth.proofs.SignLemmas.{plain_text}
 use Rattle.hawk_auth.proofs.hmac.base64_of.Goals as goal

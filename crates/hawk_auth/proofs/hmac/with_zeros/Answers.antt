@@ -1,8 +1,7 @@
-use Rattle.std.proofs.Common.{◌≡◌, ◌-◌, ◌++◌, ◌+◌, List, ℕ, length, drop, ap, sym, ◌∙◌, arith, subst, take}
+use Rattle.std.proofs.Common.{◌≡◌, ◌-◌, ◌++◌, ◌+◌, List, ℕ, length, drop, ap, ◌∙◌, arith}
 use Rattle.std.specs.Prelude.{replicate}
 use Rattle.std.proofs.lemmas.List.{drop-replicate}
 use Rattle.std.proofs.lemmas.List.Edits.{paste_all}
-use lib.Seq.{paste}
 use Rattle.hawk_auth.proofs.hmac.with_zeros.Goals as goal
 
 pub returns : goal.returns

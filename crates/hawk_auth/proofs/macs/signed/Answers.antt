@@ -1,6 +1,6 @@
 use Rattle.std.proofs.Common.{ℕ, List, [], subst}
 use Rattle.hawk_auth.specs.Hashing.{Authenticates}
-use Rattle.hawk_auth.specs.Mac.{PartsData, parts_data}
+use Rattle.hawk_auth.specs.Mac.{parts_data}
 use Rattle.hawk_auth.proofs.macs.signed.Goals as goal
 
 pub returns : goal.returns

@@ -1,9 +1,9 @@
-use Rattle.std.proofs.Common.{◌≡◌, ◌<◌, ℕ, List, Some, None, length, get_or, arith, sym, ap, ◌∙◌, subst}
+use Rattle.std.proofs.Common.{◌≡◌, ◌<◌, ℕ, List, Some, length, get_or, arith, sym, ap, ◌∙◌, subst}
 use Rattle.std.proofs.lemmas.List.{length-map}
 use Rattle.std.proofs.lemmas.Option.{slice_get-get_or}
 use Rattle.std.specs.List.{All, Contains, slice_get}
 use Rattle.std.specs.Prelude.{◌≢◌}
-use Rattle.hawk_auth.specs.Clients.{ClientData, client_data, clients_data, IsClientOf}
+use Rattle.hawk_auth.specs.Clients.{ClientData, client_data, clients_data}
 use Rattle.hawk_auth.specs.Places.{IsPlaceOf}
 use Rattle.hawk_auth.proofs.PlaceLemmas.{get_mapped, at}
 use Rattle.hawk_auth.proofs.book.ClientBook.find.Goals as goal

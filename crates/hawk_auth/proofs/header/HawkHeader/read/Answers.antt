@@ -1,4 +1,4 @@
-use Rattle.std.proofs.Common.{◌≡◌, List, ℕ, subst, sym, ap, ◌∙◌}
+use Rattle.std.proofs.Common.{List, subst, sym}
 use Rattle.hawk_auth.specs.Header.{AttributeData, attributes_data, IsAttributes, Says}
 use Rattle.hawk_auth.specs.Mac.{skip_spaces}
 use Rattle.hawk_auth.specs.declared.attributes.Attribute.{Attribute}
