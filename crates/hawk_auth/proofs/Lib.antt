@@ -6,3 +6,4 @@ pub mod ExtLemmas
 pub mod AccessLemmas
 pub mod LawLemmas
 pub mod SignLemmas
+pub mod OneAccessLemmas

@@ -160,3 +160,8 @@ HasAccess clients roles head now access = HasAccessBy clients roles head now hea
 abbrev pub UnlessNoMemory : (Access → Type 0) → Access → Type 0
 UnlessNoMemory Is (Err NoMemory) = Unit {0}
 UnlessNoMemory Is access = Is access
+
+-- the two are one access: the same, or both tell that the same is missing
+abbrev pub IsSameAccess : Access → Access → Type 0
+IsSameAccess a b =
+    (a ≡ b) ⊎ ((x : Expr) × (y : Expr) × (a ≡ Err (Oversteps x)) × (b ≡ Err (Oversteps y)) × (view x ≡ view y))
