@@ -109,12 +109,12 @@ fn check(alloc: Global, count: u32) -> Option<bool> {
     Some(all)
 }
 
-/// A token, a pad and a message of 143 bytes, a pad and a digest, and a body with its two lines, from bytes of the digest before.
+/// A token, a pad and a message of 133 bytes, a pad and a digest, and a body with its two lines, from bytes of the digest before.
 fn hashes(count: u32) -> bool {
     let mut seed = 1u8;
     for _ in 0..count {
         let token = Sha256::digest([seed; 66].as_slice());
-        let inner = Sha256::digest([token[0]; 207].as_slice());
+        let inner = Sha256::digest([token[0]; 197].as_slice());
         let outer = Sha256::digest([inner[0]; 96].as_slice());
         let payload = Sha256::digest([outer[0]; 1057].as_slice());
         seed = payload[0];
