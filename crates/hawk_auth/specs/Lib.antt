@@ -1,0 +1,12 @@
+pub mod Mac
+pub mod Header
+pub mod Attributes
+pub mod Found
+pub mod Clients
+pub mod Places
+pub mod Ext
+pub mod Access
+pub mod Admitted
+pub mod Signed
+pub mod Read
+pub mod Hashing
