@@ -1,0 +1,5 @@
+pub mod Held
+pub mod Dues
+pub mod Waits
+pub mod Places
+pub mod Firsts
