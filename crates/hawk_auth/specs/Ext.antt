@@ -30,7 +30,7 @@ pub record IsDocument (bytes : List ℕ) (d : Document) : Type 0 where
 
 -- the document is a JSON object
 abbrev pub IsObject : Document → Type 0
-IsObject (object members) = Unit {0}
+IsObject (object found) = Unit {0}
 IsObject d = ⊥
 
 -- the document is an object without a certificate, and allows this
