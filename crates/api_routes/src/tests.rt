@@ -2,7 +2,6 @@
 use super::*;
 use farm_machine::question::{BodyFault, Call, Caller, Parameter};
 use farm_machine::reply::Reply;
-use farm_text::Text;
 use http_wire::{Bytes, Message, Wire};
 use std::alloc::{AllocError, Global};
 use std::test::Fail;
@@ -25,25 +24,38 @@ fn message(
     })
 }
 
-/// A call, as a word.
-fn word_of(alloc: Global, call: Call) -> Result<Text, AllocError> {
-    match call {
-        Call::NoRoute(name) => Ok(name),
-        Call::BadParameter(Parameter::TaskId) => Text::from_str(alloc, "taskId"),
-        Call::BadBody(BodyFault::NotJson) => Text::from_str(alloc, "no JSON"),
-        Call::BadBody(BodyFault::NotWhole(path)) => Ok(path),
-        Call::BadBody(BodyFault::NoDefinition(fault)) => Ok(fault.key),
-        Call::Ping => Text::from_str(alloc, "ping"),
-        Call::Status(id) => id.to_text(alloc),
-        Call::CreateTask(creation) => creation.id.to_text(alloc),
+/// A fault of a body, as a word.
+fn fault_of<'a>(fault: &'a BodyFault) -> &'a str {
+    match fault {
+        BodyFault::NotJson => "no JSON",
+        BodyFault::NotWhole(path) => path.as_str(),
+        BodyFault::NoDefinition(fault) => fault.key.as_str(),
     }
 }
 
-/// The call of a message, as a word.
-fn called(alloc: Global, method: &[u8], target: &[u8], body: &[u8]) -> Result<Text, AllocError> {
+/// Whether a call is the one of this word.
+fn is_called(call: &Call, wanted: &str) -> bool {
+    match call {
+        Call::NoRoute(name) => name.as_str() == wanted,
+        Call::BadParameter(Parameter::TaskId) => wanted == "taskId",
+        Call::BadBody(fault) => fault_of(fault) == wanted,
+        Call::Ping => wanted == "ping",
+        Call::Status(id) => id.text().as_slice() == wanted.as_bytes(),
+        Call::CreateTask(creation) => creation.id.text().as_slice() == wanted.as_bytes(),
+    }
+}
+
+/// Whether a message makes the call of this word.
+fn makes(
+    alloc: Global,
+    method: &[u8],
+    target: &[u8],
+    body: &[u8],
+    wanted: &str,
+) -> Result<bool, AllocError> {
     let message = message(alloc, method, target, body)?;
     let call = call_of(alloc, &message)?;
-    word_of(alloc, call)
+    Ok(is_called(&call, wanted))
 }
 
 #[test]
@@ -71,7 +83,7 @@ fn each_route_is_its_own(rt: HostRuntime) -> Result<(), Fail> {
         (b"GET", b"/\xc3\xa9", "-"),
     ];
     for (method, target, wanted) in rows {
-        assert_eq!(rt; called(rt.alloc(), method, target, b"")?.as_str(), wanted);
+        assert!(rt; makes(rt.alloc(), method, target, b"", wanted)?);
     }
     Ok(())
 }
@@ -99,7 +111,7 @@ fn a_body_is_read_where_its_call_has_one(rt: HostRuntime) -> Result<(), Fail> {
         (b"GET", b"/api/queue/v1/ping", b"{", "ping"),
     ];
     for (method, target, body, wanted) in rows {
-        assert_eq!(rt; called(rt.alloc(), method, target, body)?.as_str(), wanted);
+        assert!(rt; makes(rt.alloc(), method, target, body, wanted)?);
     }
     Ok(())
 }
