@@ -1,9 +1,9 @@
 //! What happens to a task, against rows that were worked by hand.
 use super::*;
-use farm_text::{Doc, Moment, SlugId};
+use farm_text::{Doc, Moment, SlugId, Text};
 use std::alloc::Global;
 use std::test::Fail;
-use task_defs::read_task;
+use task_defs::{Identifier, read_task};
 
 /// 2024-01-01T00:00:00.000Z.
 const CREATED: u64 = 1_704_067_200_000;
@@ -11,16 +11,74 @@ const CREATED: u64 = 1_704_067_200_000;
 /// 2024-01-02T00:00:00.000Z.
 const DEADLINE: u64 = 1_704_153_600_000;
 
-/// A definition with seven retries.
-const BODY: &'static str =
-    r#"{"created":"2024-01-01T00:00:00.000Z","deadline":"2024-01-02T00:00:00.000Z","metadata":{"description":"d","name":"n","owner":"o@example.com","source":"https://example.com/"},"payload":{},"retries":7,"taskQueueId":"prov/wt"}"#;
+/// 2024-01-01T00:00:10.000Z, and the end of a claim of twenty minutes from then.
+const TAKEN: u64 = 1_704_067_210_000;
 
-/// The row of the definition, as it is created.
-fn new_row(alloc: Global) -> Result<TaskRow, Fail> {
-    let doc = Doc::read(alloc, BODY.as_bytes()).map_err(|_| "no document")?;
+const TAKEN_UNTIL: u64 = 1_704_068_410_000;
+
+/// A definition with five retries, which are the default.
+const PLAIN: &'static str =
+    r#"{"created":"2024-01-01T00:00:00.000Z","deadline":"2024-01-02T00:00:00.000Z","metadata":{"description":"d","name":"n","owner":"o@example.com","source":"https://example.com/"},"payload":{},"taskQueueId":"prov/wt"}"#;
+
+/// The same with other numbers of retries.
+const NO_RETRY: &'static str =
+    r#"{"created":"2024-01-01T00:00:00.000Z","deadline":"2024-01-02T00:00:00.000Z","metadata":{"description":"d","name":"n","owner":"o@example.com","source":"https://example.com/"},"payload":{},"retries":0,"taskQueueId":"prov/wt"}"#;
+
+const ONE_RETRY: &'static str =
+    r#"{"created":"2024-01-01T00:00:00.000Z","deadline":"2024-01-02T00:00:00.000Z","metadata":{"description":"d","name":"n","owner":"o@example.com","source":"https://example.com/"},"payload":{},"retries":1,"taskQueueId":"prov/wt"}"#;
+
+const ALL_RETRIES: &'static str =
+    r#"{"created":"2024-01-01T00:00:00.000Z","deadline":"2024-01-02T00:00:00.000Z","metadata":{"description":"d","name":"n","owner":"o@example.com","source":"https://example.com/"},"payload":{},"retries":49,"taskQueueId":"prov/wt"}"#;
+
+/// The row of a definition, as it is created.
+fn new_row(alloc: Global, body: &str) -> Result<TaskRow, Fail> {
+    let doc = Doc::read(alloc, body.as_bytes()).map_err(|_| "no document")?;
     let id = SlugId::read(b"AAAAAAAAQACAAAAAAAAAAA").ok_or("no slugid")?;
     let definition = read_task(alloc, &doc, id).map_err(|_| "no definition")?;
     Ok(TaskRow::make(alloc, id, definition)?)
+}
+
+/// The row, scheduled as it is created, with number 3.
+fn pending_row(alloc: Global, body: &str) -> Result<TaskRow, Fail> {
+    let mut row = new_row(alloc, body)?;
+    row.schedule(moment(CREATED), 3);
+    Ok(row)
+}
+
+/// The row, whose run 0 worker `w` of group `g` took for twenty minutes.
+fn running_row(alloc: Global, body: &str) -> Result<TaskRow, Fail> {
+    let mut row = pending_row(alloc, body)?;
+    take(alloc, &mut row);
+    Ok(row)
+}
+
+/// Worker `w` of group `g` takes the pending run for twenty minutes. Tells whether there is one.
+fn take(alloc: Global, row: &mut TaskRow) -> bool {
+    match worker(alloc) {
+        Some(claim) => row.claim(claim),
+        None => false,
+    }
+}
+
+/// A claim of worker `w` of group `g`.
+fn worker(alloc: Global) -> Option<Claim> {
+    let worker_group = identifier(alloc, "g")?;
+    match identifier(alloc, "w") {
+        Some(worker_id) => Some(Claim {
+            worker_group,
+            worker_id,
+            started: moment(TAKEN),
+            taken_until: moment(TAKEN_UNTIL),
+        }),
+        None => None,
+    }
+}
+
+fn identifier(alloc: Global, text: &str) -> Option<Identifier> {
+    match Text::from_str(alloc, text) {
+        Ok(text) => Identifier::new(text),
+        Err(_) => None,
+    }
 }
 
 /// A moment, and the first one where there is none.
@@ -28,75 +86,331 @@ fn moment(millis: u64) -> Moment {
     Moment::from_millis(millis).unwrap_or(Moment::FIRST)
 }
 
-/// Whether a task has one run, and which.
-fn has_run(row: &TaskRow, run: Run) -> bool {
-    match row.runs() {
-        [only] => *only == run,
-        _ => false,
-    }
-}
-
-/// The run of a task that was created, with number 3.
-fn first_run(outcome: Option<Outcome>) -> Run {
-    Run {
-        created: ReasonCreated::Scheduled,
-        number: Some(3),
-        scheduled: moment(CREATED),
-        outcome,
-    }
-}
-
-/// The outcome of a task whose deadline came.
-fn exceeded() -> Option<Outcome> {
+/// How a run ended.
+fn outcome(reason: ReasonResolved, millis: u64) -> Option<Outcome> {
     Some(Outcome {
-        reason: ReasonResolved::DeadlineExceeded,
-        at: moment(DEADLINE),
+        reason,
+        at: moment(millis),
     })
+}
+
+/// Whether the run of a number was made for this reason at this moment, drew this number, and has this outcome.
+fn is_run(
+    row: &TaskRow,
+    number: usize,
+    created: ReasonCreated,
+    millis: u64,
+    drawn: Option<u64>,
+    outcome: Option<Outcome>,
+) -> bool {
+    match row.runs().get(number) {
+        Some(run) => is_made(run, created, millis, drawn) && run.outcome == outcome,
+        None => false,
+    }
+}
+
+fn is_made(run: &Run, created: ReasonCreated, millis: u64, drawn: Option<u64>) -> bool {
+    run.created == created && run.scheduled == moment(millis) && run.number == drawn
+}
+
+/// Whether the run of a number is taken by worker `w` of group `g` since 00:00:10.000, and until this moment.
+fn is_taken(row: &TaskRow, number: usize, until: u64) -> bool {
+    match row.runs().get(number) {
+        Some(run) => is_claimed(run, until),
+        None => false,
+    }
+}
+
+fn is_claimed(run: &Run, until: u64) -> bool {
+    match &run.claim {
+        Some(claim) => {
+            claim.worker_group.as_str() == "g"
+                && claim.worker_id.as_str() == "w"
+                && claim.started == moment(TAKEN)
+                && claim.taken_until == moment(until)
+        }
+        None => false,
+    }
+}
+
+/// Whether a task has this state, so many runs, and so many retries left.
+fn stands(row: &TaskRow, state: RunState, runs: usize, retries: u8) -> bool {
+    row.state() == Some(state) && row.runs().len() == runs && row.retries_left() == retries
 }
 
 #[test]
 fn a_new_task_has_its_retries_and_no_run(rt: HostRuntime) -> Result<(), Fail> {
-    let row = new_row(rt.alloc())?;
+    let row = new_row(rt.alloc(), ALL_RETRIES)?;
     assert!(rt; row.id().text() == *b"AAAAAAAAQACAAAAAAAAAAA");
     assert!(rt; row.definition().deadline == moment(DEADLINE));
-    assert!(rt; row.retries_left() == 7);
+    assert!(rt; row.retries_left() == 49);
     assert!(rt; row.runs().is_empty());
+    assert!(rt; row.is_unscheduled());
     assert!(rt; row.state() == None);
     Ok(())
 }
 
 #[test]
 fn a_task_is_scheduled_once(rt: HostRuntime) -> Result<(), Fail> {
-    let mut row = new_row(rt.alloc())?;
+    let mut row = new_row(rt.alloc(), PLAIN)?;
     assert!(rt; row.schedule(moment(CREATED), 3));
     assert!(rt; !row.schedule(moment(DEADLINE), 4));
-    assert!(rt; has_run(&row, first_run(None)));
-    assert!(rt; row.state() == Some(RunState::Pending));
+    assert!(rt; is_run(&row, 0, ReasonCreated::Scheduled, CREATED, Some(3), None));
+    assert!(rt; stands(&row, RunState::Pending, 1, 5));
+    assert!(rt; row.is_pending());
     Ok(())
 }
 
 #[test]
 fn a_pending_task_exceeds_its_deadline_once(rt: HostRuntime) -> Result<(), Fail> {
-    let mut row = new_row(rt.alloc())?;
-    let _ = row.schedule(moment(CREATED), 3);
+    let mut row = pending_row(rt.alloc(), PLAIN)?;
     assert!(rt; row.exceed(moment(DEADLINE)));
     assert!(rt; !row.exceed(moment(DEADLINE + 1)));
-    assert!(rt; has_run(&row, first_run(exceeded())));
-    assert!(rt; row.state() == Some(RunState::Exception));
+    let end = outcome(ReasonResolved::DeadlineExceeded, DEADLINE);
+    assert!(rt; is_run(&row, 0, ReasonCreated::Scheduled, CREATED, Some(3), end));
+    assert!(rt; stands(&row, RunState::Exception, 1, 5));
     Ok(())
 }
 
 #[test]
 fn a_deadline_of_an_unscheduled_task_makes_a_run(rt: HostRuntime) -> Result<(), Fail> {
-    let mut row = new_row(rt.alloc())?;
+    let mut row = new_row(rt.alloc(), PLAIN)?;
     assert!(rt; row.exceed(moment(DEADLINE)));
-    let made = Run {
-        created: ReasonCreated::Exception,
-        number: None,
-        scheduled: moment(DEADLINE),
-        outcome: exceeded(),
-    };
-    assert!(rt; has_run(&row, made));
-    assert!(rt; row.state() == Some(RunState::Exception));
+    let end = outcome(ReasonResolved::DeadlineExceeded, DEADLINE);
+    assert!(rt; is_run(&row, 0, ReasonCreated::Exception, DEADLINE, None, end));
+    assert!(rt; stands(&row, RunState::Exception, 1, 5));
+    Ok(())
+}
+
+#[test]
+fn a_pending_run_is_taken_once(rt: HostRuntime) -> Result<(), Fail> {
+    let mut row = running_row(rt.alloc(), PLAIN)?;
+    assert!(rt; stands(&row, RunState::Running, 1, 5));
+    assert!(rt; is_taken(&row, 0, TAKEN_UNTIL));
+    assert!(rt; row.claim_due() == Some(moment(TAKEN_UNTIL)));
+    assert!(rt; !take(rt.alloc(), &mut row));
+    assert!(rt; stands(&row, RunState::Running, 1, 5));
+    Ok(())
+}
+
+/// Taken at 00:00:10.000, kept until 00:40:09.999: it falls due at that very moment, and run 1 follows.
+#[test]
+fn a_claim_falls_due_at_its_end(rt: HostRuntime) -> Result<(), Fail> {
+    let mut row = running_row(rt.alloc(), PLAIN)?;
+    let end = TAKEN_UNTIL + 1_199_999;
+    assert!(rt; row.reclaim(0, moment(end)) == Ok(true));
+    assert!(rt; is_taken(&row, 0, end));
+    assert!(rt; !row.expire(moment(end - 1), 8));
+    assert!(rt; row.expire(moment(end), 8));
+    let lost = outcome(ReasonResolved::ClaimExpired, end);
+    assert!(rt; is_run(&row, 0, ReasonCreated::Scheduled, CREATED, Some(3), lost));
+    assert!(rt; is_taken(&row, 0, end));
+    assert!(rt; is_run(&row, 1, ReasonCreated::Retry, end, Some(8), None));
+    assert!(rt; stands(&row, RunState::Pending, 2, 4));
+    Ok(())
+}
+
+#[test]
+fn a_report_after_the_end_of_the_claim_is_refused(rt: HostRuntime) -> Result<(), Fail> {
+    let mut row = running_row(rt.alloc(), PLAIN)?;
+    assert!(rt; row.expire(moment(TAKEN_UNTIL), 8));
+    let answer = row.resolve(moment(TAKEN_UNTIL), 0, ReasonResolved::Completed, 9);
+    assert!(rt; answer == Err(Refusal::NotRunning));
+    assert!(rt; row.reclaim(0, moment(DEADLINE)) == Err(Refusal::NotRunning));
+    assert!(rt; stands(&row, RunState::Pending, 2, 4));
+    Ok(())
+}
+
+#[test]
+fn a_claim_falls_due_without_a_retry(rt: HostRuntime) -> Result<(), Fail> {
+    let mut row = running_row(rt.alloc(), NO_RETRY)?;
+    assert!(rt; row.expire(moment(TAKEN_UNTIL), 8));
+    assert!(rt; !row.expire(moment(TAKEN_UNTIL), 9));
+    assert!(rt; stands(&row, RunState::Exception, 1, 0));
+    Ok(())
+}
+
+/// The deadline at the end of the claim comes first, and uses no retry.
+#[test]
+fn a_deadline_at_the_end_of_a_claim_uses_no_retry(rt: HostRuntime) -> Result<(), Fail> {
+    let mut row = running_row(rt.alloc(), PLAIN)?;
+    assert!(rt; row.exceed(moment(TAKEN_UNTIL)));
+    assert!(rt; !row.expire(moment(TAKEN_UNTIL), 8));
+    let end = outcome(ReasonResolved::DeadlineExceeded, TAKEN_UNTIL);
+    assert!(rt; is_run(&row, 0, ReasonCreated::Scheduled, CREATED, Some(3), end));
+    assert!(rt; stands(&row, RunState::Exception, 1, 5));
+    Ok(())
+}
+
+/// With one retry, the first intermittent fault is followed by a new run, and the second is not.
+#[test]
+fn an_intermittent_fault_uses_a_retry(rt: HostRuntime) -> Result<(), Fail> {
+    let mut row = running_row(rt.alloc(), ONE_RETRY)?;
+    let reason = ReasonResolved::IntermittentTask;
+    assert!(rt; row.resolve(moment(TAKEN + 5), 0, reason, 8) == Ok(true));
+    assert!(rt; is_run(&row, 1, ReasonCreated::TaskRetry, TAKEN + 5, Some(8), None));
+    assert!(rt; stands(&row, RunState::Pending, 2, 0));
+    assert!(rt; take(rt.alloc(), &mut row));
+    assert!(rt; row.resolve(moment(TAKEN + 9), 1, reason, 9) == Ok(true));
+    assert!(rt; stands(&row, RunState::Exception, 2, 0));
+    Ok(())
+}
+
+/// What a report of a reason leaves: its name, the state of the run that ended, and why a run was made behind it.
+fn is_reported(row: &mut TaskRow, reason: ReasonResolved, name: &str, state: RunState) -> bool {
+    row.resolve(moment(TAKEN + 5), 0, reason, 8) == Ok(true)
+        && reason.name() == name
+        && matches!(row.runs().first(), Some(run) if run.state() == state)
+}
+
+fn ends_with(
+    alloc: Global,
+    reason: ReasonResolved,
+    name: &str,
+    state: RunState,
+) -> Result<bool, Fail> {
+    let mut row = running_row(alloc, PLAIN)?;
+    Ok(is_reported(&mut row, reason, name, state) && stands(&row, state, 1, 5))
+}
+
+#[test]
+fn most_reports_end_the_task(rt: HostRuntime) -> Result<(), Fail> {
+    use ReasonResolved as Reason;
+    let ends = [
+        (Reason::Completed, "completed", RunState::Completed),
+        (Reason::Failed, "failed", RunState::Failed),
+        (Reason::Superseded, "superseded", RunState::Exception),
+        (
+            Reason::MalformedPayload,
+            "malformed-payload",
+            RunState::Exception,
+        ),
+        (
+            Reason::ResourceUnavailable,
+            "resource-unavailable",
+            RunState::Exception,
+        ),
+        (Reason::InternalError, "internal-error", RunState::Exception),
+    ];
+    for (reason, name, state) in ends {
+        assert!(rt; ends_with(rt.alloc(), reason, name, state)?, "{name}");
+    }
+    Ok(())
+}
+
+#[test]
+fn a_shutdown_is_followed_by_a_run(rt: HostRuntime) -> Result<(), Fail> {
+    let mut row = running_row(rt.alloc(), PLAIN)?;
+    let reason = ReasonResolved::WorkerShutdown;
+    assert!(rt; is_reported(&mut row, reason, "worker-shutdown", RunState::Exception));
+    assert!(rt; is_run(&row, 1, ReasonCreated::Retry, TAKEN + 5, Some(8), None));
+    assert!(rt; stands(&row, RunState::Pending, 2, 4));
+    Ok(())
+}
+
+#[test]
+fn a_report_of_a_run_that_is_not_running_is_refused(rt: HostRuntime) -> Result<(), Fail> {
+    let mut row = pending_row(rt.alloc(), PLAIN)?;
+    let at = moment(TAKEN);
+    assert!(rt; row.resolve(at, 0, ReasonResolved::Completed, 8) == Err(Refusal::NotRunning));
+    assert!(rt; row.resolve(at, 1, ReasonResolved::Completed, 8) == Err(Refusal::NoRun));
+    assert!(rt; row.reclaim(0, at) == Err(Refusal::NotRunning));
+    assert!(rt; row.reclaim(1, at) == Err(Refusal::NoRun));
+    assert!(rt; stands(&row, RunState::Pending, 1, 5));
+    Ok(())
+}
+
+/// A repeated report stays as it was, also where the run is no longer the last; another report is refused.
+#[test]
+fn a_report_is_repeated(rt: HostRuntime) -> Result<(), Fail> {
+    let mut row = running_row(rt.alloc(), PLAIN)?;
+    let at = moment(TAKEN + 5);
+    assert!(rt; row.resolve(at, 0, ReasonResolved::Completed, 8) == Ok(true));
+    assert!(rt; row.resolve(moment(TAKEN + 6), 0, ReasonResolved::Completed, 8) == Ok(false));
+    assert!(rt; row.resolve(at, 0, ReasonResolved::Failed, 8) == Err(Refusal::NotRunning));
+    assert!(rt; row.rerun(at, 8) == Ok(true));
+    assert!(rt; row.resolve(moment(TAKEN + 6), 0, ReasonResolved::Completed, 9) == Ok(false));
+    let end = outcome(ReasonResolved::Completed, TAKEN + 5);
+    assert!(rt; is_run(&row, 0, ReasonCreated::Scheduled, CREATED, Some(3), end));
+    assert!(rt; is_run(&row, 1, ReasonCreated::Rerun, TAKEN + 5, Some(8), None));
+    Ok(())
+}
+
+/// Run 0 uses up a retry; the rerun gives the task its retries again.
+#[test]
+fn a_rerun_has_the_retries_again(rt: HostRuntime) -> Result<(), Fail> {
+    let mut row = running_row(rt.alloc(), PLAIN)?;
+    assert!(rt; row.expire(moment(TAKEN_UNTIL), 8));
+    assert!(rt; row.cancel(moment(TAKEN_UNTIL)));
+    assert!(rt; row.rerun(moment(TAKEN_UNTIL), 9) == Ok(true));
+    assert!(rt; stands(&row, RunState::Pending, 3, 5));
+    Ok(())
+}
+
+/// Of 49 retries 48 are left beside two runs.
+#[test]
+fn runs_and_retries_are_at_most_fifty(rt: HostRuntime) -> Result<(), Fail> {
+    let mut row = pending_row(rt.alloc(), ALL_RETRIES)?;
+    assert!(rt; stands(&row, RunState::Pending, 1, 49));
+    assert!(rt; row.cancel(moment(TAKEN)));
+    assert!(rt; row.rerun(moment(TAKEN), 8) == Ok(true));
+    assert!(rt; stands(&row, RunState::Pending, 2, 48));
+    Ok(())
+}
+
+#[test]
+fn a_rerun_may_be_refused(rt: HostRuntime) -> Result<(), Fail> {
+    let mut row = new_row(rt.alloc(), PLAIN)?;
+    assert!(rt; row.rerun(moment(DEADLINE), 3) == Err(Refusal::Unscheduled));
+    assert!(rt; row.schedule(moment(CREATED), 3));
+    assert!(rt; row.rerun(moment(DEADLINE), 4) == Ok(false));
+    assert!(rt; row.cancel(moment(TAKEN)));
+    assert!(rt; row.rerun(moment(DEADLINE), 4) == Err(Refusal::DeadlineCame));
+    assert!(rt; stands(&row, RunState::Exception, 1, 5));
+    assert!(rt; row.rerun(moment(DEADLINE - 1), 4) == Ok(true));
+    assert!(rt; stands(&row, RunState::Pending, 2, 5));
+    Ok(())
+}
+
+/// A worker takes the pending run, fails, and the task is run again.
+fn fails_again(alloc: Global, row: &mut TaskRow, round: u8) -> bool {
+    take(alloc, row)
+        && row.resolve(moment(TAKEN), round, ReasonResolved::Failed, 8) == Ok(true)
+        && row.rerun(moment(TAKEN), 8) == Ok(true)
+}
+
+#[test]
+fn a_task_has_fifty_runs(rt: HostRuntime) -> Result<(), Fail> {
+    let mut row = pending_row(rt.alloc(), NO_RETRY)?;
+    for round in 0..49 {
+        assert!(rt; fails_again(rt.alloc(), &mut row, round));
+    }
+    assert!(rt; take(rt.alloc(), &mut row));
+    assert!(rt; row.resolve(moment(TAKEN), 49, ReasonResolved::Failed, 8) == Ok(true));
+    assert!(rt; row.rerun(moment(TAKEN), 8) == Err(Refusal::FiftyRuns));
+    assert!(rt; row.resolve(moment(TAKEN), 49, ReasonResolved::Failed, 8) == Ok(false));
+    assert!(rt; stands(&row, RunState::Failed, 50, 0));
+    Ok(())
+}
+
+#[test]
+fn a_task_is_canceled_once(rt: HostRuntime) -> Result<(), Fail> {
+    let mut row = running_row(rt.alloc(), PLAIN)?;
+    assert!(rt; row.cancel(moment(TAKEN + 5)));
+    assert!(rt; !row.cancel(moment(TAKEN + 6)));
+    let end = outcome(ReasonResolved::Canceled, TAKEN + 5);
+    assert!(rt; is_run(&row, 0, ReasonCreated::Scheduled, CREATED, Some(3), end));
+    assert!(rt; stands(&row, RunState::Exception, 1, 5));
+    assert!(rt; row.claim_due() == None);
+    Ok(())
+}
+
+#[test]
+fn an_unscheduled_task_is_canceled(rt: HostRuntime) -> Result<(), Fail> {
+    let mut row = new_row(rt.alloc(), PLAIN)?;
+    assert!(rt; row.cancel(moment(TAKEN)));
+    let end = outcome(ReasonResolved::Canceled, TAKEN);
+    assert!(rt; is_run(&row, 0, ReasonCreated::Exception, TAKEN, None, end));
+    assert!(rt; stands(&row, RunState::Exception, 1, 5));
     Ok(())
 }
