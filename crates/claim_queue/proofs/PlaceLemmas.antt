@@ -1,0 +1,212 @@
+-- Entries and what they tell.
+use Rattle.std.proofs.Common.{◌≡◌, ℕ, zero, suc, ◌+◌, ◌-◌, ◌<◌, ◌≤◌, Bool, true, false, if◌then◌else◌, List, [], ◌∷◌, ◌++◌, map, length, replicate, Option, Some, None, option_map, refl, sym, ap, ◌∙◌, slice_get, slice_index_or, slice_set, subst, arith}
+use Rattle.std.specs.List.{filter, reduce, count_by}
+use Rattle.std.specs.Str.{bytes_eq}
+use Rattle.claim_queue.specs.declared.entries.Entry.{Entry}
+use Rattle.claim_queue.specs.declared.queues.Queue.{Queue}
+use Rattle.claim_queue.specs.Held.{held_from, up_to}
+use Rattle.claim_queue.specs.Waits.{Waiting, Waits, knows, raised, with_room, roomier, room_in, waits_in, count_in, spare_in, goes_before, better, best_of}
+use Rattle.claim_queue.specs.Places.{name_at, told, told_rows, ArePlaced, better_entry}
+use Rattle.claim_queue.proofs.HeldLemmas.{held_from-map, filter-map, reduce-map, within-held, count-map}
+use Rattle.std.proofs.lemmas.List.{map-set}
+
+-- what an entry and its row tell
+abbrev tell : List Queue → Entry × ℕ → Waiting × ℕ
+tell queues r = (told queues r.0, r.1)
+
+tell-better : (queues : List Queue) (a b : Entry × ℕ) → tell queues (better_entry a b) ≡ better (tell queues a) (tell queues b)
+tell-better queues a b = by (goes_before (told [] b.0) (told [] a.0)) where
+  by : (t : Bool) → tell queues (if t then b else a) ≡ (if t then tell queues b else tell queues a)
+  by true = refl
+  by false = refl
+
+row-told : (queues : List Queue) (o : Option (Entry × ℕ)) → option_map (λ (r : Waiting × ℕ). r.1) (option_map (tell queues) o) ≡ option_map (λ (r : Entry × ℕ). r.1) o
+row-told queues None = refl
+row-told queues (Some r) = refl
+
+-- the best of the entries is the best of what they tell
+pub best-told : (queues : List Queue) (rows : List (Option Entry)) (queue : List ℕ) (waits : Waits) → waits.rows ≡ told_rows queues rows
+    → best_of queue waits ≡ option_map (λ (r : Entry × ℕ). r.1) (reduce better_entry (filter (λ r. bytes_eq (told queues r.0).queue queue) (held_from 0 rows)))
+best-told queues rows queue waits is =
+    let all : held_from 0 waits.rows ≡ map (tell queues) (held_from 0 rows) = ap (held_from 0) is ∙ held_from-map (told queues) 0 rows in
+    let kept : filter (λ (r : Waiting × ℕ). bytes_eq r.0.queue queue) (held_from 0 waits.rows) ≡ map (tell queues) (filter (λ (r : Entry × ℕ). bytes_eq (told queues r.0).queue queue) (held_from 0 rows)) =
+    ap (filter (λ (r : Waiting × ℕ). bytes_eq r.0.queue queue)) all ∙ filter-map (tell queues) (λ (r : Waiting × ℕ). bytes_eq r.0.queue queue) (held_from 0 rows) in
+    let chosen : reduce better (filter (λ (r : Waiting × ℕ). bytes_eq r.0.queue queue) (held_from 0 waits.rows)) ≡ option_map (tell queues) (reduce better_entry (filter (λ (r : Entry × ℕ). bytes_eq (told queues r.0).queue queue) (held_from 0 rows))) =
+    ap (reduce better) kept ∙ reduce-map (tell queues) better_entry better (tell-better queues) (filter (λ (r : Entry × ℕ). bytes_eq (told queues r.0).queue queue) (held_from 0 rows)) in
+    ap (option_map (λ (r : Waiting × ℕ). r.1)) chosen ∙ row-told queues (reduce better_entry (filter (λ (r : Entry × ℕ). bytes_eq (told queues r.0).queue queue) (held_from 0 rows)))
+
+-- ---- the places of entries
+
+pub placed-set : (places : ℕ) (rows : List (Option Entry)) (row : ℕ) (entry : Entry) → entry.queue < places → ArePlaced places rows → ArePlaced places (slice_set rows row (Some entry))
+placed-set places [] row entry here placed = tt
+placed-set places (None ∷ rows) zero entry here placed = (here, placed)
+placed-set places (Some e ∷ rows) zero entry here placed = (here, placed.1)
+placed-set places (None ∷ rows) (suc row) entry here placed = placed-set places rows row entry here placed
+placed-set places (Some e ∷ rows) (suc row) entry here placed = (placed.0, placed-set places rows row entry here placed.1)
+
+pub placed-clear : (places : ℕ) (rows : List (Option Entry)) (row : ℕ) → ArePlaced places rows → ArePlaced places (slice_set rows row None)
+placed-clear places [] row placed = tt
+placed-clear places (None ∷ rows) zero placed = placed
+placed-clear places (Some e ∷ rows) zero placed = placed.1
+placed-clear places (None ∷ rows) (suc row) placed = placed-clear places rows row placed
+placed-clear places (Some e ∷ rows) (suc row) placed = (placed.0, placed-clear places rows row placed.1)
+
+none-placed : (places more : ℕ) → ArePlaced places (replicate more None)
+none-placed places zero = tt
+none-placed places (suc more) = none-placed places more
+
+pub placed-more : (places : ℕ) (rows : List (Option Entry)) (more : ℕ) → ArePlaced places rows → ArePlaced places (rows ++ replicate more None)
+placed-more places [] more placed = none-placed places more
+placed-more places (None ∷ rows) more placed = placed-more places rows more placed
+placed-more places (Some e ∷ rows) more placed = (placed.0, placed-more places rows more placed.1)
+
+pub placed-wider : (places wider : ℕ) (rows : List (Option Entry)) → places ≤ wider → ArePlaced places rows → ArePlaced wider rows
+placed-wider places wider [] le placed = tt
+placed-wider places wider (None ∷ rows) le placed = placed-wider places wider rows le placed
+placed-wider places wider (Some e ∷ rows) le placed = (let h = placed.0 in omega arith, placed-wider places wider rows le placed.1)
+
+name-front : (queues more : List Queue) (place : ℕ) → place < length queues → name_at place (queues ++ more) ≡ name_at place queues
+name-front [] more place within = absurd (omega arith)
+name-front (queue ∷ queues) more zero within = refl
+name-front (queue ∷ queues) more (suc place) within = name-front queues more place (omega arith)
+
+name-raised : (name : List ℕ) (room : ℕ) (queues : List Queue) (place : ℕ) → name_at place (map (raised name room) queues) ≡ name_at place queues
+name-raised name room [] place = refl
+name-raised name room (queue ∷ queues) zero = by (bytes_eq queue.name name) refl where
+  by : (t : Bool) → bytes_eq queue.name name ≡ t → name_at zero (map (raised name room) (queue ∷ queues)) ≡ queue.name
+  by true is = rw is refl
+  by false is = rw is refl
+name-raised name room (queue ∷ queues) (suc place) = name-raised name room queues place
+
+-- entries tell the same where their queues have the same names
+told-same : (before after : List Queue) (rows : List (Option Entry)) → ArePlaced (length before) rows → ((place : ℕ) → place < length before → name_at place after ≡ name_at place before) → told_rows after rows ≡ told_rows before rows
+told-same before after [] placed same = refl
+told-same before after (None ∷ rows) placed same = ap (λ zs. None ∷ zs) (told-same before after rows placed same)
+told-same before after (Some e ∷ rows) placed same =
+    let first : told after e ≡ told before e =
+    ap (λ (name : List ℕ). let w : Waiting = record { queue = name; priority = e.priority; number = e.number } in w) (same e.queue placed.0) in
+    ap (λ (w : Waiting). Some w ∷ told_rows after rows) first ∙ ap (λ zs. Some (told before e) ∷ zs) (told-same before after rows placed.1 same)
+
+-- one more queue changes nothing of what placed entries tell
+pub told-wider : (queues more : List Queue) (rows : List (Option Entry)) → ArePlaced (length queues) rows → told_rows (queues ++ more) rows ≡ told_rows queues rows
+told-wider queues more rows placed = told-same queues (queues ++ more) rows placed (λ place within. name-front queues more place within)
+
+-- and no more does room in a queue
+pub told-raised : (name : List ℕ) (room : ℕ) (queues : List Queue) (rows : List (Option Entry)) → ArePlaced (length queues) rows → told_rows (map (raised name room) queues) rows ≡ told_rows queues rows
+told-raised name room queues rows placed = told-same queues (map (raised name room) queues) rows placed (λ place within. name-raised name room queues place)
+
+map-none : (queues : List Queue) (more : ℕ) → told_rows queues (replicate more None) ≡ replicate more None
+map-none queues zero = refl
+map-none queues (suc more) = ap (λ zs. None ∷ zs) (map-none queues more)
+
+told-append : (queues : List Queue) (xs ys : List (Option Entry)) → told_rows queues (xs ++ ys) ≡ told_rows queues xs ++ told_rows queues ys
+told-append queues [] ys = refl
+told-append queues (x ∷ xs) ys = ap (λ zs. option_map (told queues) x ∷ zs) (told-append queues xs ys)
+
+told-length : (queues : List Queue) (rows : List (Option Entry)) → length (told_rows queues rows) ≡ length rows
+told-length queues [] = refl
+told-length queues (row ∷ rows) = ap suc (told-length queues rows)
+
+-- further entries are further rows that wait
+pub told-up_to : (queues : List Queue) (below : ℕ) (rows : List (Option Entry)) → told_rows queues (up_to below rows) ≡ up_to below (told_rows queues rows)
+told-up_to queues below rows =
+    let fill = below - length rows in
+    told-append queues rows (replicate fill None) ∙ (ap (λ zs. told_rows queues rows ++ zs) (map-none queues fill) ∙ ap (λ n. told_rows queues rows ++ replicate (below - n) None) (sym (told-length queues rows)))
+
+-- the name of the queue that stands at a place
+pub name-here : (queues : List Queue) (place : ℕ) (d : Queue) → place < length queues → name_at place queues ≡ (slice_index_or queues place d).name
+name-here [] place d within = absurd (omega arith)
+name-here (queue ∷ queues) zero d within = refl
+name-here (queue ∷ queues) (suc place) d within = name-here queues place d (omega arith)
+
+-- a queue that stands at no place has no room
+no-room : (name : List ℕ) (queues : List Queue) → ((place : ℕ) → place < length queues → bytes_eq (name_at place queues) name ≡ false) → room_in name queues ≡ 0
+no-room name [] none = refl
+no-room name (queue ∷ queues) none =
+    let first : bytes_eq queue.name name ≡ false = none 0 (omega arith) in
+    rw first (no-room name queues (λ place within. none (suc place) (omega arith)))
+
+pub no-spare : (name : List ℕ) (queues : List Queue) (waits : Waits) → waits.queues ≡ queues → ((place : ℕ) → place < length queues → bytes_eq (name_at place queues) name ≡ false) → 1 ≤ spare_in name waits → ⊥
+no-spare name queues waits is none spare =
+    let zero_ : room_in name waits.queues ≡ 0 = ap (room_in name) is ∙ no-room name queues none in
+    let P : ℕ → Type 0 = λ n. 1 ≤ n - count_in name waits in
+    let left : 1 ≤ 0 - count_in name waits = subst P zero_ spare in
+    omega arith
+
+-- a row that is told stands among the entries
+pub told-within : (queues : List Queue) (rows : List (Option Entry)) (waits : Waits) (row : ℕ) → waits.rows ≡ told_rows queues rows → slice_get waits.rows row ≡ Some None → row < length rows
+told-within queues rows waits row is absent =
+    let within = within-held waits.rows row None absent in
+    let len : length waits.rows ≡ length rows = ap length is ∙ told-length queues rows in
+    omega arith
+
+-- an entry that is written is told
+pub told-set : (queues : List Queue) (rows : List (Option Entry)) (waits : Waits) (row : ℕ) (entry : Entry) (name : List ℕ) → queues ≡ waits.queues → told_rows queues rows ≡ waits.rows → name_at entry.queue queues ≡ name
+    → told_rows queues (slice_set rows row (Some entry)) ≡ slice_set waits.rows row (Some (record { queue = name; priority = entry.priority; number = entry.number }))
+told-set queues rows waits row entry name is told_ named =
+    map-set (option_map (told queues)) rows row (Some entry)
+    ∙ (ap (λ (l : List (Option Waiting)). slice_set l row (Some (told queues entry))) told_
+    ∙ ap (λ (n : List ℕ). slice_set waits.rows row (Some (record { queue = n; priority = entry.priority; number = entry.number }))) named)
+
+pub told-clear : (queues : List Queue) (rows : List (Option Entry)) (waits : Waits) (row : ℕ) → told_rows queues rows ≡ waits.rows → told_rows queues (slice_set rows row None) ≡ slice_set waits.rows row None
+told-clear queues rows waits row told_ =
+    map-set (option_map (told queues)) rows row None ∙ ap (λ (l : List (Option Waiting)). slice_set l row None) told_
+
+-- the best of the entries, by what the call has
+pub best-shown : (queues seen : List Queue) (rows found : List (Option Entry)) (name : List ℕ) (waits : Waits) (best : Option (Entry × ℕ)) → told_rows queues rows ≡ waits.rows → seen ≡ queues → found ≡ rows
+    → best ≡ reduce better_entry (filter (λ r. bytes_eq (told seen r.0).queue name) (held_from 0 found)) → option_map (λ (r : Entry × ℕ). r.1) best ≡ best_of name waits
+best-shown queues seen rows found name waits best told_ same_queues same_rows is =
+    let e : best ≡ reduce better_entry (filter (λ r. bytes_eq (told queues r.0).queue name) (held_from 0 rows)) =
+    is ∙ (ap (λ (k : List Queue). reduce better_entry (filter (λ r. bytes_eq (told k r.0).queue name) (held_from 0 found))) same_queues
+    ∙ ap (λ (k : List (Option Entry)). reduce better_entry (filter (λ r. bytes_eq (told queues r.0).queue name) (held_from 0 k))) same_rows) in
+    ap (option_map (λ (r : Entry × ℕ). r.1)) e ∙ sym (best-told queues rows name waits (sym told_))
+
+-- ---- the collection as it is seen
+
+abbrev pub waits_of : List Queue → List (Option Waiting) → Waits
+waits_of queues rows = record { queues = queues; rows = rows }
+
+pub waits-same : (queues later : List Queue) (rows after : List (Option Waiting)) → queues ≡ later → rows ≡ after → waits_of queues rows ≡ waits_of later after
+waits-same queues later rows after p q = ap (λ (k : List Queue). waits_of k rows) p ∙ ap (λ (r : List (Option Waiting)). waits_of later r) q
+
+-- how many entries of a queue there are
+pub count-shown : (name : List ℕ) (queues seen : List Queue) (rows found : List (Option Entry)) (waits : Waits) (count : ℕ) → told_rows queues rows ≡ waits.rows → seen ≡ queues → found ≡ rows
+    → count ≡ count_by (λ row. waits_in name (option_map (told seen) row)) found → count ≡ count_in name waits
+count-shown name queues seen rows found waits count told_ same_queues same_rows is =
+    is ∙ (ap (λ (k : List Queue). count_by (λ row. waits_in name (option_map (told k) row)) found) same_queues
+    ∙ (ap (count_by (λ row. waits_in name (option_map (told queues) row))) same_rows
+    ∙ (count-map (option_map (told queues)) (waits_in name) rows ∙ ap (count_by (waits_in name)) told_)))
+
+-- room is made in a queue that is known
+pub room-known : (name : List ℕ) (more below room : ℕ) (queues after : List Queue) (rows later : List (Option Entry)) (waits : Waits) → ArePlaced (length queues) rows → queues ≡ waits.queues → told_rows queues rows ≡ waits.rows
+    → room ≡ count_in name waits + more → knows name queues ≡ true → after ≡ map (raised name room) queues → later ≡ up_to below rows → waits_of after (told_rows after later) ≡ roomier name more below waits
+room-known name more below room queues after rows later waits placed same told_ room_is known after_is later_is =
+    let known_ : knows name waits.queues ≡ true = ap (knows name) (sym same) ∙ known in
+    let wanted : with_room name (count_in name waits + more) waits.queues ≡ map (raised name (count_in name waits + more)) waits.queues = rw known_ refl in
+    let new_queues : after ≡ with_room name (count_in name waits + more) waits.queues =
+    after_is ∙ (ap (λ n. map (raised name n) queues) room_is ∙ (ap (map (raised name (count_in name waits + more))) same ∙ sym wanted)) in
+    let new_rows : told_rows after later ≡ up_to below waits.rows =
+    ap (told_rows after) later_is ∙ (ap (λ (k : List Queue). told_rows k (up_to below rows)) after_is
+    ∙ (told-raised name room queues (up_to below rows) (placed-more (length queues) rows (below - length rows) placed)
+    ∙ (told-up_to queues below rows ∙ ap (up_to below) told_))) in
+    waits-same after (with_room name (count_in name waits + more) waits.queues) (told_rows after later) (up_to below waits.rows) new_queues new_rows
+
+-- room is made in a queue that was not known
+pub room-new : (name : List ℕ) (more below room : ℕ) (queues after : List Queue) (rows later : List (Option Entry)) (waits : Waits) → ArePlaced (length queues) rows → queues ≡ waits.queues → told_rows queues rows ≡ waits.rows
+    → room ≡ count_in name waits + more → knows name queues ≡ false → after ≡ queues ++ record { name = name; room = room } ∷ [] → later ≡ up_to below rows → waits_of after (told_rows after later) ≡ roomier name more below waits
+room-new name more below room queues after rows later waits placed same told_ room_is known after_is later_is =
+    let known_ : knows name waits.queues ≡ false = ap (knows name) (sym same) ∙ known in
+    let made : ℕ → Queue = λ n. record { name = name; room = n } in
+    let wanted : with_room name (count_in name waits + more) waits.queues ≡ waits.queues ++ made (count_in name waits + more) ∷ [] = rw known_ refl in
+    let new_queues : after ≡ with_room name (count_in name waits + more) waits.queues =
+    after_is ∙ (ap (λ n. queues ++ made n ∷ []) room_is ∙ (ap (λ (k : List Queue). k ++ made (count_in name waits + more) ∷ []) same ∙ sym wanted)) in
+    let new_rows : told_rows after later ≡ up_to below waits.rows =
+    ap (told_rows after) later_is ∙ (ap (λ (k : List Queue). told_rows k (up_to below rows)) after_is
+    ∙ (told-wider queues (made room ∷ []) (up_to below rows) (placed-more (length queues) rows (below - length rows) placed)
+    ∙ (told-up_to queues below rows ∙ ap (up_to below) told_))) in
+    waits-same after (with_room name (count_in name waits + more) waits.queues) (told_rows after later) (up_to below waits.rows) new_queues new_rows
+
+pub placed-after : (places wider : ℕ) (rows later : List (Option Entry)) (below : ℕ) → ArePlaced places rows → places ≤ wider → later ≡ up_to below rows → ArePlaced wider later
+placed-after places wider rows later below placed le is =
+    let P : List (Option Entry) → Type 0 = λ r. ArePlaced wider r in
+    subst P (sym is) (placed-more wider rows (below - length rows) (placed-wider places wider rows le placed))

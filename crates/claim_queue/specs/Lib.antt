@@ -1,0 +1,4 @@
+pub mod Held
+pub mod Dues
+pub mod Waits
+pub mod Places
