@@ -1,5 +1,5 @@
 -- Rows that are held, and the first of them by some choice.
-use Rattle.std.proofs.Common.{◌≡◌, ℕ, ◌+◌, ◌-◌, ◌<◌, ◌≤◌, zero, suc, Bool, true, false, cond, List, [], ◌∷◌, ◌++◌, map, length, take, replicate, Option, Some, None, is_some, option_map, refl, sym, ap, ◌∙◌, slice_get, slice_index_or, slice_set, subst, arith, add-zero, length-take}
+use Rattle.std.proofs.Common.{◌≡◌, ℕ, ◌+◌, ◌<◌, zero, suc, Bool, true, false, cond, List, [], ◌∷◌, ◌++◌, map, length, take, Option, Some, None, is_some, option_map, refl, sym, ap, ◌∙◌, slice_get, slice_index_or, slice_set, subst, arith, add-zero, length-take}
 use Rattle.std.specs.List.{count_by, fold, filter, reduce}
 use Rattle.std.specs.Option.{option_to_list}
 use Rattle.std.proofs.lemmas.List.{take_more}

@@ -1,2 +1,4 @@
 pub mod HeldLemmas
 pub mod PlaceLemmas
+pub mod FirstLemmas
+pub mod LeastLemmas

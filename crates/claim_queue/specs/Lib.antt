@@ -2,3 +2,4 @@ pub mod Held
 pub mod Dues
 pub mod Waits
 pub mod Places
+pub mod Firsts

@@ -6,9 +6,14 @@
 
 mod due_rows;
 mod entries;
+mod laws;
 mod pending;
 mod queues;
 mod room;
 
 pub use due_rows::{Deadlines, DueRows, Leases};
+pub use laws::{the_best_is_one, the_first_due_is_one};
 pub use pending::Pending;
+
+#[cfg(test)]
+mod tests;

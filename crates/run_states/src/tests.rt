@@ -153,107 +153,143 @@ fn a_new_task_has_its_retries_and_no_run(rt: HostRuntime) -> Result<(), Fail> {
 #[test]
 fn a_task_is_scheduled_once(rt: HostRuntime) -> Result<(), Fail> {
     let mut row = new_row(rt.alloc(), PLAIN)?;
-    assert!(rt; row.schedule(moment(CREATED), 3));
-    assert!(rt; !row.schedule(moment(DEADLINE), 4));
-    assert!(rt; is_run(&row, 0, ReasonCreated::Scheduled, CREATED, Some(3), None));
-    assert!(rt; stands(&row, RunState::Pending, 1, 5));
-    assert!(rt; row.is_pending());
+    assert!(rt; a_task_is_scheduled_once_holds(&mut row));
     Ok(())
+}
+
+fn a_task_is_scheduled_once_holds(row: &mut TaskRow) -> bool {
+    row.schedule(moment(CREATED), 3)
+        && !row.schedule(moment(DEADLINE), 4)
+        && is_run(row, 0, ReasonCreated::Scheduled, CREATED, Some(3), None)
+        && stands(row, RunState::Pending, 1, 5)
+        && row.is_pending()
 }
 
 #[test]
 fn a_pending_task_exceeds_its_deadline_once(rt: HostRuntime) -> Result<(), Fail> {
     let mut row = pending_row(rt.alloc(), PLAIN)?;
-    assert!(rt; row.exceed(moment(DEADLINE)));
-    assert!(rt; !row.exceed(moment(DEADLINE + 1)));
-    let end = outcome(ReasonResolved::DeadlineExceeded, DEADLINE);
-    assert!(rt; is_run(&row, 0, ReasonCreated::Scheduled, CREATED, Some(3), end));
-    assert!(rt; stands(&row, RunState::Exception, 1, 5));
+    assert!(rt; a_pending_task_exceeds_its_deadline_once_holds(&mut row));
     Ok(())
+}
+
+fn a_pending_task_exceeds_its_deadline_once_holds(row: &mut TaskRow) -> bool {
+    let end = outcome(ReasonResolved::DeadlineExceeded, DEADLINE);
+    row.exceed(moment(DEADLINE))
+        && !row.exceed(moment(DEADLINE + 1))
+        && is_run(row, 0, ReasonCreated::Scheduled, CREATED, Some(3), end)
+        && stands(row, RunState::Exception, 1, 5)
 }
 
 #[test]
 fn a_deadline_of_an_unscheduled_task_makes_a_run(rt: HostRuntime) -> Result<(), Fail> {
     let mut row = new_row(rt.alloc(), PLAIN)?;
-    assert!(rt; row.exceed(moment(DEADLINE)));
-    let end = outcome(ReasonResolved::DeadlineExceeded, DEADLINE);
-    assert!(rt; is_run(&row, 0, ReasonCreated::Exception, DEADLINE, None, end));
-    assert!(rt; stands(&row, RunState::Exception, 1, 5));
+    assert!(rt; a_deadline_of_an_unscheduled_task_makes_a_run_holds(&mut row));
     Ok(())
+}
+
+fn a_deadline_of_an_unscheduled_task_makes_a_run_holds(row: &mut TaskRow) -> bool {
+    let end = outcome(ReasonResolved::DeadlineExceeded, DEADLINE);
+    row.exceed(moment(DEADLINE))
+        && is_run(row, 0, ReasonCreated::Exception, DEADLINE, None, end)
+        && stands(row, RunState::Exception, 1, 5)
 }
 
 #[test]
 fn a_pending_run_is_taken_once(rt: HostRuntime) -> Result<(), Fail> {
     let mut row = running_row(rt.alloc(), PLAIN)?;
-    assert!(rt; stands(&row, RunState::Running, 1, 5));
-    assert!(rt; is_taken(&row, 0, TAKEN_UNTIL));
-    assert!(rt; row.claim_due() == Some(moment(TAKEN_UNTIL)));
-    assert!(rt; !take(rt.alloc(), &mut row));
-    assert!(rt; stands(&row, RunState::Running, 1, 5));
+    assert!(rt; a_pending_run_is_taken_once_holds(rt.alloc(), &mut row));
     Ok(())
+}
+
+fn a_pending_run_is_taken_once_holds(alloc: Global, row: &mut TaskRow) -> bool {
+    stands(row, RunState::Running, 1, 5)
+        && is_taken(row, 0, TAKEN_UNTIL)
+        && row.claim_due() == Some(moment(TAKEN_UNTIL))
+        && !take(alloc, row)
+        && stands(row, RunState::Running, 1, 5)
 }
 
 /// Taken at 00:00:10.000, kept until 00:40:09.999: it falls due at that very moment, and run 1 follows.
 #[test]
 fn a_claim_falls_due_at_its_end(rt: HostRuntime) -> Result<(), Fail> {
     let mut row = running_row(rt.alloc(), PLAIN)?;
-    let end = TAKEN_UNTIL + 1_199_999;
-    assert!(rt; row.reclaim(0, moment(end)) == Ok(true));
-    assert!(rt; is_taken(&row, 0, end));
-    assert!(rt; !row.expire(moment(end - 1), 8));
-    assert!(rt; row.expire(moment(end), 8));
-    let lost = outcome(ReasonResolved::ClaimExpired, end);
-    assert!(rt; is_run(&row, 0, ReasonCreated::Scheduled, CREATED, Some(3), lost));
-    assert!(rt; is_taken(&row, 0, end));
-    assert!(rt; is_run(&row, 1, ReasonCreated::Retry, end, Some(8), None));
-    assert!(rt; stands(&row, RunState::Pending, 2, 4));
+    assert!(rt; a_claim_falls_due_at_its_end_holds(&mut row));
     Ok(())
+}
+
+fn a_claim_falls_due_at_its_end_holds(row: &mut TaskRow) -> bool {
+    let end = TAKEN_UNTIL + 1_199_999;
+    let lost = outcome(ReasonResolved::ClaimExpired, end);
+    row.reclaim(0, moment(end)) == Ok(true)
+        && is_taken(row, 0, end)
+        && !row.expire(moment(end - 1), 8)
+        && row.expire(moment(end), 8)
+        && is_run(row, 0, ReasonCreated::Scheduled, CREATED, Some(3), lost)
+        && is_taken(row, 0, end)
+        && is_run(row, 1, ReasonCreated::Retry, end, Some(8), None)
+        && stands(row, RunState::Pending, 2, 4)
 }
 
 #[test]
 fn a_report_after_the_end_of_the_claim_is_refused(rt: HostRuntime) -> Result<(), Fail> {
     let mut row = running_row(rt.alloc(), PLAIN)?;
-    assert!(rt; row.expire(moment(TAKEN_UNTIL), 8));
-    let answer = row.resolve(moment(TAKEN_UNTIL), 0, ReasonResolved::Completed, 9);
-    assert!(rt; answer == Err(Refusal::NotRunning));
-    assert!(rt; row.reclaim(0, moment(DEADLINE)) == Err(Refusal::NotRunning));
-    assert!(rt; stands(&row, RunState::Pending, 2, 4));
+    assert!(rt; a_report_after_the_end_of_the_claim_is_refused_holds(&mut row));
     Ok(())
+}
+
+fn a_report_after_the_end_of_the_claim_is_refused_holds(row: &mut TaskRow) -> bool {
+    row.expire(moment(TAKEN_UNTIL), 8)
+        && row.resolve(moment(TAKEN_UNTIL), 0, ReasonResolved::Completed, 9)
+            == Err(Refusal::NotRunning)
+        && row.reclaim(0, moment(DEADLINE)) == Err(Refusal::NotRunning)
+        && stands(row, RunState::Pending, 2, 4)
 }
 
 #[test]
 fn a_claim_falls_due_without_a_retry(rt: HostRuntime) -> Result<(), Fail> {
     let mut row = running_row(rt.alloc(), NO_RETRY)?;
-    assert!(rt; row.expire(moment(TAKEN_UNTIL), 8));
-    assert!(rt; !row.expire(moment(TAKEN_UNTIL), 9));
-    assert!(rt; stands(&row, RunState::Exception, 1, 0));
+    assert!(rt; a_claim_falls_due_without_a_retry_holds(&mut row));
     Ok(())
+}
+
+fn a_claim_falls_due_without_a_retry_holds(row: &mut TaskRow) -> bool {
+    row.expire(moment(TAKEN_UNTIL), 8)
+        && !row.expire(moment(TAKEN_UNTIL), 9)
+        && stands(row, RunState::Exception, 1, 0)
 }
 
 /// The deadline at the end of the claim comes first, and uses no retry.
 #[test]
 fn a_deadline_at_the_end_of_a_claim_uses_no_retry(rt: HostRuntime) -> Result<(), Fail> {
     let mut row = running_row(rt.alloc(), PLAIN)?;
-    assert!(rt; row.exceed(moment(TAKEN_UNTIL)));
-    assert!(rt; !row.expire(moment(TAKEN_UNTIL), 8));
-    let end = outcome(ReasonResolved::DeadlineExceeded, TAKEN_UNTIL);
-    assert!(rt; is_run(&row, 0, ReasonCreated::Scheduled, CREATED, Some(3), end));
-    assert!(rt; stands(&row, RunState::Exception, 1, 5));
+    assert!(rt; a_deadline_at_the_end_of_a_claim_uses_no_retry_holds(&mut row));
     Ok(())
+}
+
+fn a_deadline_at_the_end_of_a_claim_uses_no_retry_holds(row: &mut TaskRow) -> bool {
+    let end = outcome(ReasonResolved::DeadlineExceeded, TAKEN_UNTIL);
+    row.exceed(moment(TAKEN_UNTIL))
+        && !row.expire(moment(TAKEN_UNTIL), 8)
+        && is_run(row, 0, ReasonCreated::Scheduled, CREATED, Some(3), end)
+        && stands(row, RunState::Exception, 1, 5)
 }
 
 /// With one retry, the first intermittent fault is followed by a new run, and the second is not.
 #[test]
 fn an_intermittent_fault_uses_a_retry(rt: HostRuntime) -> Result<(), Fail> {
     let mut row = running_row(rt.alloc(), ONE_RETRY)?;
-    let reason = ReasonResolved::IntermittentTask;
-    assert!(rt; row.resolve(moment(TAKEN + 5), 0, reason, 8) == Ok(true));
-    assert!(rt; is_run(&row, 1, ReasonCreated::TaskRetry, TAKEN + 5, Some(8), None));
-    assert!(rt; stands(&row, RunState::Pending, 2, 0));
-    assert!(rt; take(rt.alloc(), &mut row));
-    assert!(rt; row.resolve(moment(TAKEN + 9), 1, reason, 9) == Ok(true));
-    assert!(rt; stands(&row, RunState::Exception, 2, 0));
+    assert!(rt; an_intermittent_fault_uses_a_retry_holds(rt.alloc(), &mut row));
     Ok(())
+}
+
+fn an_intermittent_fault_uses_a_retry_holds(alloc: Global, row: &mut TaskRow) -> bool {
+    let reason = ReasonResolved::IntermittentTask;
+    row.resolve(moment(TAKEN + 5), 0, reason, 8) == Ok(true)
+        && is_run(row, 1, ReasonCreated::TaskRetry, TAKEN + 5, Some(8), None)
+        && stands(row, RunState::Pending, 2, 0)
+        && take(alloc, row)
+        && row.resolve(moment(TAKEN + 9), 1, reason, 9) == Ok(true)
+        && stands(row, RunState::Exception, 2, 0)
 }
 
 /// What a report of a reason leaves: its name, the state of the run that ended, and why a run was made behind it.
@@ -301,75 +337,99 @@ fn most_reports_end_the_task(rt: HostRuntime) -> Result<(), Fail> {
 #[test]
 fn a_shutdown_is_followed_by_a_run(rt: HostRuntime) -> Result<(), Fail> {
     let mut row = running_row(rt.alloc(), PLAIN)?;
-    let reason = ReasonResolved::WorkerShutdown;
-    assert!(rt; is_reported(&mut row, reason, "worker-shutdown", RunState::Exception));
-    assert!(rt; is_run(&row, 1, ReasonCreated::Retry, TAKEN + 5, Some(8), None));
-    assert!(rt; stands(&row, RunState::Pending, 2, 4));
+    assert!(rt; a_shutdown_is_followed_by_a_run_holds(&mut row));
     Ok(())
+}
+
+fn a_shutdown_is_followed_by_a_run_holds(row: &mut TaskRow) -> bool {
+    let reason = ReasonResolved::WorkerShutdown;
+    is_reported(row, reason, "worker-shutdown", RunState::Exception)
+        && is_run(row, 1, ReasonCreated::Retry, TAKEN + 5, Some(8), None)
+        && stands(row, RunState::Pending, 2, 4)
 }
 
 #[test]
 fn a_report_of_a_run_that_is_not_running_is_refused(rt: HostRuntime) -> Result<(), Fail> {
     let mut row = pending_row(rt.alloc(), PLAIN)?;
-    let at = moment(TAKEN);
-    assert!(rt; row.resolve(at, 0, ReasonResolved::Completed, 8) == Err(Refusal::NotRunning));
-    assert!(rt; row.resolve(at, 1, ReasonResolved::Completed, 8) == Err(Refusal::NoRun));
-    assert!(rt; row.reclaim(0, at) == Err(Refusal::NotRunning));
-    assert!(rt; row.reclaim(1, at) == Err(Refusal::NoRun));
-    assert!(rt; stands(&row, RunState::Pending, 1, 5));
+    assert!(rt; a_report_of_a_run_that_is_not_running_is_refused_holds(&mut row));
     Ok(())
+}
+
+fn a_report_of_a_run_that_is_not_running_is_refused_holds(row: &mut TaskRow) -> bool {
+    let at = moment(TAKEN);
+    row.resolve(at, 0, ReasonResolved::Completed, 8) == Err(Refusal::NotRunning)
+        && row.resolve(at, 1, ReasonResolved::Completed, 8) == Err(Refusal::NoRun)
+        && row.reclaim(0, at) == Err(Refusal::NotRunning)
+        && row.reclaim(1, at) == Err(Refusal::NoRun)
+        && stands(row, RunState::Pending, 1, 5)
 }
 
 /// A repeated report stays as it was, also where the run is no longer the last; another report is refused.
 #[test]
 fn a_report_is_repeated(rt: HostRuntime) -> Result<(), Fail> {
     let mut row = running_row(rt.alloc(), PLAIN)?;
-    let at = moment(TAKEN + 5);
-    assert!(rt; row.resolve(at, 0, ReasonResolved::Completed, 8) == Ok(true));
-    assert!(rt; row.resolve(moment(TAKEN + 6), 0, ReasonResolved::Completed, 8) == Ok(false));
-    assert!(rt; row.resolve(at, 0, ReasonResolved::Failed, 8) == Err(Refusal::NotRunning));
-    assert!(rt; row.rerun(at, 8) == Ok(true));
-    assert!(rt; row.resolve(moment(TAKEN + 6), 0, ReasonResolved::Completed, 9) == Ok(false));
-    let end = outcome(ReasonResolved::Completed, TAKEN + 5);
-    assert!(rt; is_run(&row, 0, ReasonCreated::Scheduled, CREATED, Some(3), end));
-    assert!(rt; is_run(&row, 1, ReasonCreated::Rerun, TAKEN + 5, Some(8), None));
+    assert!(rt; a_report_is_repeated_holds(&mut row));
     Ok(())
+}
+
+fn a_report_is_repeated_holds(row: &mut TaskRow) -> bool {
+    let at = moment(TAKEN + 5);
+    let end = outcome(ReasonResolved::Completed, TAKEN + 5);
+    row.resolve(at, 0, ReasonResolved::Completed, 8) == Ok(true)
+        && row.resolve(moment(TAKEN + 6), 0, ReasonResolved::Completed, 8) == Ok(false)
+        && row.resolve(at, 0, ReasonResolved::Failed, 8) == Err(Refusal::NotRunning)
+        && row.rerun(at, 8) == Ok(true)
+        && row.resolve(moment(TAKEN + 6), 0, ReasonResolved::Completed, 9) == Ok(false)
+        && is_run(row, 0, ReasonCreated::Scheduled, CREATED, Some(3), end)
+        && is_run(row, 1, ReasonCreated::Rerun, TAKEN + 5, Some(8), None)
 }
 
 /// Run 0 uses up a retry; the rerun gives the task its retries again.
 #[test]
 fn a_rerun_has_the_retries_again(rt: HostRuntime) -> Result<(), Fail> {
     let mut row = running_row(rt.alloc(), PLAIN)?;
-    assert!(rt; row.expire(moment(TAKEN_UNTIL), 8));
-    assert!(rt; row.cancel(moment(TAKEN_UNTIL)));
-    assert!(rt; row.rerun(moment(TAKEN_UNTIL), 9) == Ok(true));
-    assert!(rt; stands(&row, RunState::Pending, 3, 5));
+    assert!(rt; a_rerun_has_the_retries_again_holds(&mut row));
     Ok(())
+}
+
+fn a_rerun_has_the_retries_again_holds(row: &mut TaskRow) -> bool {
+    row.expire(moment(TAKEN_UNTIL), 8)
+        && row.cancel(moment(TAKEN_UNTIL))
+        && row.rerun(moment(TAKEN_UNTIL), 9) == Ok(true)
+        && stands(row, RunState::Pending, 3, 5)
 }
 
 /// Of 49 retries 48 are left beside two runs.
 #[test]
 fn runs_and_retries_are_at_most_fifty(rt: HostRuntime) -> Result<(), Fail> {
     let mut row = pending_row(rt.alloc(), ALL_RETRIES)?;
-    assert!(rt; stands(&row, RunState::Pending, 1, 49));
-    assert!(rt; row.cancel(moment(TAKEN)));
-    assert!(rt; row.rerun(moment(TAKEN), 8) == Ok(true));
-    assert!(rt; stands(&row, RunState::Pending, 2, 48));
+    assert!(rt; runs_and_retries_are_at_most_fifty_holds(&mut row));
     Ok(())
+}
+
+fn runs_and_retries_are_at_most_fifty_holds(row: &mut TaskRow) -> bool {
+    stands(row, RunState::Pending, 1, 49)
+        && row.cancel(moment(TAKEN))
+        && row.rerun(moment(TAKEN), 8) == Ok(true)
+        && stands(row, RunState::Pending, 2, 48)
 }
 
 #[test]
 fn a_rerun_may_be_refused(rt: HostRuntime) -> Result<(), Fail> {
     let mut row = new_row(rt.alloc(), PLAIN)?;
-    assert!(rt; row.rerun(moment(DEADLINE), 3) == Err(Refusal::Unscheduled));
-    assert!(rt; row.schedule(moment(CREATED), 3));
-    assert!(rt; row.rerun(moment(DEADLINE), 4) == Ok(false));
-    assert!(rt; row.cancel(moment(TAKEN)));
-    assert!(rt; row.rerun(moment(DEADLINE), 4) == Err(Refusal::DeadlineCame));
-    assert!(rt; stands(&row, RunState::Exception, 1, 5));
-    assert!(rt; row.rerun(moment(DEADLINE - 1), 4) == Ok(true));
-    assert!(rt; stands(&row, RunState::Pending, 2, 5));
+    assert!(rt; a_rerun_may_be_refused_holds(&mut row));
     Ok(())
+}
+
+fn a_rerun_may_be_refused_holds(row: &mut TaskRow) -> bool {
+    row.rerun(moment(DEADLINE), 3) == Err(Refusal::Unscheduled)
+        && row.schedule(moment(CREATED), 3)
+        && row.rerun(moment(DEADLINE), 4) == Ok(false)
+        && row.cancel(moment(TAKEN))
+        && row.rerun(moment(DEADLINE), 4) == Err(Refusal::DeadlineCame)
+        && stands(row, RunState::Exception, 1, 5)
+        && row.rerun(moment(DEADLINE - 1), 4) == Ok(true)
+        && stands(row, RunState::Pending, 2, 5)
 }
 
 /// A worker takes the pending run, fails, and the task is run again.
@@ -382,35 +442,48 @@ fn fails_again(alloc: Global, row: &mut TaskRow, round: u8) -> bool {
 #[test]
 fn a_task_has_fifty_runs(rt: HostRuntime) -> Result<(), Fail> {
     let mut row = pending_row(rt.alloc(), NO_RETRY)?;
-    for round in 0..49 {
-        assert!(rt; fails_again(rt.alloc(), &mut row, round));
-    }
-    assert!(rt; take(rt.alloc(), &mut row));
-    assert!(rt; row.resolve(moment(TAKEN), 49, ReasonResolved::Failed, 8) == Ok(true));
-    assert!(rt; row.rerun(moment(TAKEN), 8) == Err(Refusal::FiftyRuns));
-    assert!(rt; row.resolve(moment(TAKEN), 49, ReasonResolved::Failed, 8) == Ok(false));
-    assert!(rt; stands(&row, RunState::Failed, 50, 0));
+    assert!(rt; a_task_has_fifty_runs_holds(rt.alloc(), &mut row));
     Ok(())
+}
+
+fn a_task_has_fifty_runs_holds(alloc: Global, row: &mut TaskRow) -> bool {
+    let mut all = true;
+    for round in 0..49 {
+        all &= fails_again(alloc, row, round);
+    }
+    all && take(alloc, row)
+        && row.resolve(moment(TAKEN), 49, ReasonResolved::Failed, 8) == Ok(true)
+        && row.rerun(moment(TAKEN), 8) == Err(Refusal::FiftyRuns)
+        && row.resolve(moment(TAKEN), 49, ReasonResolved::Failed, 8) == Ok(false)
+        && stands(row, RunState::Failed, 50, 0)
 }
 
 #[test]
 fn a_task_is_canceled_once(rt: HostRuntime) -> Result<(), Fail> {
     let mut row = running_row(rt.alloc(), PLAIN)?;
-    assert!(rt; row.cancel(moment(TAKEN + 5)));
-    assert!(rt; !row.cancel(moment(TAKEN + 6)));
-    let end = outcome(ReasonResolved::Canceled, TAKEN + 5);
-    assert!(rt; is_run(&row, 0, ReasonCreated::Scheduled, CREATED, Some(3), end));
-    assert!(rt; stands(&row, RunState::Exception, 1, 5));
-    assert!(rt; row.claim_due() == None);
+    assert!(rt; a_task_is_canceled_once_holds(&mut row));
     Ok(())
+}
+
+fn a_task_is_canceled_once_holds(row: &mut TaskRow) -> bool {
+    let end = outcome(ReasonResolved::Canceled, TAKEN + 5);
+    row.cancel(moment(TAKEN + 5))
+        && !row.cancel(moment(TAKEN + 6))
+        && is_run(row, 0, ReasonCreated::Scheduled, CREATED, Some(3), end)
+        && stands(row, RunState::Exception, 1, 5)
+        && row.claim_due() == None
 }
 
 #[test]
 fn an_unscheduled_task_is_canceled(rt: HostRuntime) -> Result<(), Fail> {
     let mut row = new_row(rt.alloc(), PLAIN)?;
-    assert!(rt; row.cancel(moment(TAKEN)));
-    let end = outcome(ReasonResolved::Canceled, TAKEN);
-    assert!(rt; is_run(&row, 0, ReasonCreated::Exception, TAKEN, None, end));
-    assert!(rt; stands(&row, RunState::Exception, 1, 5));
+    assert!(rt; an_unscheduled_task_is_canceled_holds(&mut row));
     Ok(())
+}
+
+fn an_unscheduled_task_is_canceled_holds(row: &mut TaskRow) -> bool {
+    let end = outcome(ReasonResolved::Canceled, TAKEN);
+    row.cancel(moment(TAKEN))
+        && is_run(row, 0, ReasonCreated::Exception, TAKEN, None, end)
+        && stands(row, RunState::Exception, 1, 5)
 }

@@ -1,4 +1,4 @@
-use Rattle.std.proofs.Common.{◌≡◌, ℕ, ◌∙◌, ap, nat_le, ◌++◌, [], ◌∷◌, Option, filter, arith}
+use Rattle.std.proofs.Common.{ℕ, ◌∙◌, ap, nat_le, ◌++◌, [], ◌∷◌, Option, filter, arith}
 use Rattle.std.specs.Option.{option_to_list}
 use Rattle.std.specs.List.{reduce}
 use Rattle.claim_queue.specs.Held.{held_from}

@@ -1,4 +1,4 @@
-use Rattle.std.proofs.Common.{◌≡◌, ap, sym, ◌∙◌, Some, None, length, slice_get, slice_set, arith, length-set}
+use Rattle.std.proofs.Common.{◌≡◌, ap, sym, ◌∙◌, Some, None, slice_get, arith, length-set}
 use Rattle.claim_queue.specs.Held.{held}
 use Rattle.claim_queue.specs.Dues.{Dues}
 use Rattle.claim_queue.proofs.HeldLemmas.{held-added}

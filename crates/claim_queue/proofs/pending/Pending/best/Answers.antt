@@ -1,5 +1,4 @@
-use Rattle.std.proofs.Common.{◌≡◌, ap, sym, ◌∙◌, Option, option_map}
-use Rattle.claim_queue.specs.declared.entries.Entry.{Entry}
+use Rattle.std.proofs.Common.{ap, sym, ◌∙◌, option_map}
 use Rattle.claim_queue.specs.Waits.{Waits}
 use Rattle.claim_queue.proofs.PlaceLemmas.{best-shown}
 use Rattle.claim_queue.proofs.pending.Pending.best.Goals as goal

@@ -1,4 +1,4 @@
-use Rattle.std.proofs.Common.{◌≡◌, ap, None, length, slice_set, arith, length-set}
+use Rattle.std.proofs.Common.{ap, None, length, slice_set, arith, length-set}
 use Rattle.claim_queue.specs.Waits.{Waits}
 use Rattle.claim_queue.specs.Places.{told_rows}
 use Rattle.claim_queue.proofs.PlaceLemmas.{placed-clear, told-clear, waits-same}

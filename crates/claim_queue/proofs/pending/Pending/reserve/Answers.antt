@@ -1,8 +1,8 @@
-use Rattle.std.proofs.Common.{◌≡◌, ◌+◌, ◌++◌, [], ◌∷◌, ap, sym, ◌∙◌, true, false, length, map, rules, arith, length-append}
+use Rattle.std.proofs.Common.{◌≡◌, ◌+◌, ◌++◌, [], ◌∷◌, ap, sym, ◌∙◌, true, false, length, rules, arith, length-append}
 use Rattle.std.proofs.lemmas.List.{length-map}
 use Rattle.claim_queue.specs.Held.{up_to}
 use Rattle.claim_queue.specs.declared.queues.Queue.{Queue}
-use Rattle.claim_queue.specs.Waits.{Waits, raised, knows, count_in}
+use Rattle.claim_queue.specs.Waits.{Waits, raised, knows}
 use Rattle.claim_queue.proofs.PlaceLemmas.{placed-after, count-shown, room-known, room-new}
 use Rattle.claim_queue.proofs.pending.Pending.reserve.Goals as goal
 
