@@ -2,6 +2,7 @@
 ghost use Rattle.std.specs.Prelude.{◌≡◌, ℕ, List, true};
 ghost use Rattle.run_states.specs.declared.reasons.ReasonResolved.{ReasonResolved};
 ghost use Rattle.run_states.specs.declared.run.Claim.{Claim};
+ghost use Rattle.run_states.specs.Reasons.{resolved_name};
 ghost use Rattle.run_states.specs.Rows.{Row, is_resolved, scheduled, exceeded};
 ghost use Rattle.run_states.specs.Moves.{claimed, reclaimed, resolved, expired, canceled, run_again};
 ghost use Rattle.run_states.specs.Later.{RowLater, RowsLater};
@@ -28,4 +29,9 @@ pub fn a_deadline_resolves()
 pub fn later_goes_on()
     ensures same { (rows : List Row) → RowsLater rows rows }
     ensures on { (first next last : List Row) → RowsLater first next → RowsLater next last → RowsLater first last }
+{}
+
+/// The reasons for which a run ends have names of their own, so one that is compared by its name is compared.
+pub fn reasons_have_names_of_their_own()
+    ensures { (a b : ReasonResolved) → resolved_name a ≡ resolved_name b → a ≡ b }
 {}

@@ -12,7 +12,7 @@ mod row;
 mod run;
 mod runs;
 
-pub use laws::{a_deadline_resolves, later_goes_on, runs_stay};
+pub use laws::{a_deadline_resolves, later_goes_on, reasons_have_names_of_their_own, runs_stay};
 pub use reasons::{ReasonCreated, ReasonResolved, RunState};
 pub use refusal::Refusal;
 pub use row::{MOST_RETRIES, MOST_RUNS, TaskRow};
