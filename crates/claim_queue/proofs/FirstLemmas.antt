@@ -40,17 +40,17 @@ chosen-first before order a [] rises = ((no-before before order a, λ is. omega 
 chosen-first {A = A} before order a (o ∷ es) rises = by (before o a) refl (chosen-first before order o es rises.1) (chosen-first before order a es (lower a.1 o.1 es rises.0 rises.1)) where
   by : (t : Bool) → before o a ≡ t → Each (Follows before (fold (choice before) o es)) (o ∷ es) → Each (Follows before (fold (choice before) a es)) (a ∷ es) → Each (Follows before (fold (choice before) a (o ∷ es))) (a ∷ o ∷ es)
   by true is later stays =
-    let e = fold (choice before) o es in
-    let not_a : before a e ≡ false = order.chain a o e (order.one_way o a is) later.0.0 in
-    let equal : before e a ≡ false → e.1 ≤ a.1 = λ same_. let no_ : before o a ≡ false = order.chain o e a later.0.0 same_ in cc in
-    let same : choice before a o ≡ o = rw is refl in
-    subst (λ (z : A × ℕ). Each (Follows before (fold (choice before) z es)) (a ∷ o ∷ es)) (sym same) ((not_a, equal), later)
+      let e = fold (choice before) o es in
+      let not_a : before a e ≡ false = order.chain a o e (order.one_way o a is) later.0.0 in
+      let equal : before e a ≡ false → e.1 ≤ a.1 = λ same_. let no_ : before o a ≡ false = order.chain o e a later.0.0 same_ in cc in
+      let same : choice before a o ≡ o = rw is refl in
+      subst (λ (z : A × ℕ). Each (Follows before (fold (choice before) z es)) (a ∷ o ∷ es)) (sym same) ((not_a, equal), later)
   by false is later stays =
-    let e = fold (choice before) a es in
-    let not_o : before o e ≡ false = order.chain o a e is stays.0.0 in
-    let equal : before e o ≡ false → e.1 ≤ o.1 = λ same_. let le = stays.0.1 (order.chain e o a same_ is) in let up = rises.0 in omega arith in
-    let same : choice before a o ≡ a = rw is refl in
-    subst (λ (z : A × ℕ). Each (Follows before (fold (choice before) z es)) (a ∷ o ∷ es)) (sym same) (stays.0, ((not_o, equal), stays.1))
+      let e = fold (choice before) a es in
+      let not_o : before o e ≡ false = order.chain o a e is stays.0.0 in
+      let equal : before e o ≡ false → e.1 ≤ o.1 = λ same_. let le = stays.0.1 (order.chain e o a same_ is) in let up = rises.0 in omega arith in
+      let same : choice before a o ≡ a = rw is refl in
+      subst (λ (z : A × ℕ). Each (Follows before (fold (choice before) z es)) (a ∷ o ∷ es)) (sym same) (stays.0, ((not_o, equal), stays.1))
 
 -- what is chosen is one of the list
 chosen-keeps : {A : Type 0} (before : A × ℕ → A × ℕ → Bool) (P : A × ℕ → Type 0) (a : A × ℕ) (es : List (A × ℕ)) → P a → Each P es → P (fold (choice before) a es)
@@ -117,23 +117,29 @@ pub first-is : {A : Type 0} (before : A × ℕ → A × ℕ → Bool) (order : I
 first-is {A = A} before order test rows = by (filter test (held_from 0 rows)) refl where
   Held : A × ℕ → Type 0
   Held = λ e. IsHeld rows e.1 e.0
+
   all_held : Each (λ (e : A × ℕ). IsHeld rows e.1 e.0) (held_from 0 rows)
   all_held = held-each 0 rows (λ (e : A × ℕ). IsHeld rows e.1 e.0) (λ k x is. subst (λ n. IsHeld rows n x) (omega arith) is)
+
   rising : Rises 0 (filter test (held_from 0 rows))
   rising = filter-rises test 0 (held_from 0 rows) (held-rises 0 0 rows (omega arith))
+
   by : (es : List (A × ℕ)) → filter test (held_from 0 rows) ≡ es → IsFirst before test rows (reduce (choice before) es)
   by [] is = λ row x held passes.
-    let none : Each (λ (e : A × ℕ). ⊥) (filter test (held_from 0 rows)) = subst (λ (l : List (A × ℕ)). Each (λ (e : A × ℕ). ⊥) l) (sym is) tt in
-    each-held 0 rows (λ (e : A × ℕ). test e ≡ true → ⊥) (filter-each test (λ (e : A × ℕ). ⊥) (held_from 0 rows) none) row x held (subst (λ n. test (x, n) ≡ true) (omega arith) passes)
+      let none : Each (λ (e : A × ℕ). ⊥) (filter test (held_from 0 rows)) = subst (λ (l : List (A × ℕ)). Each (λ (e : A × ℕ). ⊥) l) (sym is) tt in
+      each-held 0 rows (λ (e : A × ℕ). test e ≡ true → ⊥) (filter-each test (λ (e : A × ℕ). ⊥) (held_from 0 rows) none) row x held (subst (λ n. test (x, n) ≡ true) (omega arith) passes)
   by (a ∷ es) is =
-    let e = fold (choice before) a es in
-    let kept : Each (λ (o : A × ℕ). (test o ≡ true) × IsHeld rows o.1 o.0) (a ∷ es) =
-    subst (λ (l : List (A × ℕ)). Each (λ (o : A × ℕ). (test o ≡ true) × IsHeld rows o.1 o.0) l) is (each-filter test (λ (o : A × ℕ). IsHeld rows o.1 o.0) (held_from 0 rows) all_held) in
-    let here : (test e ≡ true) × IsHeld rows e.1 e.0 = chosen-keeps before (λ (o : A × ℕ). (test o ≡ true) × IsHeld rows o.1 o.0) a es kept.0 kept.1 in
-    let rises : Rises 0 (a ∷ es) = subst (λ (l : List (A × ℕ)). Rises 0 l) is rising in
-    let follows : Each (Follows before e) (filter test (held_from 0 rows)) = subst (λ (l : List (A × ℕ)). Each (Follows before e) l) (sym is) (chosen-first before order a es rises.1) in
-    (here.1, here.0, λ row x held passes.
-      subst (λ n. Follows before e (x, n)) (omega arith) (each-held 0 rows (λ (o : A × ℕ). test o ≡ true → Follows before e o) (filter-each test (Follows before e) (held_from 0 rows) follows) row x held (subst (λ n. test (x, n) ≡ true) (omega arith) passes)))
+      let e = fold (choice before) a es in
+      let kept : Each (λ (o : A × ℕ). (test o ≡ true) × IsHeld rows o.1 o.0) (a ∷ es) =
+      subst (λ (l : List (A × ℕ)). Each (λ (o : A × ℕ). (test o ≡ true) × IsHeld rows o.1 o.0) l) is (each-filter test (λ (o : A × ℕ). IsHeld rows o.1 o.0) (held_from 0 rows) all_held) in
+      let here : (test e ≡ true) × IsHeld rows e.1 e.0 = chosen-keeps before (λ (o : A × ℕ). (test o ≡ true) × IsHeld rows o.1 o.0) a es kept.0 kept.1 in
+      let rises : Rises 0 (a ∷ es) = subst (λ (l : List (A × ℕ)). Rises 0 l) is rising in
+      let follows : Each (Follows before e) (filter test (held_from 0 rows)) = subst (λ (l : List (A × ℕ)). Each (Follows before e) l) (sym is) (chosen-first before order a es rises.1) in (
+        here.1,
+        here.0,
+        λ row x held passes.
+            subst (λ n. Follows before e (x, n)) (omega arith) (each-held 0 rows (λ (o : A × ℕ). test o ≡ true → Follows before e o) (filter-each test (Follows before e) (held_from 0 rows) follows) row x held (subst (λ n. test (x, n) ≡ true) (omega arith) passes)),
+      )
 
 pub first-one : {A : Type 0} (before : A × ℕ → A × ℕ → Bool) (test : A × ℕ → Bool) (rows : List (Option A)) (a b : Option (A × ℕ)) → IsFirst before test rows a → IsFirst before test rows b → a ≡ b
 first-one before test rows None None p q = refl

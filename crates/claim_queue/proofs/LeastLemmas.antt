@@ -32,18 +32,22 @@ due-first moment rows None p = λ row at held. by row at held (nat_le at moment)
 due-first moment rows (Some e) p = (p.0, leb-true e.0 moment p.1, λ row at held. by row at held (nat_le at moment) refl) where
   by : (row at : ℕ) → IsHeld rows row at → (t : Bool) → nat_le at moment ≡ t → (e.0 ≤ at) × (at ≡ e.0 → e.1 ≤ row)
   by row at held true is =
-    let follows = p.2 row at held is in
-    (not-lt at e.0 follows.0, λ same. follows.1 (lt-not e.0 at (omega arith)))
+      let follows = p.2 row at held is in
+      (not-lt at e.0 follows.0, λ same. follows.1 (lt-not e.0 at (omega arith)))
   by row at held false is =
-    let later : moment < at = leb-false at moment is in
-    let early : e.0 ≤ moment = leb-true e.0 moment p.1 in
-    (omega arith, λ same. absurd (omega arith))
+      let later : moment < at = leb-false at moment is in
+      let early : e.0 ≤ moment = leb-true e.0 moment p.1 in
+      (omega arith, λ same. absurd (omega arith))
 
 first-due : (moment : ℕ) (rows : List (Option ℕ)) (first : Option (ℕ × ℕ)) → IsFirstDue moment rows first → IsFirst is_sooner (is_due moment) rows first
 first-due moment rows None p = λ row at held passes. let later = p row at held in let early = leb-true at moment passes in omega arith
-first-due moment rows (Some e) p = (p.0, le-leb e.0 moment p.1, λ row at held passes.
-  let follows = p.2 row at held in
-  (lt-not at e.0 follows.0, λ same. let ge = not-lt e.0 at same in let le = follows.0 in follows.1 (omega arith)))
+first-due moment rows (Some e) p = (
+  p.0,
+  le-leb e.0 moment p.1,
+  λ row at held passes.
+      let follows = p.2 row at held in
+      (lt-not at e.0 follows.0, λ same. let ge = not-lt e.0 at same in let le = follows.0 in follows.1 (omega arith)),
+)
 
 pub first-due-is : (moment : ℕ) (dues : Dues) → IsFirstDue moment dues.rows (first_due_of moment dues)
 first-due-is moment dues =
