@@ -292,46 +292,50 @@ fn an_intermittent_fault_uses_a_retry_holds(alloc: Global, row: &mut TaskRow) ->
         && stands(row, RunState::Exception, 2, 0)
 }
 
-/// What a report of a reason leaves: its name, the state of the run that ended, and why a run was made behind it.
-fn is_reported(row: &mut TaskRow, reason: ReasonResolved, name: &str, state: RunState) -> bool {
-    row.resolve(moment(TAKEN + 5), 0, reason, 8) == Ok(true)
-        && reason.name() == name
-        && matches!(row.runs().first(), Some(run) if run.state() == state)
-}
-
-fn ends_with(
+/// Whether a report ends the task, in this state, without a retry; it is then run again, and taken.
+fn ends(
     alloc: Global,
+    row: &mut TaskRow,
+    run: u8,
     reason: ReasonResolved,
-    name: &str,
     state: RunState,
-) -> Result<bool, Fail> {
-    let mut row = running_row(alloc, PLAIN)?;
-    Ok(is_reported(&mut row, reason, name, state) && stands(&row, state, 1, 5))
+) -> bool {
+    row.resolve(moment(TAKEN + 5), run, reason, 8) == Ok(true)
+        && row.state() == Some(state)
+        && row.retries_left() == 5
+        && row.rerun(moment(TAKEN + 6), 9) == Ok(true)
+        && take(alloc, row)
 }
 
 #[test]
 fn most_reports_end_the_task(rt: HostRuntime) -> Result<(), Fail> {
-    use ReasonResolved as Reason;
-    let ends = [
-        (Reason::Completed, "completed", RunState::Completed),
-        (Reason::Failed, "failed", RunState::Failed),
-        (Reason::Superseded, "superseded", RunState::Exception),
-        (
-            Reason::MalformedPayload,
-            "malformed-payload",
-            RunState::Exception,
-        ),
-        (
-            Reason::ResourceUnavailable,
-            "resource-unavailable",
-            RunState::Exception,
-        ),
-        (Reason::InternalError, "internal-error", RunState::Exception),
-    ];
-    for (reason, name, state) in ends {
-        assert!(rt; ends_with(rt.alloc(), reason, name, state)?, "{name}");
-    }
+    let mut row = running_row(rt.alloc(), PLAIN)?;
+    assert!(rt; most_reports_end_the_task_holds(rt.alloc(), &mut row));
     Ok(())
+}
+
+fn most_reports_end_the_task_holds(alloc: Global, row: &mut TaskRow) -> bool {
+    use ReasonResolved as Reason;
+    ends(alloc, row, 0, Reason::Completed, RunState::Completed)
+        && ends(alloc, row, 1, Reason::Failed, RunState::Failed)
+        && ends(alloc, row, 2, Reason::Superseded, RunState::Exception)
+        && ends(alloc, row, 3, Reason::MalformedPayload, RunState::Exception)
+        && ends(
+            alloc,
+            row,
+            4,
+            Reason::ResourceUnavailable,
+            RunState::Exception,
+        )
+        && ends(alloc, row, 5, Reason::InternalError, RunState::Exception)
+}
+
+#[test]
+fn reasons_and_states_have_names(rt: HostRuntime) {
+    assert!(rt; ReasonResolved::DeadlineExceeded.name() == "deadline-exceeded");
+    assert!(rt; ReasonResolved::WorkerShutdown.name() == "worker-shutdown");
+    assert!(rt; ReasonCreated::TaskRetry.name() == "task-retry");
+    assert!(rt; RunState::Running.name() == "running");
 }
 
 #[test]
@@ -343,7 +347,7 @@ fn a_shutdown_is_followed_by_a_run(rt: HostRuntime) -> Result<(), Fail> {
 
 fn a_shutdown_is_followed_by_a_run_holds(row: &mut TaskRow) -> bool {
     let reason = ReasonResolved::WorkerShutdown;
-    is_reported(row, reason, "worker-shutdown", RunState::Exception)
+    row.resolve(moment(TAKEN + 5), 0, reason, 8) == Ok(true)
         && is_run(row, 1, ReasonCreated::Retry, TAKEN + 5, Some(8), None)
         && stands(row, RunState::Pending, 2, 4)
 }
