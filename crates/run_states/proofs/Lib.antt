@@ -1,2 +1,3 @@
 pub mod LaterLemmas
 pub mod RunLemmas
+pub mod NameLemmas
