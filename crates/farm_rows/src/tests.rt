@@ -75,24 +75,23 @@ fn reach(tables: &mut TaskTables, millis: u64) {
 
 /// Whether the task of a number has one run, with this number, which was scheduled as it was created, and has this outcome.
 fn has_run(tables: &TaskTables, id: SlugId, number: u64, outcome: Option<Outcome>) -> bool {
+    let run = Run {
+        created: ReasonCreated::Scheduled,
+        number: Some(number),
+        scheduled: moment(CREATED),
+        outcome,
+    };
     match tables.row(id) {
-        Some(row) => has_only(row.runs(), number, outcome),
+        Some(row) => is_only(row.runs(), run),
         None => false,
     }
 }
 
-fn has_only(runs: &[Run], number: u64, outcome: Option<Outcome>) -> bool {
+fn is_only(runs: &[Run], run: Run) -> bool {
     match runs {
-        [only] => is_scheduled(only, number) && only.outcome == outcome,
+        [only] => *only == run,
         _ => false,
     }
-}
-
-fn is_scheduled(run: &Run, number: u64) -> bool {
-    run.created == ReasonCreated::Scheduled
-        && run.number == Some(number)
-        && run.scheduled == moment(CREATED)
-        && run.claim.is_none()
 }
 
 /// The outcome of a task whose deadline came at this moment.
