@@ -1,2 +1,0 @@
-pub mod TaskLemmas
-pub mod EdgeLemmas

@@ -1,4 +1,0 @@
-pub mod Members
-pub mod Pages
-pub mod Faults
-pub mod Kept
