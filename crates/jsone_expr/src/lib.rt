@@ -1,4 +1,4 @@
-//! JSON-e expressions: their tokens, their grammar and their trees (no parser yet).
+//! JSON-e expressions: their tokens, their grammar and their trees.
 //!
 //! Levels from the loosest: `||`, `&&`, `in`, `==` and `!=`, `<` and its kin, `+` and `-`, `*` and `/`, `**` (which goes to
 //! the right), the signs `!` `-` `+`, and what stands behind a value: `.name`, `[e]`, `[e:e]` and a function's `(args)`.
@@ -7,4 +7,5 @@
 pub mod laws;
 mod machine;
 pub mod marks;
+mod parse;
 pub mod tokens;
