@@ -1,5 +1,0 @@
-pub mod Tokens
-pub mod Trees
-pub mod Grammar
-pub mod Postfix
-pub mod Moves
