@@ -33,7 +33,9 @@ def definition(payload, **more):
 
 def filled(size, make):
     """The definition whose payload has as many parts as fit into so many bytes."""
-    low, high = 0, size
+    low, high = 0, 1
+    while len(make(high)) <= size:
+        low, high = high, 2 * high
     while low < high:
         middle = (low + high + 1) // 2
         low, high = (middle, high) if len(make(middle)) <= size else (low, middle - 1)
@@ -51,7 +53,7 @@ CASES = [
     ("lists 120 deep", lambda n: definition('{"a":[%s]}' % ",".join(["[" * 120 + "]" * 120] * n)), 200),
     ("tags", lambda n: definition("{}", tags="{%s}" % ",".join('"k%d":"v"' % i for i in range(n))), 200),
     ("a fraction at the end", lambda n: definition('{"a":[%s]}' % ",".join(["7"] * n + ["1.5"])), 400),
-    ("unknown keys", lambda n: definition("{}", **{"k%d" % i: "0" for i in range(n)}), 400),
+    ("unknown keys", lambda n: definition("{}")[:-1] + "".join(',"k%d":0' % i for i in range(n)) + "}", 400),
     ("open brackets", lambda n: "[" * n, 400),
 ]
 
