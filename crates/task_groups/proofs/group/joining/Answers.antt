@@ -1,0 +1,37 @@
+use Rattle.std.proofs.Common.{◌≡◌, ℕ, ◌<◌, List, Option, Some, None, map, length, position, bytes_eq, sym, ◌∙◌, ap, subst, vec_len, vec_capacity}
+use Rattle.task_groups.specs.declared.group.Group.{Group}
+use Rattle.task_groups.specs.Kept.{shown, HasRoomAt}
+use Rattle.task_groups.proofs.GroupLemmas.{position-same, served-at, served-none, refused-at}
+use Rattle.task_groups.proofs.group.joining.Goals as goal
+
+abbrev place_in : List ℕ → List Group → Option ℕ
+place_in id groups = position (λ (group : Group). bytes_eq group.id id) groups
+
+pub returns-in-Ok-clause-room : goal.returns-in-Ok-clause-room
+returns-in-Ok-clause-room c =
+    let old = c.args.groups.now.items in
+    let new = c.joining_at.new.groups.items in
+    let j = c.in-Ok.joining in
+    let at : place_in c.args.id old ≡ Some c.in-Some.place = ap (place_in c.args.id) (sym c.deref.ensures.value) ∙ (sym c.place_of.ensures ∙ c.in-Some.is) in
+    let named : j.id ≡ c.args.id = c.in-Ok.ensures.named.0 in
+    let here : place_in j.id new ≡ Some c.in-Some.place = ap (λ id. place_in id new) named ∙ (position-same new old c.args.id c.joining_at.ensures.same ∙ at) in
+    let P : Option ℕ → Type 0 = λ o. HasRoomAt new (vec_capacity c.joining_at.new.groups) j o in
+    subst P (sym here) c.in-Ok.ensures.room
+
+pub returns-in-Ok-clause-served : goal.returns-in-Ok-clause-served
+returns-in-Ok-clause-served c =
+    let old = c.args.groups.now.items in
+    let at : place_in c.args.id old ≡ Some c.in-Some.place = ap (place_in c.args.id) (sym c.deref.ensures.value) ∙ (sym c.place_of.ensures ∙ c.in-Some.is) in
+    served-at old c.args.id c.args.scheduler.now c.in-Some.place at c.in-Ok.ensures.served
+
+pub returns-in-Err-clause-refused : goal.returns-in-Err-clause-refused
+returns-in-Err-clause-refused c =
+    let old = c.args.groups.now.items in
+    let at : place_in c.args.id old ≡ Some c.in-Some.place = ap (place_in c.args.id) (sym c.deref.ensures.value) ∙ (sym c.place_of.ensures ∙ c.in-Some.is) in
+    refused-at old c.args.id c.args.scheduler.now c.in-Some.place c.in-Err.fault at c.in-Err.ensures.refused
+
+pub returns-in-Ok-joining_first-clause-served : goal.returns-in-Ok-joining_first-clause-served
+returns-in-Ok-joining_first-clause-served c =
+    let old = c.args.groups.now.items in
+    let at : place_in c.args.id old ≡ None = ap (place_in c.args.id) (sym c.deref.ensures.value) ∙ (sym c.place_of.ensures ∙ c.in-None.is) in
+    served-none old c.args.id c.args.scheduler.now at

@@ -1,0 +1,4 @@
+pub mod Members
+pub mod Pages
+pub mod Faults
+pub mod Kept

@@ -1,0 +1,10 @@
+use farm_text::Text;
+
+/// Why a group has no room for a task.
+#[derive(Debug, Drop)]
+pub enum ReserveFault {
+    /// The tasks of the group have this scheduler, which is another.
+    OtherScheduler(Text),
+    /// Memory ran out.
+    NoMemory,
+}
