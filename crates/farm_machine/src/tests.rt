@@ -7,6 +7,7 @@ use crate::step::{apply, plan};
 use crate::tables::{Tables, due, tick};
 use farm_record::Creation;
 use farm_text::{Doc, Moment, SlugId, Text};
+use hawk_auth::ClientBook;
 use role_expand::{Role, RoleSet};
 use scope_sets::{Expr, Scope};
 use std::alloc::Global;
@@ -21,12 +22,16 @@ fn first_task(rt: &impl std::process::Abort) -> SlugId {
 /// A configuration with these roles.
 fn config(alloc: Global, roles: Vec<Role>) -> Result<Config, Fail> {
     let roles = RoleSet::build(alloc, roles).ok().ok_or("roles")?;
+    let clients = ClientBook::build(alloc, Vec::new(alloc))
+        .ok()
+        .ok_or("no clients")?;
     Ok(Config {
         host: Text::from_str(alloc, "localhost")?,
         port: 8080,
         claim_timeout: 1200,
         max_tasks: 1_000_000,
         roles: Grants::new(alloc, roles)?,
+        clients,
     })
 }
 

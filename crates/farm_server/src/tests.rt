@@ -15,6 +15,7 @@ use farm_machine::law::Farm;
 use farm_machine::question::{Call, Caller, Question};
 use farm_machine::reply::Asked;
 use farm_text::{ListClock, ListDraws, Moment, SlugId, Text};
+use hawk_auth::ClientBook;
 use http_wire::{Joined, MemorySink, MemorySource, Wire};
 use role_expand::RoleSet;
 use std::alloc::{AllocError, Global};
@@ -88,12 +89,16 @@ fn config(alloc: Global) -> Result<Config, Fail> {
     let roles = RoleSet::build(alloc, Vec::new(alloc))
         .ok()
         .ok_or("no roles")?;
+    let clients = ClientBook::build(alloc, Vec::new(alloc))
+        .ok()
+        .ok_or("no clients")?;
     Ok(Config {
         host: Text::from_str(alloc, "localhost")?,
         port: 8080,
         claim_timeout: 1200,
         max_tasks: 1_000_000,
         roles: Grants::new(alloc, roles)?,
+        clients,
     })
 }
 

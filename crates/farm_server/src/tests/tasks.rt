@@ -100,12 +100,16 @@ fn farm(alloc: Global, scopes: &[&str], max_tasks: u32) -> Result<Solo<Bare>, Fa
     let roles = RoleSet::build(alloc, vec![in alloc; role]?)
         .ok()
         .ok_or("roles")?;
+    let clients = ClientBook::build(alloc, Vec::new(alloc))
+        .ok()
+        .ok_or("no clients")?;
     let config = Config {
         host: Text::from_str(alloc, "localhost")?,
         port: 8080,
         claim_timeout: 1200,
         max_tasks,
         roles: Grants::new(alloc, roles)?,
+        clients,
     };
     Ok(Solo::new(Bare::new(alloc, config)))
 }
