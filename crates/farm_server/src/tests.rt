@@ -21,6 +21,7 @@ use role_expand::RoleSet;
 use std::alloc::{AllocError, Global};
 use std::test::Fail;
 
+mod clients;
 mod tasks;
 
 const PING: &[u8] = b"GET /api/queue/v1/ping HTTP/1.1\r\n\r\n";
@@ -270,7 +271,7 @@ impl Desk for Busy {
 
     fn ask(&mut self, question: Question) -> Asked {
         self.left -= 1;
-        let other = Question::new(Moment::FIRST, self.others, Caller::BadHeader, Call::Ping);
+        let other = Question::new(Moment::FIRST, self.others, Caller::Anonymous, Call::Ping);
         let _ = self.farm.ask(other);
         self.farm.ask(question)
     }
