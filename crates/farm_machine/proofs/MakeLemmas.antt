@@ -1,5 +1,5 @@
 -- What is answered where a task is made, and where the farm is full.
-use Rattle.std.proofs.Common.{◌≡◌, ℕ, min, nat_le, true, false, length, Some, None, refl, sym, ap, ◌∙◌, subst}
+use Rattle.std.proofs.Common.{◌≡◌, ℕ, min, nat_le, true, false, length, Some, None, Result, Ok, Err, IfOk, refl, sym, ap, ◌∙◌, subst}
 use Rattle.farm_text.specs.Document.{document_text}
 use Rattle.farm_record.specs.declared.change.Change.{Change}
 use Rattle.farm_record.specs.declared.change.Creation.{Creation}
@@ -13,7 +13,7 @@ use Rattle.farm_machine.specs.Calls.CreateTask.{making}
 use Rattle.farm_machine.specs.Case.{Setting}
 use Rattle.farm_machine.specs.Order.{full, done}
 use Rattle.farm_machine.specs.Planned.{judgement_of}
-use Rattle.farm_machine.specs.Refused.{IsMade}
+use Rattle.farm_machine.specs.Refused.{IsPlannedSo, IsMade}
 use Rattle.farm_machine.specs.Replies.{ok, status_body, farm_full}
 use Rattle.farm_machine.proofs.OrderLemmas.{full-first, done-first, only-judged, only-kept}
 
@@ -53,3 +53,8 @@ IsMade-planned at creation judged plan free is on answer change =
       first = done-first at (making at.moment creation) (judgement_of judged) (free-is at creation free) (planned-done at creation judged plan is on answer change);
       kept = rw change on;
     }
+
+-- the judgement of a call that plans the task, or runs out of memory
+pub IsMade-so : {E : Type 0} (at : Setting) (creation : Creation) (result : Result Judged E) → nat_le (min at.state.config.max_tasks 1_000_000) (length at.state.contents.rows) ≡ false → IfOk result (IsPlannedSo at.state.contents (creating at.moment creation)) → IfOk result (IsMade at creation)
+IsMade-so at creation (Ok judged) free (plan, is, on, answer, change) = IsMade-planned at creation judged plan free is on answer change
+IsMade-so at creation (Err e) free planned = tt

@@ -1,6 +1,8 @@
 -- How a call is judged in the code: what refuses it, and what it does where nothing does; for private clauses.
 use Rattle.std.specs.Prelude.{◌≡◌, ℕ, List, [], ◌∷◌, Option, Some, None, IfSome}
 use Rattle.scope_sets.specs.Expressions.{missing}
+use Rattle.farm_text.specs.Document.{document_text}
+use Rattle.farm_record.specs.declared.change.Change.{Change}
 use Rattle.farm_record.specs.declared.change.Creation.{Creation}
 use Rattle.farm_rows.specs.Contents.{Contents}
 use Rattle.farm_rows.specs.Plans as tasks
@@ -14,6 +16,7 @@ use Rattle.farm_machine.specs.Case.{Setting, Case, IsFirstRule}
 use Rattle.farm_machine.specs.Judgement.{only_answer}
 use Rattle.farm_machine.specs.Order.{Form, asks, Strikes, full, IsDone, in_order, IsFirst}
 use Rattle.farm_machine.specs.Planned.{judgement_of}
+use Rattle.farm_machine.specs.Replies.{ok, status_body}
 use Rattle.farm_machine.specs.State.{working}
 
 -- where a call is judged over these tables
@@ -37,6 +40,12 @@ IsRefusal at caller case (Some answer) = IsFirst (in_order at caller (asks case)
 pub record IsJudged (at : Setting) (caller : Caller) (form : Form) (judged : Judged) : Type 0 where
   pub first : IsFirst (in_order at caller form) (judgement_of judged)
   pub kept : IfSome judged.change (tasks.IsPlanOn at.state.contents)
+
+-- this change is planned over these tables, and the status of its task is answered
+abbrev pub IsPlannedSo : Contents → Change → Judged → Type 0
+IsPlannedSo contents change judged =
+    (plan : tasks.Planned) × (plan.change ≡ change) × tasks.IsPlanOn contents plan
+    × (judged.answer ≡ ok (document_text (status_body plan.row))) × (judged.change ≡ Some plan)
 
 -- the farm is full, or the task is planned and its status is answered
 pub record IsMade (at : Setting) (creation : Creation) (judged : Judged) : Type 0 where

@@ -105,6 +105,14 @@ pub(crate) fn status_body(alloc: Global, row: &TaskRow) -> Result<Doc, AllocErro
     )
 }
 
+/// The status of a task is answered.
+pub(crate) fn status(alloc: Global, row: &TaskRow) -> Result<Answer, AllocError>
+    ensures { IfOk result (λ a. a ≡ ok (document_text (status_body row.now))) }
+{
+    let body = status_body(alloc, row)?;
+    ok(alloc, &body)
+}
+
 /// Another task stands under the id.
 pub(crate) fn another_stands(alloc: Global, row: &TaskRow) -> Result<Answer, AllocError>
     ensures { IfOk result (λ a. a ≡ conflict 1 row.now) }

@@ -1,12 +1,14 @@
 //! The one order of refusals, for every call that asks something.
-ghost use Rattle.std.specs.Prelude.{◌≡◌, true, Some, None, IfOk};
+ghost use Rattle.std.specs.Prelude.{◌≡◌, nat_le, min, length, true, Some, None, IfOk};
+ghost use Rattle.farm_text.specs.Document.{document_text};
 ghost use Rattle.farm_rows.specs.Changes.{creating, may_apply};
 ghost use Rattle.farm_machine.specs.declared.question.Caller.{Caller};
 ghost use Rattle.farm_machine.specs.Access.{Has, HasAccess};
 ghost use Rattle.farm_machine.specs.Calls.CreateTask.{making};
 ghost use Rattle.farm_machine.specs.Deeds.{IsReady};
 ghost use Rattle.farm_machine.specs.Order.{asks, full};
-ghost use Rattle.farm_machine.specs.Refused.{setting_at, IsRefusal, IsJudged, IsMade};
+ghost use Rattle.farm_machine.specs.Refused.{setting_at, IsRefusal, IsJudged, IsPlannedSo, IsMade};
+ghost use Rattle.farm_machine.specs.Replies.{ok, status_body, farm_full};
 
 use crate::access::{Access, access_of};
 use crate::answers;
@@ -17,6 +19,7 @@ use crate::question::Caller;
 use crate::reply::Answer;
 use crate::tables::Tables;
 use farm_record::{Change, Creation, Kind};
+use farm_rows::TaskPlan;
 use farm_text::{Moment, SlugId};
 use scope_sets::{ScopeSet, missing};
 use std::alloc::{AllocError, Global};
@@ -107,16 +110,51 @@ fn make(
     ensures same { tables.new ≡ tables.old }
 {
     let _ = drawn;
-    let count = tables.len();
-    if count >= config.max_tasks.min(MOST_TASKS) {
-        return Ok(Judged::only(answers::farm_full(alloc, count)?));
+    if is_full(config, tables) {
+        return refuse_full(alloc, tables.len());
     }
+    make_task(alloc, tables, moment, creation)
+}
+
+/// Whether the farm has as many tasks as it takes.
+fn is_full(config: &Config, tables: &Tables) -> bool
+    ensures { result ≡ nat_le (min config.now.max_tasks 1_000_000) (length tables.now.rows) }
+{
+    tables.len() >= config.max_tasks.min(MOST_TASKS)
+}
+
+/// The judgement where the farm has so many tasks, and takes no more.
+fn refuse_full(alloc: Global, count: u32) -> Result<Judged, AllocError>
+    ensures answer { IfOk result (λ judged. judged.answer ≡ farm_full count) }
+    ensures change { IfOk result (λ judged. judged.change ≡ None) }
+{
+    Ok(Judged::only(answers::farm_full(alloc, count)?))
+}
+
+/// Makes a task that may be made.
+fn make_task(
+    alloc: Global,
+    tables: &mut Tables,
+    moment: Moment,
+    creation: Creation,
+) -> Result<Judged, AllocError>
+    requires { may_apply tables.old (creating moment creation) ≡ true }
+    ensures made { IfOk result (IsPlannedSo tables.old (creating moment creation)) }
+    ensures same { tables.new ≡ tables.old }
+{
     let kind = Kind::Create(creation);
     let Some(plan) = tables.plan(alloc, Change { at: moment, kind })? else {
         unreachable!();
     };
-    let body = answers::status_body(alloc, plan.row())?;
-    let answer = answers::ok(alloc, &body)?;
+    tell_status(alloc, plan)
+}
+
+/// The judgement of a planned change: the status of its task is told.
+fn tell_status(alloc: Global, plan: TaskPlan) -> Result<Judged, AllocError>
+    ensures answer { IfOk result (λ judged. judged.answer ≡ ok (document_text (status_body plan.row))) }
+    ensures change { IfOk result (λ judged. judged.change ≡ Some plan) }
+{
+    let answer = answers::status(alloc, plan.row())?;
     Ok(Judged {
         answer,
         change: Some(plan),

@@ -39,13 +39,13 @@ fn bytes_of(alloc: Global, hex: &str) -> Result<Vec<u8>, AllocError> {
     Ok(bytes)
 }
 
-fn start() -> Result<Moment, Fail> {
-    Ok(Moment::from_millis(START).ok_or("no moment")?)
+fn start() -> Moment {
+    Moment::from_millis(START).unwrap_or(Moment::FIRST)
 }
 
 /// 20 minutes later.
-fn later() -> Result<Moment, Fail> {
-    Ok(Moment::from_millis(START + 1_200_000).ok_or("no moment")?)
+fn later() -> Moment {
+    Moment::from_millis(START + 1_200_000).unwrap_or(Moment::FIRST)
 }
 
 fn first() -> Result<SlugId, Fail> {
@@ -53,44 +53,46 @@ fn first() -> Result<SlugId, Fail> {
 }
 
 /// Whether these bytes are what is written of the change.
-fn is_written(alloc: Global, change: &Change, record: &[u8]) -> Result<bool, AllocError> {
-    Ok(write_record(alloc, change)?.as_slice() == record)
-}
-
-/// Whether a change is read of these bytes, and they are what is written of it.
-fn is_read(alloc: Global, record: &[u8]) -> Result<bool, AllocError> {
-    match read_record(alloc, record)? {
-        Some(change) => is_written(alloc, &change, record),
-        None => Ok(false),
+fn is_written(alloc: Global, change: &Change, record: &[u8]) -> bool {
+    match write_record(alloc, change) {
+        Ok(written) => written.as_slice() == record,
+        Err(_) => false,
     }
 }
 
-/// Whether the change has this record, and is read again from it.
-fn is_record(alloc: Global, change: &Change, record: &[u8]) -> Result<bool, AllocError> {
-    Ok(is_written(alloc, change, record)? && is_read(alloc, record)?)
+/// Whether a change is read of these bytes, and they are what is written of it.
+fn is_read(alloc: Global, record: &[u8]) -> bool {
+    match read_record(alloc, record) {
+        Ok(Some(change)) => is_written(alloc, &change, record),
+        _ => false,
+    }
 }
 
-/// The change of this kind at the start.
-fn at_start(kind: Kind) -> Result<Change, Fail> {
-    match start() {
-        Ok(at) => Ok(Change { at, kind }),
-        Err(fail) => Err(fail),
+/// Whether the change has this record, and a change with this record is read from it.
+fn is_record(alloc: Global, change: &Change, record: &[u8]) -> bool {
+    is_written(alloc, change, record) && is_read(alloc, record)
+}
+
+/// The same of a record in digits.
+fn is_table(alloc: Global, change: &Change, hex: &str) -> bool {
+    match bytes_of(alloc, hex) {
+        Ok(record) => is_record(alloc, change, &record),
+        Err(_) => false,
     }
 }
 
 /// Whether the change of this kind at the start has this record, and is read again from it.
-fn has_record(alloc: Global, kind: Kind, hex: &str) -> Result<bool, Fail> {
-    let change = at_start(kind)?;
-    let record = bytes_of(alloc, hex)?;
-    Ok(is_record(alloc, &change, &record)?)
+fn has_record(alloc: Global, kind: Kind, hex: &str) -> bool {
+    let change = Change { at: start(), kind };
+    is_table(alloc, &change, hex)
 }
 
 #[test]
 fn a_tick(rt: HostRuntime) -> Result<(), Fail> {
     let alloc = rt.alloc();
     let record = bytes_of(alloc, "01 0000018cc251f400")?;
-    assert!(rt; tick_record(start()?).as_slice() == record.as_slice());
-    assert!(rt; has_record(alloc, Kind::Tick, "01 0000018cc251f400")?);
+    assert!(rt; tick_record(start()).as_slice() == record.as_slice());
+    assert!(rt; has_record(alloc, Kind::Tick, "01 0000018cc251f400"));
     Ok(())
 }
 
@@ -103,21 +105,21 @@ fn what_is_asked_of_a_task(rt: HostRuntime) -> Result<(), Fail> {
             alloc,
             Kind::Schedule(id),
             "03 0000018cc251f400 00000000000040008000000000000000"
-        )?
+        )
     );
     assert!(rt;
         has_record(
             alloc,
             Kind::Rerun(id),
             "04 0000018cc251f400 00000000000040008000000000000000"
-        )?
+        )
     );
     assert!(rt;
         has_record(
             alloc,
             Kind::Cancel(id),
             "05 0000018cc251f400 00000000000040008000000000000000"
-        )?
+        )
     );
     Ok(())
 }
@@ -134,7 +136,7 @@ fn claim(alloc: Global) -> Result<Claim, Fail> {
         run: 0,
     })?;
     Ok(Claim {
-        taken_until: later()?,
+        taken_until: later(),
         worker_group: identifier(alloc, "g")?,
         worker_id: identifier(alloc, "w")?,
         runs: RunNames::from_list(names).ok_or("no runs")?,
@@ -147,7 +149,7 @@ const CLAIM: &str =
 #[test]
 fn a_claim(rt: HostRuntime) -> Result<(), Fail> {
     let alloc = rt.alloc();
-    assert!(rt; has_record(alloc, Kind::Claim(claim(alloc)?), CLAIM)?);
+    assert!(rt; has_record(alloc, Kind::Claim(claim(alloc)?), CLAIM));
     Ok(())
 }
 
@@ -156,14 +158,14 @@ fn a_reclaim(rt: HostRuntime) -> Result<(), Fail> {
     let reclaim = Reclaim {
         id: first()?,
         run: 49,
-        taken_until: later()?,
+        taken_until: later(),
     };
     assert!(rt;
         has_record(
             rt.alloc(),
             Kind::Reclaim(reclaim),
             "07 0000018cc251f400 00000000000040008000000000000000 31 0000018cc2644380"
-        )?
+        )
     );
     Ok(())
 }
@@ -178,7 +180,7 @@ fn has_number(alloc: Global, reason: Report, number: &str) -> Result<bool, Fail>
     let hex = format!(in alloc;
         "08 0000018cc251f400 00000000000040008000000000000000 01 {number}"
     )?;
-    has_record(alloc, Kind::Resolve(resolution), hex.as_str())
+    Ok(has_record(alloc, Kind::Resolve(resolution), hex.as_str()))
 }
 
 #[test]
@@ -213,8 +215,18 @@ const WITHOUT_EXTRA: &str =
     r#"{"created":"2024-01-01T00:00:00.000Z","deadline":"2024-01-02T00:00:00.000Z","dependencies":[],"expires":"2025-01-01T00:00:00.000Z","metadata":{"description":"d","name":"n","owner":"o@example.com","source":"https://example.com/"},"payload":{},"priority":"lowest","projectId":"none","provisionerId":"prov","requires":"all-completed","retries":5,"routes":[],"schedulerId":"-","scopes":[],"tags":{},"taskGroupId":"AAAAAAAAQACAAAAAAAAAAA","taskQueueId":"prov/wt","workerType":"wt"}"#;
 
 fn definition(alloc: Global) -> Result<TaskDef, Fail> {
-    let doc = Doc::read(alloc, IN_FULL.as_bytes()).map_err(|_| "no document")?;
-    Ok(read_task(alloc, &doc, first()?).map_err(|_| "no definition")?)
+    let id = first()?;
+    match Doc::read(alloc, IN_FULL.as_bytes()) {
+        Ok(doc) => defined(alloc, &doc, id),
+        Err(_) => Err("no document".into()),
+    }
+}
+
+fn defined(alloc: Global, doc: &Doc, id: SlugId) -> Result<TaskDef, Fail> {
+    match read_task(alloc, doc, id) {
+        Ok(definition) => Ok(definition),
+        Err(_) => Err("no definition".into()),
+    }
 }
 
 /// The record of a create of the first task at the start, by the length of its definition's text and that text.
@@ -229,35 +241,38 @@ fn create(alloc: Global, length: &str, text: &str) -> Result<Vec<u8>, AllocError
     Ok(record)
 }
 
-/// The change that creates the first task at the start.
-fn creating(alloc: Global) -> Result<Change, Fail> {
-    let id = first()?;
-    let definition = definition(alloc)?;
-    at_start(Kind::Create(Creation { id, definition }))
+/// Whether the creation of this task at the start has this record, and is read again from it.
+fn is_creation(alloc: Global, id: SlugId, definition: TaskDef, record: &[u8]) -> bool {
+    let kind = Kind::Create(Creation { id, definition });
+    is_record(alloc, &Change { at: start(), kind }, record)
 }
 
 #[test]
 fn a_create(rt: HostRuntime) -> Result<(), Fail> {
     let alloc = rt.alloc();
-    let change = creating(alloc)?;
+    let id = first()?;
     let record = create(alloc, "000001e7", IN_FULL)?;
-    assert!(rt; is_record(alloc, &change, &record)?);
+    assert!(rt; is_creation(alloc, id, definition(alloc)?, &record));
     Ok(())
 }
 
-fn is_refused(alloc: Global, record: &[u8]) -> Result<bool, AllocError> {
-    Ok(read_record(alloc, record)?.is_none())
+/// Whether the bytes are found to be no record.
+fn is_refused(alloc: Global, record: &[u8]) -> bool {
+    match read_record(alloc, record) {
+        Ok(found) => found.is_none(),
+        Err(_) => false,
+    }
 }
 
 #[test]
 fn creates_that_are_none(rt: HostRuntime) -> Result<(), Fail> {
     let alloc = rt.alloc();
     let spaced = create(alloc, "000001e8", WITH_A_SPACE)?;
-    assert!(rt; is_refused(alloc, &spaced)?);
+    assert!(rt; is_refused(alloc, &spaced));
     let shortened = create(alloc, "000001dc", WITHOUT_EXTRA)?;
-    assert!(rt; is_refused(alloc, &shortened)?);
+    assert!(rt; is_refused(alloc, &shortened));
     let long = create(alloc, "000001e8", IN_FULL)?;
-    assert!(rt; is_refused(alloc, &long)?);
+    assert!(rt; is_refused(alloc, &long));
     Ok(())
 }
 
@@ -265,11 +280,11 @@ fn creates_that_are_none(rt: HostRuntime) -> Result<(), Fail> {
 fn definitions_that_are_none(rt: HostRuntime) -> Result<(), Fail> {
     let alloc = rt.alloc();
     let not_json = create(alloc, "00000001", "{")?;
-    assert!(rt; is_refused(alloc, &not_json)?);
+    assert!(rt; is_refused(alloc, &not_json));
     let not_whole = create(alloc, "00000003", "1.5")?;
-    assert!(rt; is_refused(alloc, &not_whole)?);
+    assert!(rt; is_refused(alloc, &not_whole));
     let not_said = create(alloc, "00000002", "{}")?;
-    assert!(rt; is_refused(alloc, &not_said)?);
+    assert!(rt; is_refused(alloc, &not_said));
     Ok(())
 }
 
@@ -298,7 +313,7 @@ fn what_is_no_record(rt: HostRuntime) -> Result<(), Fail> {
     let alloc = rt.alloc();
     for line in NO_RECORDS.lines() {
         let bytes = bytes_of(alloc, line)?;
-        assert!(rt; is_refused(alloc, &bytes)?);
+        assert!(rt; is_refused(alloc, &bytes));
     }
     Ok(())
 }
@@ -322,8 +337,8 @@ fn claim_of(alloc: Global, number: &str, runs: u32) -> Result<Vec<u8>, AllocErro
 fn claims_of_many_runs(rt: HostRuntime) -> Result<(), Fail> {
     let alloc = rt.alloc();
     let most = claim_of(alloc, "00000020", 32)?;
-    assert!(rt; !is_refused(alloc, &most)?);
+    assert!(rt; is_read(alloc, &most));
     let more = claim_of(alloc, "00000021", 33)?;
-    assert!(rt; is_refused(alloc, &more)?);
+    assert!(rt; is_refused(alloc, &more));
     Ok(())
 }
