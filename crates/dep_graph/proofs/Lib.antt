@@ -1,0 +1,3 @@
+pub mod TaskLemmas
+pub mod EdgeLemmas
+pub mod GraphLemmas

@@ -1,0 +1,3 @@
+pub mod Nodes
+pub mod Ready
+pub mod Kept

@@ -1,0 +1,163 @@
+//! The graph of the tasks of a farm.
+ghost use Rattle.std.specs.Prelude.{◌≡◌, ◌==◌, ◌||◌, ◌<◌, ◌++◌, ◌∷◌, [], true, false, All, IsTrue, Some, None, OnOk, OnErr, vec_len, vec_capacity};
+ghost use Rattle.std.specs.List.{IsDistinct};
+ghost use Rattle.dep_graph.specs.Nodes.{no_graph, rows_of, is_in, dependants_of, added, moved, may_be_added};
+ghost use Rattle.dep_graph.specs.Ready as judged;
+ghost use Rattle.dep_graph.specs.Kept.{edges_of, own_edges};
+
+use crate::edges::{Edges, add_edges, make_room};
+use crate::node::{Node, Progress, Requires};
+use crate::tasks::{all_stand, are_distinct, holds, place_of, proceed, ready_row};
+use std::alloc::{AllocError, Global};
+use std::marker::Model;
+
+/// The tasks of a farm and what they wait for, in the order in which they were added, and the room for one task more.
+#[derive(Debug, Drop)]
+pub struct Graph {
+    tasks: Vec<Node>,
+    /// The tasks that depend on each.
+    edges: Vec<Edges>,
+    /// The task for which there is room.
+    room: Option<Addition>,
+}
+
+/// A task for which there is room, and the list of those that depend on it.
+#[derive(Debug, Drop)]
+pub(crate) struct Addition {
+    node: Node,
+    edges: Edges,
+}
+
+impl Model for Graph {
+    ghost use Rattle.std.specs.Prelude.{option_map, vec_capacity};
+    ghost use Rattle.dep_graph.specs.Nodes.{TaskGraph};
+    ghost use Rattle.dep_graph.specs.Kept.{adding_of, IsKept};
+
+    ghost Value = { TaskGraph };
+
+    ghost view = { λ g. record { tasks = g.tasks.items; room = option_map adding_of g.room } };
+
+    ghost invariant = { λ g. IsKept g.tasks.items g.edges.items (vec_capacity g.tasks) (vec_capacity g.edges) g.room };
+}
+
+impl Graph {
+    /// A graph without tasks. It takes no memory.
+    pub fn new(alloc: Global) -> Self
+        ensures { result ≡ no_graph }
+    {
+        Graph {
+            tasks: Vec::new(alloc),
+            edges: Vec::new(alloc),
+            room: None,
+        }
+    }
+
+    /// Whether a task has this row.
+    pub fn holds(&self, row: u32) -> bool
+        ensures { result ≡ is_in (rows_of self.now.tasks) row }
+    {
+        holds(&self.tasks, row)
+    }
+
+    /// Whether a task with this row and these dependencies may be added: the row is new, and each that it depends on is named once, and
+    /// stands or is the task itself.
+    pub fn may_add(&self, row: u32, dependencies: &[u32]) -> bool
+        ensures value { result ≡ may_be_added self.now.tasks row dependencies.now }
+        ensures new { IsTrue result → is_in (rows_of self.now.tasks) row ≡ false }
+        ensures distinct { IsTrue result → IsDistinct ◌==◌ dependencies.now }
+        ensures stand { IsTrue result → All (λ held. ((held == row) || is_in (rows_of self.now.tasks) held) ≡ true) dependencies.now }
+    {
+        !holds(&self.tasks, row)
+            && are_distinct(dependencies)
+            && all_stand(&self.tasks, row, dependencies)
+    }
+
+    /// Takes the memory for one `add` of a task with this row that depends on these. Room that an earlier call left is given up.
+    pub fn reserve(
+        &mut self,
+        alloc: Global,
+        row: u32,
+        dependencies: &[u32],
+    ) -> Result<(), AllocError>
+        ensures ok { OnOk result (self.new ≡ record self.old { room = Some (record { row = row; dependencies = dependencies.now }) }) }
+        ensures err { OnErr result (self.new ≡ record self.old { room = None }) }
+    {
+        self.room = None;
+        make_room(&self.tasks, &mut self.edges, dependencies)?;
+        self.tasks.reserve(1)?;
+        self.edges.reserve(1)?;
+        let rows = Vec::with_capacity(alloc, 1)?;
+        self.room = Some(Addition {
+            node: Node::new(alloc, row, dependencies)?,
+            edges: Edges { rows },
+        });
+        Ok(())
+    }
+
+    /// Adds a task that was just created, for which there is room: its row is new, and each task that it depends on stands, or is the task
+    /// itself. It takes no memory.
+    pub fn add(&mut self, row: u32, needs: Requires, dependencies: &[u32])
+        requires new { is_in (rows_of self.old.tasks) row ≡ false }
+        requires distinct { IsDistinct ◌==◌ dependencies.now }
+        requires stand { All (λ held. ((held == row) || is_in (rows_of self.old.tasks) held) ≡ true) dependencies.now }
+        requires room { self.old.room ≡ Some (record { row = row; dependencies = dependencies.now }) }
+        ensures { self.new ≡ record { tasks = added row needs dependencies.now self.old.tasks; room = None } }
+    {
+        let Some(addition) = self.room.take() else {
+            unreachable!();
+        };
+        add_edges(&self.tasks, &mut self.edges, row, dependencies);
+        add_task(&mut self.tasks, &mut self.edges, addition, needs);
+    }
+
+    /// Makes a task come so far. It takes no memory.
+    pub fn state_changed(&mut self, row: u32, progress: Progress)
+        requires { is_in (rows_of self.old.tasks) row ≡ true }
+        ensures { self.new ≡ record { tasks = moved row progress self.old.tasks; room = self.old.room } }
+    {
+        proceed(&mut self.tasks, row, progress);
+    }
+
+    /// The least row of a task that is ready. It takes no memory.
+    pub fn ready(&self) -> Option<u32>
+        ensures { result ≡ judged.ready_row self.now.tasks }
+    {
+        ready_row(&self.tasks)
+    }
+
+    /// The rows of the tasks that depend on this one, in the order in which they were added. It takes no memory.
+    pub fn dependants(&self, row: u32) -> &[u32]
+        ensures { result.now ≡ dependants_of self.now.tasks row }
+    {
+        match place_of(&self.tasks, row) {
+            Some(place) => &self.edges[place].rows,
+            None => &[],
+        }
+    }
+}
+
+/// Adds a task, and the list of those that depend on it: itself, where it does.
+fn add_task(tasks: &mut Vec<Node>, edges: &mut Vec<Edges>, addition: Addition, needs: Requires)
+    requires task { vec_len tasks.old < vec_capacity tasks.old }
+    requires list { vec_len edges.old < vec_capacity edges.old }
+    requires own { addition.edges.rows.items ≡ [] }
+    requires own_room { 0 < vec_capacity addition.edges.rows }
+    ensures tasks { tasks.new.items ≡ tasks.old.items ++ (record addition.node { needs = needs }) ∷ [] }
+    ensures edges { edges_of edges.new.items ≡ edges_of edges.old.items ++ own_edges addition.node.row addition.node.dependencies ∷ [] }
+{
+    let Addition {
+        mut node,
+        edges: mut own,
+    } = addition;
+    node.require(needs);
+    let row = node.row();
+    if node.dependencies().contains(&row) && own.rows.push(row).is_err() {
+        unreachable!();
+    }
+    if tasks.push(node).is_err() {
+        unreachable!();
+    }
+    if edges.push(own).is_err() {
+        unreachable!();
+    }
+}

@@ -1,0 +1,17 @@
+//! Which tasks wait for which, and which are ready.
+//!
+//! A task is named by its row, which is its place in the order of creation, from 0 on. A task that is unscheduled becomes ready once each
+//! task that it depends on meets what it requires (the queue service of the Taskcluster reference). What must not want memory comes in two
+//! steps: `reserve` takes it, and `add` does not.
+#![tactic(auto)]
+
+mod edges;
+mod graph;
+mod node;
+mod tasks;
+
+pub use graph::Graph;
+pub use node::{Progress, Requires};
+
+#[cfg(test)]
+mod tests;
