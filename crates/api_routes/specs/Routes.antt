@@ -10,7 +10,8 @@ use Rattle.std.specs.Bool.{MatchBool}
 use Rattle.api_routes.specs.Bodies.{IsCreateCall}
 use Rattle.farm_machine.specs.declared.question.Parameter.TheVariants.{TaskId}
 use Rattle.farm_machine.specs.declared.question.Caller.{Caller}
-use Rattle.farm_machine.specs.declared.question.Caller.TheVariants.{Anonymous, BadHeader}
+use Rattle.farm_machine.specs.declared.question.Caller.TheVariants.{Anonymous, Signed}
+use Rattle.farm_machine.specs.declared.question.Credentials.{Credentials}
 use Rattle.farm_machine.specs.Entry.{Asking}
 
 -- the target before its query (RFC 3986, section 3.4)
@@ -99,11 +100,26 @@ IsRouted method path body call =
 unfoldable pub IsCallOf : Message → Call → Type 0
 IsCallOf message call = IsRouted message.method (path_of message.target) message.body call
 
--- Who sends a message. Credentials have no reading yet, so any field with some is off its form.
-abbrev pub caller_from : Option (List ℕ) → Caller
-caller_from None = Anonymous
-caller_from (Some credentials) = BadHeader
+-- the credentials of a message whose first Authorization field has this value (RFC 9110, section 11.6.2), and what of it they sign
+abbrev pub credentials_of : Message → List ℕ → Credentials
+credentials_of message value = record {
+  header = value;
+  count = message.authorizations;
+  method = message.method;
+  target = message.target;
+  content_type = message.content_type;
+  body = message.body;
+}
+
+-- who sends a message with such a field, or without one
+abbrev pub caller_by : Message → Option (List ℕ) → Caller
+caller_by message None = Anonymous
+caller_by message (Some value) = Signed (credentials_of message value)
+
+-- who sends a message
+abbrev pub caller_from : Message → Caller
+caller_from message = caller_by message message.authorization
 
 -- the question of a message that makes this call, with the moment and the id that were told for it
 abbrev pub question_of : Message → Call → ℕ → List ℕ → Asking
-question_of message call moment id = record { moment = moment; drawn = id; caller = caller_from message.authorization; call = call }
+question_of message call moment id = record { moment = moment; drawn = id; caller = caller_from message; call = call }

@@ -8,7 +8,7 @@ ghost use Rattle.api_routes.specs.Bodies.{IsCreateCall};
 ghost use Rattle.api_routes.specs.Parts.{is_part};
 
 use crate::bodies::task_call;
-use farm_machine::question::{Call, Caller, Parameter};
+use farm_machine::question::{Call, Caller, Credentials, Parameter};
 use farm_text::{SlugId, Text};
 use http_wire::Message;
 use percent_encoding::percent_decode;
@@ -53,12 +53,28 @@ fn put_call(alloc: Global, path: &[u8], body: &[u8]) -> Result<Call, AllocError>
     }
 }
 
-/// Who sends a message. Credentials have no reading yet, so any field with some is off its form.
-pub fn caller_of(message: &Message) -> Caller
-    ensures { result ≡ routes.caller_from message.now.authorization }
+/// Who sends a message: whoever has no Authorization field gives no credentials. It takes no memory.
+pub fn caller_of(message: Message) -> Caller
+    ensures { result ≡ routes.caller_from message }
 {
-    match &message.authorization {
-        Some(_) => Caller::BadHeader,
+    let Message {
+        method,
+        target,
+        authorization,
+        authorizations,
+        content_type,
+        body,
+        closes: _,
+    } = message;
+    match authorization {
+        Some(header) => Caller::Signed(Credentials {
+            header,
+            count: authorizations,
+            method,
+            target,
+            content_type,
+            body,
+        }),
         None => Caller::Anonymous,
     }
 }

@@ -116,12 +116,22 @@ fn a_body_is_read_where_its_call_has_one(rt: HostRuntime) -> Result<(), Fail> {
     Ok(())
 }
 
+/// Whether a caller gives credentials.
+fn is_signed(caller: &Caller) -> bool {
+    match caller {
+        Caller::Anonymous => false,
+        Caller::Signed(_) => true,
+    }
+}
+
 #[test]
-fn credentials_have_no_reading(rt: HostRuntime) -> Result<(), Fail> {
-    let mut asked = message(rt.alloc(), b"GET", b"/", b"")?;
-    assert_eq!(rt; caller_of(&asked), Caller::Anonymous);
-    asked.authorization = Some(Bytes::from(Vec::from_slice(rt.alloc(), b"x")?));
-    assert_eq!(rt; caller_of(&asked), Caller::BadHeader);
+fn a_field_tells_who_calls(rt: HostRuntime) -> Result<(), Fail> {
+    let alloc = rt.alloc();
+    let asked = message(alloc, b"GET", b"/", b"")?;
+    assert!(rt; !is_signed(&caller_of(asked)));
+    let mut asked = message(alloc, b"GET", b"/", b"")?;
+    asked.authorization = Some(Bytes::from(Vec::from_slice(alloc, b"x")?));
+    assert!(rt; is_signed(&caller_of(asked)));
     Ok(())
 }
 

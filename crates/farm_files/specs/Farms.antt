@@ -1,5 +1,5 @@
 -- What a farm file says as a whole, or the one fault that is told of it (this project's own format, in TOML 1.1).
-use Rattle.std.specs.Prelude.{◌≡◌, ℕ, List, codes}
+use Rattle.std.specs.Prelude.{◌≡◌, ℕ, List, [], codes}
 use Rattle.farm_machine.specs.declared.config.Config.{Config}
 use Rattle.toml.specs.Data.{Members, get_member}
 use Rattle.farm_files.specs.declared.fault.Fault.{Fault}
@@ -18,6 +18,7 @@ farm_of top = record {
   claim_timeout = natural (claim_timeout_in (members_in (farm_in top)));
   max_tasks = natural (max_tasks_in (members_in (farm_in top)));
   roles = roles_in (get_member (codes "role") top);
+  clients = [];
 }
 
 -- the tables break no rule, and say this

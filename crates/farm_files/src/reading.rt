@@ -1,5 +1,5 @@
 //! The farm file as a whole.
-ghost use Rattle.std.specs.Prelude.{◌≡◌, MatchResult};
+ghost use Rattle.std.specs.Prelude.{◌≡◌, [], IfOk, MatchResult};
 ghost use Rattle.toml.specs.View.{table_view};
 ghost use Rattle.farm_files.specs.Farms.{Says, Refuses, SaysTables, RefusesTables};
 
@@ -9,7 +9,8 @@ use crate::settings::{Settings, read_settings};
 use crate::values::has_only;
 use farm_machine::config::Config;
 use farm_machine::grants::Grants;
-use std::alloc::Global;
+use hawk_auth::ClientBook;
+use std::alloc::{AllocError, Global};
 
 /// The greatest number of bytes of a farm file.
 pub const LONGEST_FILE: usize = 4_194_304;
@@ -63,5 +64,16 @@ fn read_tables(alloc: Global, top: &toml::Table) -> Result<Config, FileFault>
         claim_timeout,
         max_tasks,
         roles: Grants::new(alloc, roles)?,
+        clients: no_clients(alloc)?,
     })
+}
+
+/// A book without clients, until farm files have them.
+fn no_clients(alloc: Global) -> Result<ClientBook, AllocError>
+    ensures { IfOk result (λ clients. clients ≡ []) }
+{
+    match ClientBook::build(alloc, Vec::new(alloc)) {
+        Ok(clients) => Ok(clients),
+        Err(_) => Err(AllocError),
+    }
 }

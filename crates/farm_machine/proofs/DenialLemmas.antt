@@ -81,18 +81,18 @@ rules-other at deed (rule ∷ rules) judgement others (inl ended) = rw ended.1 o
 rules-other at deed (rule ∷ rules) judgement others (inr (a, rest)) = rules-other at deed rules judgement others.1 rest
 
 -- what judges a call that is of its form, whose caller has access, that names what is there, and whose policy holds
-held-first : (at : Setting) (caller : Caller) (case : Setting → Case) (scopes : List (List ℕ)) (judgement : Judgement) → HasAccess at.state.config.roles caller (Has scopes) → (case at).absent ≡ None → missing scopes (case at).policy ≡ None → IsFirst (in_order at caller (asks case)) judgement → IsFirst (map IsEnded (case at).rules ++ last_parts at (case at).deed) judgement
+held-first : (at : Setting) (caller : Caller) (case : Setting → Case) (scopes : List (List ℕ)) (judgement : Judgement) → HasAccess at.state.config at.moment caller (Has scopes) → (case at).absent ≡ None → missing scopes (case at).policy ≡ None → IsFirst (in_order at caller (asks case)) judgement → IsFirst (map IsEnded (case at).rules ++ last_parts at (case at).deed) judgement
 held-first at caller case scopes judgement has there none (inl p) = absurd p
 held-first at caller case scopes judgement has there none (inr (a, inl p)) = absurd p
 held-first at caller case scopes judgement has there none (inr (a, inr (b, inl p))) = absurd p
-held-first at caller case scopes judgement has there none (inr (a, inr (b, inr (c, inl p)))) = absurd (not_refused at.state.config.roles caller scopes has judgement p)
+held-first at caller case scopes judgement has there none (inr (a, inr (b, inr (c, inl p)))) = absurd (not_refused at.state.config at.moment caller scopes has judgement p)
 held-first at caller case scopes judgement has there none (inr (a, inr (b, inr (c, inr (d, inl p))))) = absurd (subst (λ (answer : Option Answer). Strikes answer judgement) there p)
-held-first at caller case scopes judgement has there none (inr (a, inr (b, inr (c, inr (d, inr (e, inl p)))))) = absurd (lacks_none at.state.config.roles caller scopes (case at).policy has none judgement p)
+held-first at caller case scopes judgement has there none (inr (a, inr (b, inr (c, inr (d, inr (e, inl p)))))) = absurd (lacks_none at.state.config at.moment caller scopes (case at).policy has none judgement p)
 held-first at caller case scopes judgement has there none (inr (a, inr (b, inr (c, inr (d, inr (e, inr (f, rest))))))) = rest
 
 -- ---- denied exactly
 
-exactly : (at : Setting) (caller : Caller) (case : Setting → Case) (scopes : List (List ℕ)) (judgement : Judgement) → AreOther (case at).rules → HasAccess at.state.config.roles caller (Has scopes) → (case at).absent ≡ None → IsFirst (in_order at caller (asks case)) judgement → DeniesExactly scopes (case at).policy judgement.answer
+exactly : (at : Setting) (caller : Caller) (case : Setting → Case) (scopes : List (List ℕ)) (judgement : Judgement) → AreOther (case at).rules → HasAccess at.state.config at.moment caller (Has scopes) → (case at).absent ≡ None → IsFirst (in_order at caller (asks case)) judgement → DeniesExactly scopes (case at).policy judgement.answer
 exactly at caller case scopes judgement others has there first = by (holds scopes (case at).policy) refl where
   by : (test : Bool) → holds scopes (case at).policy ≡ test → DeniesExactly scopes (case at).policy judgement.answer
   by true is = record {
@@ -113,7 +113,7 @@ there-is : (absent : Option Answer) (policy asked : Expression) → where_there 
 there-is None policy asked is = (refl, cc)
 there-is (Some a) policy asked is = cc
 
-form-exactly : (at : Setting) (caller : Caller) (form : Form) (scopes : List (List ℕ)) (policy : Expression) (judgement : Judgement) → AreOther (case_of form at).rules → asked_policy form at ≡ Some policy → HasAccess at.state.config.roles caller (Has scopes) → IsFirst (in_order at caller form) judgement → DeniesExactly scopes policy judgement.answer
+form-exactly : (at : Setting) (caller : Caller) (form : Form) (scopes : List (List ℕ)) (policy : Expression) (judgement : Judgement) → AreOther (case_of form at).rules → asked_policy form at ≡ Some policy → HasAccess at.state.config at.moment caller (Has scopes) → IsFirst (in_order at caller form) judgement → DeniesExactly scopes policy judgement.answer
 form-exactly at caller (has_no_route a) scopes policy judgement others is has first = cc
 form-exactly at caller (has_bad_parameter a) scopes policy judgement others is has first = cc
 form-exactly at caller (has_bad_body a) scopes policy judgement others is has first = cc
@@ -121,10 +121,10 @@ form-exactly at caller (asks case) scopes policy judgement others is has first =
     let there = there-is (case at).absent (case at).policy policy is in
     subst (λ (e : Expression). DeniesExactly scopes e judgement.answer) there.1 (exactly at caller case scopes judgement others has there.0 first)
 
-pub denies-exactly : (opening : State) (before later : List Entry) (asking : Asking) (judgement : Judgement) (scopes : List (List ℕ)) (policy : Expression) → Finished opening before later asking judgement → asked_policy (form_of asking.call) (setting_behind opening before asking) ≡ Some policy → HasAccess opening.config.roles asking.caller (Has scopes) → DeniesExactly scopes policy judgement.answer
+pub denies-exactly : (opening : State) (before later : List Entry) (asking : Asking) (judgement : Judgement) (scopes : List (List ℕ)) (policy : Expression) → Finished opening before later asking judgement → asked_policy (form_of asking.call) (setting_behind opening before asking) ≡ Some policy → HasAccess opening.config (setting_behind opening before asking).moment asking.caller (Has scopes) → DeniesExactly scopes policy judgement.answer
 unfolding IsVerdict
 denies-exactly opening before later asking judgement scopes policy is asked has =
     let at = setting_behind opening before asking in
     let may = entry-may opening before later (call asking (finished judgement)) is.legal in
-    let access : HasAccess at.state.config.roles asking.caller (Has scopes) = rw (entries-config opening before) has in
+    let access : HasAccess at.state.config at.moment asking.caller (Has scopes) = rw (entries-config opening before) has in
     form-exactly at asking.caller (form_of asking.call) scopes policy judgement (call-other at asking.call) asked access may.became

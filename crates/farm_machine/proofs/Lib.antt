@@ -3,6 +3,7 @@ pub mod AloneLemmas
 pub mod ChangeLemmas
 pub mod DenialLemmas
 pub mod ExpressionLemmas
+pub mod FaultLemmas
 pub mod OnceLemmas
 pub mod OrderLemmas
 pub mod PlanLemmas

@@ -25,7 +25,7 @@ use Rattle.farm_machine.specs.Case.{Setting, Rule, IsFirstRule}
 use Rattle.farm_machine.specs.Changes.{changed, moment_of}
 use Rattle.farm_machine.specs.Entry.{Asking, Entry, tick, call, finished, out_of_memory}
 use Rattle.farm_machine.specs.Judgement.{Judgement, only_answer}
-use Rattle.farm_machine.specs.Laws.{Finished, created_by, has_id, creations}
+use Rattle.farm_machine.specs.Laws.{Finished, setting_behind, created_by, has_id, creations}
 use Rattle.farm_machine.specs.Order.{asks, IsFirst, in_order}
 use Rattle.farm_machine.specs.Replies.{ok, status_body}
 use Rattle.farm_machine.specs.State.{State}
@@ -185,7 +185,7 @@ again-ruled (Some x) r creation rules is same =
     let one : x ≡ r = cc in
     inl (ap (λ (y : Row). y.definition) one ∙ same, ap (λ (y : Row). Some (ok (document_text (status_body y)))) (sym one))
 
-again-first : (state : State) (asking : Asking) (creation : Creation) (judgement : Judgement) (scopes : List (List ℕ)) (row : Row) → asking.call ≡ CreateTask creation → bytes_eq creation.definition.task_group_id creation.id ≡ true → (length creation.definition.dependencies == 0) ≡ true → HasAccess state.config.roles asking.caller (Has scopes) → IsTrue (holds scopes (create_policy creation.definition)) → row_with creation.id state.contents.rows ≡ Some row → row.definition ≡ creation.definition → IsVerdict state asking judgement → judgement ≡ only_answer (ok (document_text (status_body row)))
+again-first : (state : State) (asking : Asking) (creation : Creation) (judgement : Judgement) (scopes : List (List ℕ)) (row : Row) → asking.call ≡ CreateTask creation → bytes_eq creation.definition.task_group_id creation.id ≡ true → (length creation.definition.dependencies == 0) ≡ true → HasAccess state.config (setting_of state asking).moment asking.caller (Has scopes) → IsTrue (holds scopes (create_policy creation.definition)) → row_with creation.id state.contents.rows ≡ Some row → row.definition ≡ creation.definition → IsVerdict state asking judgement → judgement ≡ only_answer (ok (document_text (status_body row)))
 unfolding IsVerdict
 again-first state asking creation judgement scopes row called own alone has held found same verdict =
     let at = setting_of state asking in
@@ -202,7 +202,7 @@ entry-may opening before after entry legal = (IsLegal-back farm_rules opening be
 
 pub answers-again : (opening : State) (before between later : List Entry) (first : Entry) (creation : Creation) (asking : Asking) (judgement : Judgement) (scopes : List (List ℕ))
     → created_by first ≡ Some creation → Finished opening (before ++ first ∷ between) later asking judgement → asking.call ≡ CreateTask creation
-    → HasAccess opening.config.roles asking.caller (Has scopes) → IsTrue (holds scopes (create_policy creation.definition))
+    → HasAccess opening.config (setting_behind opening (before ++ first ∷ between) asking).moment asking.caller (Has scopes) → IsTrue (holds scopes (create_policy creation.definition))
     → (row : Row) × (row_with creation.id (end_state farm_rules opening (before ++ first ∷ between)).contents.rows ≡ Some row)
     × (row.definition ≡ creation.definition) × (judgement ≡ only_answer (ok (document_text (status_body row))))
 unfolding farm_rules
@@ -217,6 +217,6 @@ answers-again opening before between later first creation asking judgement scope
     rw (end_state-append farm_rules opening before (first ∷ between)) (entries-stay (after state first) between) in
     let found = found-later creation.id (after state first).contents.rows now.contents.rows new stays made.found in
     let may = entry-may opening history later (call asking (finished judgement)) is.legal in
-    let access : HasAccess now.config.roles asking.caller (Has scopes) = rw (entries-config opening history) has in
+    let access : HasAccess now.config (setting_of now asking).moment asking.caller (Has scopes) = rw (entries-config opening history) has in
     let answered = again-first now asking creation judgement scopes found.0 called made.creates.own made.creates.alone access held found.1 found.2 may.became in
     (found.0, found.1, found.2, answered)

@@ -1,8 +1,8 @@
 -- The first judgement in the one order: where each part strikes, that there is one, and that it is one.
 use Rattle.std.proofs.Common.{◌≡◌, ◌⊎◌, ℕ, IfSome, IfOk, Result, Ok, Err, inl, inr, List, [], ◌∷◌, ◌++◌, map, Option, Some, None, option_map, refl, sym, ap, ◌∙◌, subst}
-use Rattle.role_expand.specs.Roles.{RoleData}
 use Rattle.scope_sets.specs.Expressions.{Expression, missing}
 use Rattle.farm_text.specs.Document.{document_text}
+use Rattle.farm_machine.specs.declared.config.Config.{Config}
 use Rattle.farm_machine.specs.declared.question.Caller.{Caller}
 use Rattle.farm_machine.specs.declared.reply.Answer.{Answer}
 use Rattle.farm_machine.specs.Access.{Access, Has, Refused, HasAccess}
@@ -33,19 +33,19 @@ struck None a is = cc
 struck (Some b) a is = let same : b ≡ a = cc in ap only_answer (sym same)
 
 -- whoever has access is not refused
-pub not_refused : (roles : List RoleData) (caller : Caller) (scopes : List (List ℕ)) → HasAccess roles caller (Has scopes) → (other : Judgement) → ¬ HasNoAccess roles caller other
-not_refused roles caller scopes has other refused =
-    let same : Has scopes ≡ Refused refused.0 = HasAccess-one roles caller (Has scopes) (Refused refused.0) has refused.1 in cc
+pub not_refused : (config : Config) (moment : ℕ) (caller : Caller) (scopes : List (List ℕ)) → HasAccess config moment caller (Has scopes) → (other : Judgement) → ¬ HasNoAccess config moment caller other
+not_refused config moment caller scopes has other refused =
+    let same : Has scopes ≡ Refused refused.0 = HasAccess-one config moment caller (Has scopes) (Refused refused.0) has refused.1 in cc
 
 -- what a caller has is one list
-one_list : (roles : List RoleData) (caller : Caller) (scopes others : List (List ℕ)) → HasAccess roles caller (Has scopes) → HasAccess roles caller (Has others) → scopes ≡ others
-one_list roles caller scopes others has too =
-    let same : Has scopes ≡ Has others = HasAccess-one roles caller (Has scopes) (Has others) has too in cc
+one_list : (config : Config) (moment : ℕ) (caller : Caller) (scopes others : List (List ℕ)) → HasAccess config moment caller (Has scopes) → HasAccess config moment caller (Has others) → scopes ≡ others
+one_list config moment caller scopes others has too =
+    let same : Has scopes ≡ Has others = HasAccess-one config moment caller (Has scopes) (Has others) has too in cc
 
 -- whose scopes hold what is asked for lacks none
-pub lacks_none : (roles : List RoleData) (caller : Caller) (scopes : List (List ℕ)) (policy : Expression) → HasAccess roles caller (Has scopes) → missing scopes policy ≡ None → (other : Judgement) → ¬ LacksScopes roles caller policy other
-lacks_none roles caller scopes policy has none other lacks =
-    let same : lacks.0 ≡ scopes = one_list roles caller lacks.0 scopes lacks.1 has in
+pub lacks_none : (config : Config) (moment : ℕ) (caller : Caller) (scopes : List (List ℕ)) (policy : Expression) → HasAccess config moment caller (Has scopes) → missing scopes policy ≡ None → (other : Judgement) → ¬ LacksScopes config moment caller policy other
+lacks_none config moment caller scopes policy has none other lacks =
+    let same : lacks.0 ≡ scopes = one_list config moment caller lacks.0 scopes lacks.1 has in
     idle (option_map insufficient_scopes (missing lacks.0 policy)) (rw (same, none) refl) other lacks.2
 
 -- rules of which none ends the call are passed over
@@ -65,37 +65,37 @@ abbrev pub last_parts : Setting → Deed → List (Judgement → Type 0)
 last_parts at deed = Strikes (full at.state deed.change) ∷ IsDone at deed ∷ []
 
 -- a call that asks something has no fault of form
-asks-first : (at : Setting) (caller : Caller) (case : Setting → Case) (judgement : Judgement) → IsFirst (HasNoAccess at.state.config.roles caller ∷ Strikes (case at).absent ∷ LacksScopes at.state.config.roles caller (case at).policy ∷ (map IsEnded (case at).rules ++ last_parts at (case at).deed)) judgement → IsFirst (in_order at caller (asks case)) judgement
+asks-first : (at : Setting) (caller : Caller) (case : Setting → Case) (judgement : Judgement) → IsFirst (HasNoAccess at.state.config at.moment caller ∷ Strikes (case at).absent ∷ LacksScopes at.state.config at.moment caller (case at).policy ∷ (map IsEnded (case at).rules ++ last_parts at (case at).deed)) judgement → IsFirst (in_order at caller (asks case)) judgement
 asks-first at caller case judgement first =
     inr (λ other strikes. strikes, inr (λ other strikes. strikes, inr (λ other strikes. strikes, first)))
 
 -- the caller is refused
-pub asks-refused : (at : Setting) (caller : Caller) (case : Setting → Case) (a : Answer) → HasAccess at.state.config.roles caller (Refused a) → IsFirst (in_order at caller (asks case)) (only_answer a)
+pub asks-refused : (at : Setting) (caller : Caller) (case : Setting → Case) (a : Answer) → HasAccess at.state.config at.moment caller (Refused a) → IsFirst (in_order at caller (asks case)) (only_answer a)
 asks-refused at caller case a refused = asks-first at caller case (only_answer a) (inl (a, refused, refl))
 
 -- what is named is not there
-pub asks-absent : (at : Setting) (caller : Caller) (case : Setting → Case) (scopes : List (List ℕ)) (a : Answer) → HasAccess at.state.config.roles caller (Has scopes) → (case at).absent ≡ Some a → IsFirst (in_order at caller (asks case)) (only_answer a)
+pub asks-absent : (at : Setting) (caller : Caller) (case : Setting → Case) (scopes : List (List ℕ)) (a : Answer) → HasAccess at.state.config at.moment caller (Has scopes) → (case at).absent ≡ Some a → IsFirst (in_order at caller (asks case)) (only_answer a)
 asks-absent at caller case scopes a has absent =
-    let free = not_refused at.state.config.roles caller scopes has in
+    let free = not_refused at.state.config at.moment caller scopes has in
     asks-first at caller case (only_answer a) (inr (free, inl (struck (case at).absent a absent)))
 
 -- scopes are missing
-pub asks-lacking : (at : Setting) (caller : Caller) (case : Setting → Case) (scopes : List (List ℕ)) (lack : Expression) → HasAccess at.state.config.roles caller (Has scopes) → (case at).absent ≡ None → missing scopes (case at).policy ≡ Some lack → IsFirst (in_order at caller (asks case)) (only_answer (insufficient_scopes lack))
+pub asks-lacking : (at : Setting) (caller : Caller) (case : Setting → Case) (scopes : List (List ℕ)) (lack : Expression) → HasAccess at.state.config at.moment caller (Has scopes) → (case at).absent ≡ None → missing scopes (case at).policy ≡ Some lack → IsFirst (in_order at caller (asks case)) (only_answer (insufficient_scopes lack))
 asks-lacking at caller case scopes lack has there lacks =
-    let free = not_refused at.state.config.roles caller scopes has in
+    let free = not_refused at.state.config at.moment caller scopes has in
     let answer : option_map insufficient_scopes (missing scopes (case at).policy) ≡ Some (insufficient_scopes lack) = rw lacks refl in
     let strikes = struck (option_map insufficient_scopes (missing scopes (case at).policy)) (insufficient_scopes lack) answer in
     asks-first at caller case (only_answer (insufficient_scopes lack)) (inr (free, inr (idle (case at).absent there, inl (scopes, has, strikes))))
 
 -- what comes after the policy, for a caller whose scopes hold it
-asks-held : (at : Setting) (caller : Caller) (case : Setting → Case) (scopes : List (List ℕ)) (judgement : Judgement) → HasAccess at.state.config.roles caller (Has scopes) → (case at).absent ≡ None → missing scopes (case at).policy ≡ None → IsFirst (map IsEnded (case at).rules ++ last_parts at (case at).deed) judgement → IsFirst (in_order at caller (asks case)) judgement
+asks-held : (at : Setting) (caller : Caller) (case : Setting → Case) (scopes : List (List ℕ)) (judgement : Judgement) → HasAccess at.state.config at.moment caller (Has scopes) → (case at).absent ≡ None → missing scopes (case at).policy ≡ None → IsFirst (map IsEnded (case at).rules ++ last_parts at (case at).deed) judgement → IsFirst (in_order at caller (asks case)) judgement
 asks-held at caller case scopes judgement has there none first =
-    let free = not_refused at.state.config.roles caller scopes has in
-    let holds = lacks_none at.state.config.roles caller scopes (case at).policy has none in
+    let free = not_refused at.state.config at.moment caller scopes has in
+    let holds = lacks_none at.state.config at.moment caller scopes (case at).policy has none in
     asks-first at caller case judgement (inr (free, inr (idle (case at).absent there, inr (holds, first))))
 
 -- a rule of the call ends it
-pub asks-ruled : (at : Setting) (caller : Caller) (case : Setting → Case) (scopes : List (List ℕ)) (a : Answer) → HasAccess at.state.config.roles caller (Has scopes) → (case at).absent ≡ None → missing scopes (case at).policy ≡ None → IsFirstRule (case at).rules (Some a) → IsFirst (in_order at caller (asks case)) (only_answer a)
+pub asks-ruled : (at : Setting) (caller : Caller) (case : Setting → Case) (scopes : List (List ℕ)) (a : Answer) → HasAccess at.state.config at.moment caller (Has scopes) → (case at).absent ≡ None → missing scopes (case at).policy ≡ None → IsFirstRule (case at).rules (Some a) → IsFirst (in_order at caller (asks case)) (only_answer a)
 asks-ruled at caller case scopes a has there none rule =
     asks-held at caller case scopes (only_answer a) has there none (rule_ends (case at).rules (last_parts at (case at).deed) a rule)
 
@@ -105,7 +105,7 @@ asks-passed at caller case judgement passes first =
     asks-held at caller case passes.scopes judgement passes.has passes.there passes.held (rules_pass (case at).rules (last_parts at (case at).deed) judgement passes.unruled first)
 
 -- the first rule that ends the call refuses it, and where none does nothing refuses it
-pub refusal_by_rule : (at : Setting) (caller : Caller) (case : Setting → Case) (scopes : List (List ℕ)) (a : Option Answer) → HasAccess at.state.config.roles caller (Has scopes) → (case at).absent ≡ None → missing scopes (case at).policy ≡ None → IsFirstRule (case at).rules a → IsRefusal at caller case a
+pub refusal_by_rule : (at : Setting) (caller : Caller) (case : Setting → Case) (scopes : List (List ℕ)) (a : Option Answer) → HasAccess at.state.config at.moment caller (Has scopes) → (case at).absent ≡ None → missing scopes (case at).policy ≡ None → IsFirstRule (case at).rules a → IsRefusal at caller case a
 refusal_by_rule at caller case scopes None has there none rule = record { scopes = scopes; has = has; there = there; held = none; unruled = rule }
 refusal_by_rule at caller case scopes (Some a) has there none rule = asks-ruled at caller case scopes a has there none rule
 
@@ -165,23 +165,23 @@ first_rule_some [] decided = (None, refl)
 first_rule_some (rule ∷ rules) (inl ends, rest) = (Some rule.answer, inl (ends, refl))
 first_rule_some (rule ∷ rules) (inr goes_on, rest) = let found = first_rule_some rules rest in (found.0, inr (goes_on, found.1))
 
-ruled_some : (at : Setting) (caller : Caller) (case : Setting → Case) (scopes : List (List ℕ)) (rule : Option Answer) → HasAccess at.state.config.roles caller (Has scopes) → (case at).absent ≡ None → missing scopes (case at).policy ≡ None → IsFirstRule (case at).rules rule → (judgement : Judgement) × IsFirst (in_order at caller (asks case)) judgement
+ruled_some : (at : Setting) (caller : Caller) (case : Setting → Case) (scopes : List (List ℕ)) (rule : Option Answer) → HasAccess at.state.config at.moment caller (Has scopes) → (case at).absent ≡ None → missing scopes (case at).policy ≡ None → IsFirstRule (case at).rules rule → (judgement : Judgement) × IsFirst (in_order at caller (asks case)) judgement
 ruled_some at caller case scopes (Some a) has there none rule = (only_answer a, asks-ruled at caller case scopes a has there none rule)
 ruled_some at caller case scopes None has there none rule =
     let last = last_some at (case at).deed (full at.state (case at).deed.change) refl in
     (last.0, asks-passed at caller case last.0 (record { scopes = scopes; has = has; there = there; held = none; unruled = rule }) last.1)
 
-lacking_some : (at : Setting) (caller : Caller) (case : Setting → Case) → AreDecided (case at).rules → (scopes : List (List ℕ)) (lack : Option Expression) → HasAccess at.state.config.roles caller (Has scopes) → (case at).absent ≡ None → missing scopes (case at).policy ≡ lack → (judgement : Judgement) × IsFirst (in_order at caller (asks case)) judgement
+lacking_some : (at : Setting) (caller : Caller) (case : Setting → Case) → AreDecided (case at).rules → (scopes : List (List ℕ)) (lack : Option Expression) → HasAccess at.state.config at.moment caller (Has scopes) → (case at).absent ≡ None → missing scopes (case at).policy ≡ lack → (judgement : Judgement) × IsFirst (in_order at caller (asks case)) judgement
 lacking_some at caller case decided scopes (Some e) has there is = (only_answer (insufficient_scopes e), asks-lacking at caller case scopes e has there is)
 lacking_some at caller case decided scopes None has there is =
     let found = first_rule_some (case at).rules decided in
     ruled_some at caller case scopes found.0 has there is found.1
 
-absent_some : (at : Setting) (caller : Caller) (case : Setting → Case) → AreDecided (case at).rules → (scopes : List (List ℕ)) (absent : Option Answer) → HasAccess at.state.config.roles caller (Has scopes) → (case at).absent ≡ absent → (judgement : Judgement) × IsFirst (in_order at caller (asks case)) judgement
+absent_some : (at : Setting) (caller : Caller) (case : Setting → Case) → AreDecided (case at).rules → (scopes : List (List ℕ)) (absent : Option Answer) → HasAccess at.state.config at.moment caller (Has scopes) → (case at).absent ≡ absent → (judgement : Judgement) × IsFirst (in_order at caller (asks case)) judgement
 absent_some at caller case decided scopes (Some a) has is = (only_answer a, asks-absent at caller case scopes a has is)
 absent_some at caller case decided scopes None has is = lacking_some at caller case decided scopes (missing scopes (case at).policy) has is refl
 
-asks_some : (at : Setting) (caller : Caller) (case : Setting → Case) → AreDecided (case at).rules → (access : Access) → HasAccess at.state.config.roles caller access → (judgement : Judgement) × IsFirst (in_order at caller (asks case)) judgement
+asks_some : (at : Setting) (caller : Caller) (case : Setting → Case) → AreDecided (case at).rules → (access : Access) → HasAccess at.state.config at.moment caller access → (judgement : Judgement) × IsFirst (in_order at caller (asks case)) judgement
 asks_some at caller case decided (Refused a) has = (only_answer a, asks-refused at caller case a has)
 asks_some at caller case decided (Has scopes) has = absent_some at caller case decided scopes (case at).absent has refl
 
@@ -191,7 +191,7 @@ IsDecided (asks case) at = AreDecided (case at).rules
 IsDecided form at = Unit {0}
 
 -- whatever is called, some judgement is the first, for a caller of some access
-pub in_order-some : (at : Setting) (caller : Caller) (form : Form) → IsDecided form at → (access : Access) → HasAccess at.state.config.roles caller access → (judgement : Judgement) × IsFirst (in_order at caller form) judgement
+pub in_order-some : (at : Setting) (caller : Caller) (form : Form) → IsDecided form at → (access : Access) → HasAccess at.state.config at.moment caller access → (judgement : Judgement) × IsFirst (in_order at caller form) judgement
 in_order-some at caller (has_no_route a) decided access has = (only_answer a, inl refl)
 in_order-some at caller (has_bad_parameter a) decided access has = (only_answer a, inr (λ other strikes. strikes, inl refl))
 in_order-some at caller (has_bad_body a) decided access has = (only_answer a, inr (λ other strikes. strikes, inr (λ other strikes. strikes, inl refl)))
@@ -223,24 +223,31 @@ single_rules : (rules : List Rule) (Ps : List (Judgement → Type 0)) → AreSin
 single_rules [] Ps single = single
 single_rules (rule ∷ rules) Ps single = ((λ a b p q. p.1 ∙ sym q.1), single_rules rules Ps single)
 
-single_no_access : (roles : List RoleData) (caller : Caller) → IsSingle (HasNoAccess roles caller)
-single_no_access roles caller a b p q =
-    let same : Refused p.0 ≡ Refused q.0 = HasAccess-one roles caller (Refused p.0) (Refused q.0) p.1 q.1 in
+single_no_access : (config : Config) (moment : ℕ) (caller : Caller) → IsSingle (HasNoAccess config moment caller)
+single_no_access config moment caller a b p q =
+    let same : Refused p.0 ≡ Refused q.0 = HasAccess-one config moment caller (Refused p.0) (Refused q.0) p.1 q.1 in
     let answers : p.0 ≡ q.0 = cc in
     p.2 ∙ (ap only_answer answers ∙ sym q.2)
 
-single_lacks : (roles : List RoleData) (caller : Caller) (policy : Expression) → IsSingle (LacksScopes roles caller policy)
-single_lacks roles caller policy a b p q =
-    let same : p.0 ≡ q.0 = one_list roles caller p.0 q.0 p.1 q.1 in
+single_lacks : (config : Config) (moment : ℕ) (caller : Caller) (policy : Expression) → IsSingle (LacksScopes config moment caller policy)
+single_lacks config moment caller policy a b p q =
+    let same : p.0 ≡ q.0 = one_list config moment caller p.0 q.0 p.1 q.1 in
     let P : List (List ℕ) → Type 0 = λ scopes. Strikes (option_map insufficient_scopes (missing scopes policy)) a in
     single_strikes (option_map insufficient_scopes (missing q.0 policy)) a b (subst P same p.2) q.2
 
 -- two judgements that are both the first are one
 pub in_order-one : (at : Setting) (caller : Caller) (form : Form) (a b : Judgement) → IsFirst (in_order at caller form) a → IsFirst (in_order at caller form) b → a ≡ b
 in_order-one at caller form a b p q =
-    let roles = at.state.config.roles in
+    let config = at.state.config in
+    let moment = at.moment in
     let case = case_of form at in
     let last : AreSingle (last_parts at case.deed) = (single_strikes (full at.state case.deed.change), (λ x y i j. i ∙ sym j, tt)) in
     IsFirst-one (in_order at caller form) a b
-    (single_strikes (route_of form), (single_strikes (parameter_of form), (single_strikes (body_of form), (single_no_access roles caller, (single_strikes case.absent, (single_lacks roles caller case.policy, single_rules case.rules (last_parts at case.deed) last))))))
+    (single_strikes (route_of form), (single_strikes (parameter_of form), (single_strikes (body_of form), (single_no_access config moment caller, (single_strikes case.absent, (single_lacks config moment caller case.policy, single_rules case.rules (last_parts at case.deed) last))))))
     p q
+
+-- what refuses a call of whoever has these scopes refuses it of a caller who has them
+pub refused-within : {E : Type 0} (at : Setting) (caller : Caller) (case : Setting → Case) (scopes : List (List ℕ)) (result : Result (Option Answer) E) → HasAccess at.state.config at.moment caller (Has scopes)
+    → IfOk result (λ answer. (other : Caller) → HasAccess at.state.config at.moment other (Has scopes) → IsRefusal at other case answer) → IfOk result (IsRefusal at caller case)
+refused-within at caller case scopes (Ok answer) has within = within caller has
+refused-within at caller case scopes (Err e) has within = within

@@ -1,5 +1,6 @@
 -- The verdict is one, and each call has one.
 use Rattle.std.proofs.Common.{◌≡◌, ◌⊎◌, ℕ, ◌==◌, Bool, true, false, List, [], ◌∷◌, ◌++◌, length, Option, Some, None, bytes_eq, nat_le, refl, inl, inr}
+use Rattle.hawk_auth.specs.Clients.{IsBook}
 use Rattle.role_expand.specs.Cycles.{IsAccepted}
 use Rattle.farm_record.specs.declared.change.Creation.{Creation}
 use Rattle.run_states.specs.Rows.{Row}
@@ -53,9 +54,10 @@ form-decided (Status id) at = status-decided id (row_with id at.state.contents.r
 form-decided (CreateTask creation) at =
     create-where-decided (bytes_eq creation.definition.task_group_id creation.id) (length creation.definition.dependencies == 0) creation at
 
--- each call has a verdict, over accepted roles
-pub IsVerdict-some : (longest : ℕ) (state : State) (asking : Asking) → IsAccepted longest state.config.roles → (judgement : Judgement) × IsVerdict state asking judgement
+-- each call has a verdict, over accepted roles and a book of clients
+pub IsVerdict-some : (longest : ℕ) (state : State) (asking : Asking) → IsAccepted longest state.config.roles → IsBook state.config.clients → (judgement : Judgement) × IsVerdict state asking judgement
 unfolding IsVerdict
-IsVerdict-some longest state asking accepted =
-    let has = HasAccess-some longest state.config.roles asking.caller accepted in
-    in_order-some (setting_of state asking) asking.caller (form_of asking.call) (form-decided asking.call (setting_of state asking)) has.0 has.1
+IsVerdict-some longest state asking accepted book =
+    let at = setting_of state asking in
+    let has = HasAccess-some longest state.config at.moment asking.caller accepted book in
+    in_order-some at asking.caller (form_of asking.call) (form-decided asking.call at) has.0 has.1

@@ -1,28 +1,57 @@
--- What a caller may do: it has all that its start list gives, or it is refused (the Taskcluster reference, "Roles"; Hawk).
-use Rattle.std.specs.Prelude.{◌≡◌, ℕ, List, [], ◌∷◌, codes}
-use Rattle.role_expand.specs.Closures.{IsClosure, HasMoreDerivable}
-use Rattle.role_expand.specs.Roles.{RoleData}
-use Rattle.role_expand.specs.declared.expansion.TheConstants.{MOST_SCOPES}
+-- What a caller may do at a moment: it has all that its start list gives, or it is refused (the Taskcluster reference, "Roles" and "Clients"; Hawk, scheme 1).
+use Rattle.std.specs.Prelude.{◌≡◌, ℕ, List, codes, Some, Ok, Err}
+use Rattle.hawk_auth.specs.Access.{Access as Admission, Refusal, BadHeader, UnknownClient, Disabled, Expired, Skew, BadMac, BadHash, BadExt, Oversteps, TooMany, HeadData, Expands, anonymous_scopes, HasAccess as IsLetIn}
+use Rattle.hawk_auth.specs.Clients.{IsBook}
+use Rattle.farm_machine.specs.declared.config.Config.{Config}
 use Rattle.farm_machine.specs.declared.question.Caller.{Caller}
-use Rattle.farm_machine.specs.declared.question.Caller.TheVariants.{Anonymous, BadHeader}
+use Rattle.farm_machine.specs.declared.question.Caller.TheVariants.{Anonymous, Signed}
+use Rattle.farm_machine.specs.declared.question.Credentials.{Credentials}
 use Rattle.farm_machine.specs.declared.reply.Answer.{Answer}
-use Rattle.farm_machine.specs.Replies.{not_authentic, expansion_limit}
+use Rattle.farm_machine.specs.Replies.{not_authentic, skewed, overstepping, expansion_limit}
 
 -- what a caller may do: it has these scopes, or it is refused with this answer
 pub data Access : Type 0 where
   Has : (scopes : List (List ℕ)) → Access
   Refused : (answer : Answer) → Access
 
--- the start list of whoever gives no credentials
-abbrev pub anonymous_scopes : List (List ℕ)
-anonymous_scopes = codes "assume:anonymous" ∷ []
+-- what of a request with these credentials tells who calls a farm that is set up so
+abbrev pub head_of : Config → Credentials → HeadData
+head_of config credentials = record {
+  header = Some credentials.header;
+  count = credentials.count;
+  method = credentials.method;
+  target = credentials.target;
+  content_type = credentials.content_type;
+  body = credentials.body;
+  host = config.host;
+  port = config.port;
+}
 
--- what a start list gives over these roles: its closure, or the refusal where more scopes are derivable than a closure may have
-abbrev pub Expands : List RoleData → List (List ℕ) → Access → Type 0
-Expands roles start (Has scopes) = IsClosure MOST_SCOPES roles start scopes
-Expands roles start (Refused answer) = HasMoreDerivable MOST_SCOPES roles start × (answer ≡ expansion_limit)
+-- the answer to a caller who is refused so
+abbrev pub refusal_of : Refusal → Answer
+refusal_of BadHeader = not_authentic (codes "BadHeader")
+refusal_of UnknownClient = not_authentic (codes "UnknownClient")
+refusal_of Disabled = not_authentic (codes "Disabled")
+refusal_of Expired = not_authentic (codes "Expired")
+refusal_of (Skew ts now) = skewed ts now
+refusal_of BadMac = not_authentic (codes "BadMac")
+refusal_of BadHash = not_authentic (codes "BadHash")
+refusal_of BadExt = not_authentic (codes "BadExt")
+refusal_of (Oversteps lack) = overstepping lack
+refusal_of TooMany = expansion_limit
 
--- what a caller may do over these roles: whoever gives no credentials has what that start list gives, and a header off its form is refused
-abbrev pub HasAccess : List RoleData → Caller → Access → Type 0
-HasAccess roles Anonymous access = Expands roles anonymous_scopes access
-HasAccess roles BadHeader access = access ≡ Refused (not_authentic (codes "BadHeader"))
+-- what a caller may do who is let in with these scopes, or refused so
+abbrev pub access_by : Admission → Access
+access_by (Ok scopes) = Has scopes
+access_by (Err refusal) = Refused (refusal_of refusal)
+
+-- how a caller is let in: whoever gives no credentials with what its start list gives, and whoever gives some by the clients of the farm
+abbrev pub IsAdmitted : Config → ℕ → Caller → Admission → Type 0
+IsAdmitted config moment Anonymous admission = Expands config.roles anonymous_scopes admission
+IsAdmitted config moment (Signed credentials) admission =
+    IsBook config.clients × IsLetIn config.clients config.roles (head_of config credentials) moment admission
+
+-- what a caller may do at a farm that is set up so, at this moment
+abbrev pub HasAccess : Config → ℕ → Caller → Access → Type 0
+HasAccess config moment caller access =
+    (admission : Admission) × IsAdmitted config moment caller admission × (access ≡ access_by admission)

@@ -3,6 +3,6 @@ use Rattle.std.specs.Prelude.{length}
 use Rattle.farm_machine.specs.declared.config.Config.{Config}
 use Rattle.farm_machine.specs.declared.config.ConfigCounts.{ConfigCounts}
 
--- a configuration has roles, and no clients or hooks
+-- a configuration has roles and clients, and no hooks
 abbrev pub counts_of : Config → ConfigCounts
-counts_of config = record { roles = length config.roles; clients = 0; hooks = 0 }
+counts_of config = record { roles = length config.roles; clients = length config.clients; hooks = 0 }

@@ -51,7 +51,7 @@ AccessIsExact =
     (opening : State) (before after : List Entry) (asking : Asking) (judgement : Judgement) (scopes : List (List ℕ)) (policy : Expression)
     → Finished opening before after asking judgement
     → asked_policy (form_of asking.call) (setting_behind opening before asking) ≡ Some policy
-    → HasAccess opening.config.roles asking.caller (Has scopes)
+    → HasAccess opening.config (setting_behind opening before asking).moment asking.caller (Has scopes)
     → DeniesExactly scopes policy judgement.answer
 
 -- the creation that a change is, if it is one
@@ -90,7 +90,7 @@ AnswersAgain =
     → created_by first ≡ Some creation
     → Finished opening (before ++ first ∷ between) after asking judgement
     → asking.call ≡ CreateTask creation
-    → HasAccess opening.config.roles asking.caller (Has scopes)
+    → HasAccess opening.config (setting_behind opening (before ++ first ∷ between) asking).moment asking.caller (Has scopes)
     → IsTrue (holds scopes (create_policy creation.definition))
     → (row : Row) × (row_with creation.id (end_state farm_rules opening (before ++ first ∷ between)).contents.rows ≡ Some row)
     × (row.definition ≡ creation.definition) × (judgement ≡ only_answer (ok (document_text (status_body row))))

@@ -1,8 +1,8 @@
 -- The one order of refusals, for every call.
 use Rattle.std.specs.Prelude.{◌≡◌, ◌⊎◌, ℕ, min, nat_le, Bool, true, false, ◌&&◌, List, [], ◌∷◌, ◌++◌, map, length, Option, Some, None, option_map, if◌then◌else◌}
 use Rattle.scope_sets.specs.Expressions.{Expression, missing}
-use Rattle.role_expand.specs.Roles.{RoleData}
 use Rattle.farm_text.specs.Document.{document_text}
+use Rattle.farm_machine.specs.declared.config.Config.{Config}
 use Rattle.farm_machine.specs.declared.question.Caller.{Caller}
 use Rattle.farm_machine.specs.declared.reply.Answer.{Answer}
 use Rattle.farm_machine.specs.Access.{Has, Refused, HasAccess}
@@ -48,14 +48,14 @@ Strikes None judgement = ⊥
 Strikes (Some answer) judgement = judgement ≡ only_answer answer
 
 -- the caller is not who it says, or too many scopes are derivable for it
-abbrev pub HasNoAccess : List RoleData → Caller → Judgement → Type 0
-HasNoAccess roles caller judgement =
-    (answer : Answer) × HasAccess roles caller (Refused answer) × Strikes (Some answer) judgement
+abbrev pub HasNoAccess : Config → ℕ → Caller → Judgement → Type 0
+HasNoAccess config moment caller judgement =
+    (answer : Answer) × HasAccess config moment caller (Refused answer) × Strikes (Some answer) judgement
 
 -- the caller's scopes do not hold what the call asks for
-abbrev pub LacksScopes : List RoleData → Caller → Expression → Judgement → Type 0
-LacksScopes roles caller policy judgement =
-    (scopes : List (List ℕ)) × HasAccess roles caller (Has scopes)
+abbrev pub LacksScopes : Config → ℕ → Caller → Expression → Judgement → Type 0
+LacksScopes config moment caller policy judgement =
+    (scopes : List (List ℕ)) × HasAccess config moment caller (Has scopes)
     × Strikes (option_map insufficient_scopes (missing scopes policy)) judgement
 
 -- a rule of the call ends it with its answer, and nothing changes
@@ -96,7 +96,7 @@ in_order at caller form =
     Strikes (route_of form)
     ∷ Strikes (parameter_of form)
     ∷ Strikes (body_of form)
-    ∷ HasNoAccess at.state.config.roles caller
+    ∷ HasNoAccess at.state.config at.moment caller
     ∷ Strikes (case_of form at).absent
-    ∷ LacksScopes at.state.config.roles caller (case_of form at).policy
+    ∷ LacksScopes at.state.config at.moment caller (case_of form at).policy
     ∷ (map IsEnded (case_of form at).rules ++ Strikes (full at.state (case_of form at).deed.change) ∷ IsDone at (case_of form at).deed ∷ [])

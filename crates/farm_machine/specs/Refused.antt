@@ -23,7 +23,7 @@ setting_at config contents moment drawn = record { state = working config conten
 -- nothing refuses the call: its caller has access, what it names is there, its policy holds, and none of its rules ends it
 pub record Passes (at : Setting) (caller : Caller) (case : Case) : Type 0 where
   pub scopes : List (List ℕ)
-  pub has : HasAccess at.state.config.roles caller (Has scopes)
+  pub has : HasAccess at.state.config at.moment caller (Has scopes)
   pub there : case.absent ≡ None
   pub held : missing scopes case.policy ≡ None
   pub unruled : IsFirstRule case.rules None

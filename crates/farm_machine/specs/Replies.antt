@@ -72,13 +72,24 @@ abbrev pub farm_full : ℕ → Answer
 farm_full count =
     record { status = 507; body = error_text (codes "FarmFull") (members_of ((codes "count", whole (pos count)) ∷ [])) (codes "the farm is full") }
 
--- the caller's credentials are not accepted
+-- the caller is not who it says, as these members tell
+abbrev pub authentication_failed : List (List ℕ × Document) → Answer
+authentication_failed details =
+    record { status = 401; body = error_text (codes "AuthenticationFailed") (members_of details) (codes "the caller is not who it says") }
+
+-- for this reason alone
 abbrev pub not_authentic : List ℕ → Answer
-not_authentic reason =
-    record {
-      status = 401;
-      body = error_text (codes "AuthenticationFailed") (members_of ((codes "reason", text reason) ∷ [])) (codes "the caller is not who it says");
-    }
+not_authentic reason = authentication_failed ((codes "reason", text reason) ∷ [])
+
+-- the header's seconds are too far from those of the farm
+abbrev pub skewed : ℕ → ℕ → Answer
+skewed ts now =
+    authentication_failed ((codes "now", whole (pos now)) ∷ (codes "reason", text (codes "Skew")) ∷ (codes "ts", whole (pos ts)) ∷ [])
+
+-- the client asks for more than it has
+abbrev pub overstepping : Expression → Answer
+overstepping missing =
+    authentication_failed ((codes "missing", document_of missing) ∷ (codes "reason", text (codes "Oversteps")) ∷ [])
 
 -- too many scopes are derivable for the caller
 abbrev pub expansion_limit : Answer

@@ -1,7 +1,10 @@
 //! The answers of calls: statuses of HTTP (RFC 9110), and bodies as JSON (RFC 8259).
 
-ghost use Rattle.std.specs.Prelude.{◌≡◌, codes, IfOk};
-ghost use Rattle.farm_machine.specs.Replies.{ok, not_found, bad_parameter, bad_body, too_late, conflict, farm_full, status_body, not_authentic, expansion_limit, insufficient_scopes, error_text};
+ghost use Rattle.std.specs.Prelude.{◌≡◌, ◌≢◌, ◌<◌, ◌^◌, codes, Err, IfOk};
+ghost use Rattle.farm_machine.specs.Replies.{ok, not_found, bad_parameter, bad_body, too_late, conflict, farm_full, status_body, not_authentic, skewed, overstepping, expansion_limit, insufficient_scopes, error_text};
+ghost use Rattle.hawk_auth.specs.Access.{UnlessNoMemory};
+ghost use Rattle.farm_machine.specs.Access.{Refused, access_by};
+ghost use Rattle.farm_machine.specs.Told.{HasSeconds};
 ghost use Rattle.farm_text.specs.Doc.{document};
 ghost use Rattle.farm_text.specs.Document.{document_text};
 ghost use Rattle.farm_text.specs.Entries.{held};
@@ -11,6 +14,7 @@ use crate::expressions::expression_doc;
 use crate::question::BodyFault;
 use crate::reply::Answer;
 use farm_text::{Doc, Entries, Text};
+use hawk_auth::AuthFault;
 use http::StatusCode;
 use run_states::TaskRow;
 use scope_sets::Expr;
@@ -126,11 +130,65 @@ pub(crate) fn farm_full(alloc: Global, count: u32) -> Result<Answer, AllocError>
     })
 }
 
+/// The answer to a caller who is refused so.
+pub(crate) fn refused_caller(alloc: Global, fault: &AuthFault) -> Result<Answer, AllocError>
+    requires { HasSeconds fault.now }
+    ensures answer { IfOk result (λ a. UnlessNoMemory (λ access. access_by access ≡ Refused a) (Err fault.now)) }
+    ensures known { IfOk result (λ a. fault.now ≢ AuthFault.NoMemory) }
+{
+    match fault {
+        AuthFault::BadHeader => not_authentic(alloc, "BadHeader"),
+        AuthFault::UnknownClient => not_authentic(alloc, "UnknownClient"),
+        AuthFault::Disabled => not_authentic(alloc, "Disabled"),
+        AuthFault::Expired => not_authentic(alloc, "Expired"),
+        AuthFault::Skew { ts, now } => skewed(alloc, *ts, *now),
+        AuthFault::BadMac => not_authentic(alloc, "BadMac"),
+        AuthFault::BadHash => not_authentic(alloc, "BadHash"),
+        AuthFault::BadExt => not_authentic(alloc, "BadExt"),
+        AuthFault::Oversteps(lack) => overstepping(alloc, lack),
+        AuthFault::TooMany => expansion_limit(alloc),
+        AuthFault::NoMemory => Err(AllocError),
+    }
+}
+
 /// The caller's credentials are not accepted, for this reason.
-pub(crate) fn not_authentic(alloc: Global, reason: &str) -> Result<Answer, AllocError>
+fn not_authentic(alloc: Global, reason: &str) -> Result<Answer, AllocError>
     ensures { IfOk result (λ a. a ≡ not_authentic reason.now) }
 {
     let details = Entries::new(alloc).with(alloc, "reason", Doc::text(alloc, reason)?)?;
+    authentication_failed(alloc, details)
+}
+
+/// The header's seconds are too far from those of the farm.
+fn skewed(alloc: Global, ts: u64, now: u64) -> Result<Answer, AllocError>
+    requires ts { ts < 2 ^ 63 }
+    requires now { now < 2 ^ 63 }
+    ensures { IfOk result (λ a. a ≡ skewed ts now) }
+{
+    let details = Entries::new(alloc)
+        .with(alloc, "now", Doc::Int(now as i64))?
+        .with(alloc, "reason", Doc::text(alloc, "Skew")?)?
+        .with(alloc, "ts", Doc::Int(ts as i64))?;
+    authentication_failed(alloc, details)
+}
+
+/// The client asks for more than it has, and this is missing.
+fn overstepping(alloc: Global, missing: &Expr) -> Result<Answer, AllocError>
+    ensures { IfOk result (λ a. a ≡ overstepping (view missing.now)) }
+{
+    let details = Entries::new(alloc)
+        .with(alloc, "missing", expression_doc(alloc, missing)?)?
+        .with(alloc, "reason", Doc::text(alloc, "Oversteps")?)?;
+    authentication_failed(alloc, details)
+}
+
+/// The caller is not who it says, as these details tell.
+fn authentication_failed(alloc: Global, details: Entries) -> Result<Answer, AllocError>
+    ensures { IfOk result (λ a. a ≡ record {
+      status = 401;
+      body = error_text (codes "AuthenticationFailed") (held details) (codes "the caller is not who it says");
+    }) }
+{
     Ok(Answer {
         status: StatusCode::UNAUTHORIZED,
         body: error_text(

@@ -4,6 +4,7 @@ ghost use Rattle.farm_machine.specs.Config.{counts_of};
 
 use crate::grants::Grants;
 use farm_text::Text;
+use hawk_auth::ClientBook;
 
 /// How a farm is set up.
 #[derive(Debug, Drop)]
@@ -18,13 +19,14 @@ pub struct Config {
     pub max_tasks: u32,
     /// The roles, and what they grant.
     pub roles: Grants,
+    /// The clients, who sign their calls.
+    pub clients: ClientBook,
 }
 
 /// How many rows of each kind a configuration has.
 #[derive(Clone, Copy, Debug, PartialEq, Eq)]
 pub struct ConfigCounts {
     pub roles: u64,
-    /// 0, until farm files have clients.
     pub clients: u64,
     /// 0, until farm files have hooks.
     pub hooks: u64,
@@ -37,7 +39,7 @@ impl Config {
     {
         ConfigCounts {
             roles: self.roles.len() as u64,
-            clients: 0,
+            clients: self.clients.len() as u64,
             hooks: 0,
         }
     }

@@ -1,6 +1,6 @@
 //! What roles grant: the closures of start lists that are kept, so that no ask makes one.
 ghost use Rattle.std.specs.Prelude.{◌≡◌, IfOk, codes, length};
-ghost use Rattle.farm_machine.specs.Access.{anonymous_scopes};
+ghost use Rattle.hawk_auth.specs.Access.{anonymous_scopes};
 ghost use Rattle.farm_machine.specs.Grants.{IsKeptOf};
 
 use role_expand::{ExpandFault, RoleSet};
@@ -25,7 +25,7 @@ pub struct Grants {
 impl Model for Grants {
     ghost use Rattle.std.specs.Prelude.{List};
     ghost use Rattle.role_expand.specs.Roles.{RoleData};
-    ghost use Rattle.farm_machine.specs.Access.{anonymous_scopes};
+    ghost use Rattle.hawk_auth.specs.Access.{anonymous_scopes};
     ghost use Rattle.farm_machine.specs.Grants.{IsKeptOf};
 
     ghost Value = { List RoleData };

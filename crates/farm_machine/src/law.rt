@@ -1,6 +1,7 @@
 //! The law of a farm: the marker that names it, and laws about it.
 
 ghost use Rattle.std.specs.Prelude.{◌≡◌, ℕ};
+ghost use Rattle.hawk_auth.specs.Clients.{IsBook};
 ghost use Rattle.role_expand.specs.Cycles.{IsAccepted};
 ghost use Rattle.farm_machine.specs.Entry.{Asking};
 ghost use Rattle.farm_machine.specs.State.{State};
@@ -96,9 +97,9 @@ pub fn a_question_and_a_reply_have_one_entry()
     ensures { HasOneEntry farm_rules }
 {}
 
-/// Each call has a verdict, over each accepted set of roles.
+/// Each call has a verdict, over each accepted set of roles and each book of clients.
 pub fn each_call_has_a_verdict()
-    ensures { (longest : ℕ) (state : State) (asking : Asking) → IsAccepted longest state.config.roles
+    ensures { (longest : ℕ) (state : State) (asking : Asking) → IsAccepted longest state.config.roles → IsBook state.config.clients
         → (judgement : Judgement) × IsVerdict state asking judgement }
 {}
 

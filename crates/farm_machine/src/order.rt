@@ -1,6 +1,8 @@
 //! The one order of refusals, for every call that asks something.
 ghost use Rattle.std.specs.Prelude.{◌≡◌, true, Some, None, IfOk};
 ghost use Rattle.farm_rows.specs.Changes.{creating, may_apply};
+ghost use Rattle.farm_machine.specs.declared.question.Caller.{Caller};
+ghost use Rattle.farm_machine.specs.Access.{Has, HasAccess};
 ghost use Rattle.farm_machine.specs.Calls.CreateTask.{making};
 ghost use Rattle.farm_machine.specs.Deeds.{IsReady};
 ghost use Rattle.farm_machine.specs.Order.{asks, full};
@@ -16,7 +18,7 @@ use crate::reply::Answer;
 use crate::tables::Tables;
 use farm_record::{Change, Creation, Kind};
 use farm_text::{Moment, SlugId};
-use scope_sets::missing;
+use scope_sets::{ScopeSet, missing};
 use std::alloc::{AllocError, Global};
 
 /// How many tasks a farm has at most, whatever its configuration says.
@@ -25,7 +27,7 @@ const MOST_TASKS: u32 = 1_000_000;
 /// Judges a call: it is done where nothing refuses it, in the one order. The tables stay as they were.
 pub(crate) fn judge<C: Called + Drop>(
     alloc: Global,
-    caller: Caller,
+    caller: &Caller,
     call: C,
     config: &Config,
     tables: &mut Tables,
@@ -33,7 +35,7 @@ pub(crate) fn judge<C: Called + Drop>(
     drawn: SlugId,
 ) -> Result<Judged, AllocError>
     requires { IsReady (setting_at config.now tables.old moment drawn) }
-    ensures judged { IfOk result (IsJudged (setting_at config.now tables.old moment drawn) caller (asks (C.case call))) }
+    ensures judged { IfOk result (IsJudged (setting_at config.now tables.old moment drawn) caller.now (asks (C.case call))) }
     ensures same { tables.new ≡ tables.old }
 {
     let at = Scene {
@@ -57,16 +59,29 @@ pub(crate) fn judge<C: Called + Drop>(
 /// The answer that refuses a call, if one does: for its caller, for what it names, for scopes that are missing, by its own rules.
 fn refusal<C: Called>(
     alloc: Global,
-    caller: Caller,
+    caller: &Caller,
     call: &C,
     at: &Scene<'_>,
 ) -> Result<Option<Answer>, AllocError>
-    ensures { IfOk result (IsRefusal at.now caller (C.case call.now)) }
+    ensures { IfOk result (IsRefusal at.now caller.now (C.case call.now)) }
 {
-    let scopes = match access_of(alloc, &at.config.roles, caller)? {
-        Access::Has(scopes) => scopes,
-        Access::Refused(answer) => return Ok(Some(answer)),
-    };
+    match access_of(alloc, at.config, caller, at.moment)? {
+        Access::Keeps(scopes) => refusal_within(alloc, scopes, call, at),
+        Access::Makes(scopes) => refusal_within(alloc, &scopes, call, at),
+        Access::Refused(answer) => Ok(Some(answer)),
+    }
+}
+
+/// The answer that refuses a call of whoever has these scopes, if one does.
+fn refusal_within<C: Called>(
+    alloc: Global,
+    scopes: &ScopeSet,
+    call: &C,
+    at: &Scene<'_>,
+) -> Result<Option<Answer>, AllocError>
+    ensures { IfOk result (λ answer. (caller : Caller) → HasAccess at.now.state.config at.now.moment caller (Has scopes.now)
+        → IsRefusal at.now caller (C.case call.now) answer) }
+{
     if let Some(answer) = call.absent(alloc, at)? {
         return Ok(Some(answer));
     }

@@ -3,6 +3,7 @@ ghost use Rattle.farm_text.specs.declared.moment.TheConstants.{LAST_TOLD_MOMENT}
 
 use farm_record::Creation;
 use farm_text::{Moment, SlugId, Text};
+use http_wire::Bytes;
 use std::marker::Model;
 use task_defs::DefFault;
 
@@ -12,13 +13,28 @@ pub enum Parameter {
     TaskId,
 }
 
-/// Who calls, as far as the head of the request tells.
-#[derive(Clone, Copy, Debug, PartialEq, Eq)]
+/// The credentials of a request, and what of it they sign (Hawk, scheme 1).
+#[derive(Debug, Drop)]
+pub struct Credentials {
+    /// The value of the first Authorization field.
+    pub header: Bytes,
+    /// How many Authorization fields there are.
+    pub count: u64,
+    pub method: Bytes,
+    /// The target as it was sent.
+    pub target: Bytes,
+    /// The value of the first Content-Type field, if there is one.
+    pub content_type: Option<Bytes>,
+    pub body: Bytes,
+}
+
+/// Who calls, as far as the request tells.
+#[derive(Debug, Drop)]
 pub enum Caller {
     /// No credentials are given.
     Anonymous,
-    /// Credentials are given in a form that has no reading.
-    BadHeader,
+    /// These are given.
+    Signed(Credentials),
 }
 
 /// Why a body is none that its call has.
@@ -105,17 +121,11 @@ impl Question {
         self.drawn
     }
 
-    /// Who calls.
-    pub fn caller(&self) -> Caller
-        ensures { result ≡ self.now.caller }
+    /// Who calls, and what.
+    pub fn into_parts(self) -> (Caller, Call)
+        ensures caller { result.0 ≡ self.caller }
+        ensures call { result.1 ≡ self.call }
     {
-        self.caller
-    }
-
-    /// What is called.
-    pub fn into_call(self) -> Call
-        ensures { result ≡ self.call }
-    {
-        self.call
+        (self.caller, self.call)
     }
 }

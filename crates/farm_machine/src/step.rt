@@ -47,16 +47,15 @@ pub fn plan(
 {
     let moment = moment_of(tables, &question);
     let drawn = question.drawn();
-    let caller = question.caller();
-    let call = question.into_call();
-    let judged = judgement_of(alloc, caller, call, config, tables, moment, drawn)?;
+    let (caller, call) = question.into_parts();
+    let judged = judgement_of(alloc, &caller, call, config, tables, moment, drawn)?;
     Ok(Plan { moment, judged })
 }
 
 /// The judgement of what is called: the dispatch to the calls.
 fn judgement_of(
     alloc: Global,
-    caller: Caller,
+    caller: &Caller,
     call: Call,
     config: &Config,
     tables: &mut Tables,
@@ -64,7 +63,7 @@ fn judgement_of(
     drawn: SlugId,
 ) -> Result<Judged, AllocError>
     requires { IsReady (setting_at config.now tables.old moment drawn) }
-    ensures judged { IfOk result (IsJudged (setting_at config.now tables.old moment drawn) caller (form_of call)) }
+    ensures judged { IfOk result (IsJudged (setting_at config.now tables.old moment drawn) caller.now (form_of call)) }
     ensures same { tables.new ≡ tables.old }
 {
     match call {
@@ -95,7 +94,7 @@ fn refused_body(alloc: Global, fault: BodyFault) -> Result<Judged, AllocError>
 /// The judgement of a task's making. One that belongs to another's group, or waits for another, is refused until groups are built.
 fn create(
     alloc: Global,
-    caller: Caller,
+    caller: &Caller,
     creation: Creation,
     config: &Config,
     tables: &mut Tables,
@@ -103,7 +102,7 @@ fn create(
     drawn: SlugId,
 ) -> Result<Judged, AllocError>
     requires { IsReady (setting_at config.now tables.old moment drawn) }
-    ensures judged { IfOk result (IsJudged (setting_at config.now tables.old moment drawn) caller (create_form creation)) }
+    ensures judged { IfOk result (IsJudged (setting_at config.now tables.old moment drawn) caller.now (create_form creation)) }
     ensures same { tables.new ≡ tables.old }
 {
     match check_alone(alloc, &creation.definition, creation.id) {

@@ -1,188 +1,259 @@
+//! Questions that are asked of the machine itself, with replies worked out by hand.
 use crate::answers::{farm_full, insufficient_scopes};
 use crate::config::{Config, ConfigCounts};
 use crate::grants::Grants;
-use crate::question::{BodyFault, Call, Caller, Parameter, Question};
-use crate::reply::Reply;
+use crate::question::{BodyFault, Call, Caller, Credentials, Parameter, Question};
+use crate::reply::{Answer, Reply};
 use crate::step::{apply, plan};
 use crate::tables::{Tables, due, tick};
 use farm_record::Creation;
 use farm_text::{Doc, Moment, SlugId, Text};
+use hawk_auth::{Client, ClientBook};
+use http_wire::Bytes;
 use role_expand::{Role, RoleSet};
 use scope_sets::{Expr, Scope};
-use std::alloc::Global;
+use std::alloc::{AllocError, Global};
 use std::test::Fail;
-use task_defs::{TaskDef, read_task};
+use task_defs::read_task;
 
 /// The id that is written `AAAAAAAAQACAAAAAAAAAAA`.
-fn first_task(rt: &impl std::process::Abort) -> SlugId {
-    SlugId::of_uuid([0, 0, 0, 0, 0, 0, 0x40, 0, 0x80, 0, 0, 0, 0, 0, 0, 0]).expect(rt, "version 4")
+fn first_task() -> Result<SlugId, Fail> {
+    Ok(SlugId::read(b"AAAAAAAAQACAAAAAAAAAAA").ok_or("a slugid")?)
 }
 
-/// A configuration with these roles.
-fn config(alloc: Global, roles: Vec<Role>) -> Result<Config, Fail> {
-    let roles = RoleSet::build(alloc, roles).ok().ok_or("roles")?;
+/// The scope of this text.
+fn scope(alloc: Global, text: &str) -> Result<Scope, Fail> {
+    Ok(Scope::new(String::from_str(alloc, text)?).ok_or("a scope")?)
+}
+
+/// The role `anonymous` with the scope `*` and so many others.
+fn roles(alloc: Global, count: usize) -> Result<RoleSet, Fail> {
+    let mut scopes = vec![in alloc; scope(alloc, "*")?]?;
+    for place in 0..count {
+        scopes.push(Scope::new(format!(in alloc; "s{place}")?).ok_or("a scope")?)?;
+    }
+    let id = String::from_str(alloc, "anonymous")?;
+    let roles = vec![in alloc; Role { id, scopes }]?;
+    Ok(RoleSet::build(alloc, roles).ok().ok_or("roles")?)
+}
+
+/// A book of one client.
+fn clients(alloc: Global) -> Result<ClientBook, Fail> {
+    let client = Client {
+        id: Text::from_str(alloc, "one")?,
+        token: Text::from_str(alloc, "0123456789012345678901")?,
+        scopes: Vec::new(alloc),
+        expires: Moment::FIRST,
+        disabled: false,
+    };
+    let clients = vec![in alloc; client]?;
+    Ok(ClientBook::build(alloc, clients).ok().ok_or("clients")?)
+}
+
+/// A configuration in which `anonymous` has so many scopes beside `*`.
+fn config(alloc: Global, count: usize) -> Result<Config, Fail> {
     Ok(Config {
         host: Text::from_str(alloc, "localhost")?,
         port: 8080,
         claim_timeout: 1200,
         max_tasks: 1_000_000,
-        roles: Grants::new(alloc, roles)?,
+        roles: Grants::new(alloc, roles(alloc, count)?)?,
+        clients: clients(alloc)?,
     })
 }
 
-/// The reply of these tables at the first moment.
-fn ask_in(
+/// The smallest definition, with a deadline a day after its making.
+const PLAIN: &[u8] =
+    b"{\"created\":\"2024-01-01T00:00:00.000Z\",\"deadline\":\"2024-01-02T00:00:00.000Z\",\"metadata\":{\"description\":\"d\",\"name\":\"n\",\"owner\":\"o@example.com\",\"source\":\"https://example.com/\"},\"payload\":{},\"taskQueueId\":\"prov/wt\"}";
+
+/// The call that makes the first task.
+fn creation(alloc: Global, id: SlugId) -> Result<Call, Fail> {
+    let doc = Doc::read(alloc, PLAIN).ok().ok_or("a document")?;
+    let definition = read_task(alloc, &doc, id).ok().ok_or("a definition")?;
+    Ok(Call::CreateTask(Creation { id, definition }))
+}
+
+/// The call of this word, about the first task; any other word is a target that has no route.
+fn call_of(alloc: Global, word: &str, id: SlugId) -> Result<Call, Fail> {
+    match word {
+        "ping" => Ok(Call::Ping),
+        "status" => Ok(Call::Status(id)),
+        "parameter" => Ok(Call::BadParameter(Parameter::TaskId)),
+        "body" => Ok(Call::BadBody(BodyFault::NotJson)),
+        "create" => creation(alloc, id),
+        _ => Ok(Call::NoRoute(Text::from_str(alloc, word)?)),
+    }
+}
+
+/// Whoever sends an Authorization field of this value, or none where it is empty.
+fn caller_of(alloc: Global, header: &[u8]) -> Result<Caller, AllocError> {
+    if header.is_empty() {
+        return Ok(Caller::Anonymous);
+    }
+    let header = Bytes::from(Vec::from_slice(alloc, header)?);
+    Ok(Caller::Signed(Credentials {
+        header,
+        count: 1,
+        method: Bytes::from(Vec::new(alloc)),
+        target: Bytes::from(Vec::new(alloc)),
+        content_type: None,
+        body: Bytes::from(Vec::new(alloc)),
+    }))
+}
+
+/// The reply to a call at the first moment, in these tables.
+fn ask(
     alloc: Global,
     tables: &mut Tables,
     config: &Config,
-    question: Question,
+    header: &[u8],
+    word: &str,
 ) -> Result<Reply, Fail> {
-    let moment = question.moment().max(tables.last());
-    if due(tables, moment) {
+    let id = first_task()?;
+    let caller = caller_of(alloc, header)?;
+    let call = call_of(alloc, word, id)?;
+    let question = Question::new(Moment::FIRST, id, caller, call);
+    if due(tables, Moment::FIRST.max(tables.last())) {
         return Err(Fail::from("something is due"));
     }
     let planned = plan(alloc, tables, config, question)?;
     Ok(apply(tables, planned))
 }
 
-/// The reply of a farm of this configuration, without tasks.
-fn ask_of(
-    alloc: Global,
-    config: &Config,
-    caller: Caller,
-    drawn: SlugId,
-    call: Call,
-) -> Result<Reply, Fail> {
+/// An authorization, what is called, the status of the reply, and its body.
+type Row = (&'static [u8], &'static str, u16, &'static str);
+
+/// A bad parameter is told before bad credentials, and before too many scopes.
+const PARAMETER: Row = (
+    b"x",
+    "parameter",
+    400,
+    r#"{"code":"InputError","details":{"name":"taskId","rule":22},"message":"the request breaks a rule"}"#,
+);
+
+const ROWS: [Row; 7] = [
+    (b"", "ping", 200, "{\"alive\":true}"),
+    (
+        b"",
+        "status",
+        404,
+        r#"{"code":"ResourceNotFound","details":{"kind":"task","name":"AAAAAAAAQACAAAAAAAAAAA"},"message":"nothing has that name"}"#,
+    ),
+    (
+        b"",
+        "/a\"b",
+        404,
+        r#"{"code":"ResourceNotFound","details":{"kind":"route","name":"/a\"b"},"message":"nothing has that name"}"#,
+    ),
+    PARAMETER,
+    (
+        b"x",
+        "body",
+        400,
+        r#"{"code":"InputError","details":{"rule":20},"message":"the request breaks a rule"}"#,
+    ),
+    (
+        b"x",
+        "status",
+        401,
+        r#"{"code":"AuthenticationFailed","details":{"reason":"BadHeader"},"message":"the caller is not who it says"}"#,
+    ),
+    (
+        b"Hawk id=\"one\", ts=\"1\", nonce=\"n\", mac=\"m\"",
+        "ping",
+        401,
+        r#"{"code":"AuthenticationFailed","details":{"reason":"Expired"},"message":"the caller is not who it says"}"#,
+    ),
+];
+
+/// The place of the first row that is answered otherwise, or how many there are.
+fn first_other(alloc: Global, config: &Config, rows: &[Row]) -> Result<usize, Fail> {
     let mut tables = Tables::new(alloc);
-    let question = Question::new(Moment::FIRST, drawn, caller, call);
-    ask_in(alloc, &mut tables, config, question)
-}
-
-/// The reply of a farm without roles and tasks.
-fn ask(alloc: Global, caller: Caller, drawn: SlugId, call: Call) -> Result<Reply, Fail> {
-    ask_of(alloc, &config(alloc, Vec::new(alloc))?, caller, drawn, call)
-}
-
-/// The role `anonymous` with so many scopes.
-fn anonymous(alloc: Global, count: usize) -> Result<Vec<Role>, Fail> {
-    let mut scopes = Vec::new(alloc);
-    for place in 0..count {
-        let scope = Scope::new(format!(in alloc; "s{place}")?).ok_or("a scope")?;
-        scopes.push(scope)?;
+    for (place, (header, word, status, body)) in rows.iter().enumerate() {
+        let reply = ask(alloc, &mut tables, config, header, word)?;
+        if reply.status().as_u16() != *status || reply.body() != *body {
+            return Ok(place);
+        }
     }
-    let role = Role {
-        id: String::from_str(alloc, "anonymous")?,
-        scopes,
-    };
-    Ok(vec![in alloc; role]?)
+    Ok(rows.len())
 }
+
+const TOO_MANY: [Row; 2] = [
+    (
+        b"",
+        "status",
+        403,
+        r#"{"code":"ExpansionLimit","details":{"limit":10000},"message":"too many scopes are derivable"}"#,
+    ),
+    PARAMETER,
+];
 
 #[test]
 fn replies_are_those_of_the_reference(rt: HostRuntime) -> Result<(), Fail> {
-    let alloc = rt.alloc();
-    let id = first_task(&rt);
-    let reply = ask(alloc, Caller::Anonymous, id, Call::Ping)?;
-    assert_eq!(rt; reply.status().as_u16(), 200);
-    assert_eq!(rt; reply.body(), "{\"alive\":true}");
-    let reply = ask(alloc, Caller::Anonymous, id, Call::Status(id))?;
-    assert_eq!(rt; reply.status().as_u16(), 404);
     assert_eq!(rt;
-        reply.body(),
-        "{\"code\":\"ResourceNotFound\",\"details\":{\"kind\":\"task\",\"name\":\"AAAAAAAAQACAAAAAAAAAAA\"},\"message\":\"nothing has that name\"}"
+        first_other(rt.alloc(), &config(rt.alloc(), 9_998)?, &ROWS)?,
+        7
     );
-    let reply = ask(
-        alloc,
-        Caller::Anonymous,
-        id,
-        Call::NoRoute(Text::from_str(alloc, "/a\"b")?),
-    )?;
-    assert_eq!(rt; reply.status().as_u16(), 404);
     assert_eq!(rt;
-        reply.body(),
-        "{\"code\":\"ResourceNotFound\",\"details\":{\"kind\":\"route\",\"name\":\"/a\\\"b\"},\"message\":\"nothing has that name\"}"
-    );
-    let reply = ask(
-        alloc,
-        Caller::BadHeader,
-        id,
-        Call::BadParameter(Parameter::TaskId),
-    )?;
-    assert_eq!(rt; reply.status().as_u16(), 400);
-    assert_eq!(rt;
-        reply.body(),
-        "{\"code\":\"InputError\",\"details\":{\"name\":\"taskId\",\"rule\":22},\"message\":\"the request breaks a rule\"}"
-    );
-    let reply = ask(alloc, Caller::BadHeader, id, Call::Status(id))?;
-    assert_eq!(rt; reply.status().as_u16(), 401);
-    assert_eq!(rt;
-        reply.body(),
-        "{\"code\":\"AuthenticationFailed\",\"details\":{\"reason\":\"BadHeader\"},\"message\":\"the caller is not who it says\"}"
-    );
-    assert_eq!(rt; Reply::OutOfMemory.status().as_u16(), 503);
-    assert_eq!(rt;
-        Reply::OutOfMemory.body(),
-        "{\"code\":\"OutOfMemory\",\"details\":{},\"message\":\"no memory\"}"
+        first_other(rt.alloc(), &config(rt.alloc(), 9_999)?, &TOO_MANY)?,
+        2
     );
     Ok(())
 }
 
-/// The answer where more than ten thousand scopes are derivable.
-const TOO_MANY: &str =
-    "{\"code\":\"ExpansionLimit\",\"details\":{\"limit\":10000},\"message\":\"too many scopes are derivable\"}";
-
-#[test]
-fn too_many_scopes_are_refused_after_the_credentials(rt: HostRuntime) -> Result<(), Fail> {
-    let alloc = rt.alloc();
-    let id = first_task(&rt);
-    let most = config(alloc, anonymous(alloc, 9_999)?)?;
-    let reply = ask_of(alloc, &most, Caller::Anonymous, id, Call::Ping)?;
-    assert_eq!(rt; reply.status().as_u16(), 200);
-    let more = config(alloc, anonymous(alloc, 10_000)?)?;
-    let reply = ask_of(alloc, &more, Caller::Anonymous, id, Call::Status(id))?;
-    assert_eq!(rt; reply.status().as_u16(), 403);
-    assert_eq!(rt; reply.body(), TOO_MANY);
-    let reply = ask_of(alloc, &more, Caller::BadHeader, id, Call::Ping)?;
-    assert_eq!(rt; reply.status().as_u16(), 401);
-    let call = Call::BadParameter(Parameter::TaskId);
-    let reply = ask_of(alloc, &more, Caller::Anonymous, id, call)?;
-    assert_eq!(rt; reply.status().as_u16(), 400);
-    Ok(())
-}
-
-/// The scope of this text.
-fn scope(alloc: Global, text: &str) -> Result<Expr, Fail> {
-    let scope = Scope::new(String::from_str(alloc, text)?).ok_or("a scope")?;
-    Ok(Expr::One(scope))
+/// The reply that lacks one of two scopes.
+fn lacking(alloc: Global) -> Result<Answer, Fail> {
+    let high = Expr::One(scope(alloc, "high")?);
+    let any = Expr::AnyOf(vec![in alloc; high]?);
+    let lack = Expr::AllOf(vec![in alloc; any]?);
+    Ok(insufficient_scopes(alloc, &lack)?)
 }
 
 #[test]
-fn what_is_missing_is_told(rt: HostRuntime) -> Result<(), Fail> {
-    let alloc = rt.alloc();
-    let created = vec![in alloc;
-        scope(alloc, "queue:create-task:highest:prov/wt")?,
-        scope(alloc, "queue:create-task:high:prov/wt")?,
-    ]?;
-    let lack = Expr::AllOf(vec![in alloc; Expr::AnyOf(created)]?);
-    let reply = Reply::Answered(insufficient_scopes(alloc, &lack)?);
-    assert_eq!(rt; reply.status().as_u16(), 403);
+fn what_is_missing_and_what_is_full_is_told(rt: HostRuntime) -> Result<(), Fail> {
+    let lack = lacking(rt.alloc())?;
+    assert_eq!(rt; lack.status.as_u16(), 403);
     assert_eq!(rt;
-        reply.body(),
-        "{\"code\":\"InsufficientScopes\",\"details\":{\"missing\":{\"AllOf\":[{\"AnyOf\":[\"queue:create-task:highest:prov/wt\",\"queue:create-task:high:prov/wt\"]}]}},\"message\":\"scopes are missing\"}"
+        lack.body.as_str(),
+        r#"{"code":"InsufficientScopes","details":{"missing":{"AllOf":[{"AnyOf":["high"]}]}},"message":"scopes are missing"}"#
+    );
+    let full = farm_full(rt.alloc(), 7)?;
+    assert_eq!(rt; full.status.as_u16(), 507);
+    assert_eq!(rt;
+        full.body.as_str(),
+        r#"{"code":"FarmFull","details":{"count":7},"message":"the farm is full"}"#
+    );
+    let wanting = Reply::OutOfMemory;
+    assert_eq!(rt; wanting.status().as_u16(), 503);
+    assert_eq!(rt;
+        wanting.body(),
+        r#"{"code":"OutOfMemory","details":{},"message":"no memory"}"#
     );
     Ok(())
 }
 
-#[test]
-fn a_configuration_counts_its_rows(rt: HostRuntime) -> Result<(), Fail> {
-    let counts = config(rt.alloc(), anonymous(rt.alloc(), 2)?)?.counts();
-    assert_eq!(rt;
-        counts,
-        ConfigCounts {
-            roles: 1,
-            clients: 0,
-            hooks: 0
+/// How many tasks stand after a task was made twice.
+fn made_twice(alloc: Global, config: &Config) -> Result<u32, Fail> {
+    let mut tables = Tables::new(alloc);
+    for _ in 0..2 {
+        let reply = ask(alloc, &mut tables, config, b"", "create")?;
+        if reply.status().as_u16() != 200 {
+            return Err(Fail::from("the task is not made"));
         }
-    );
+    }
+    Ok(tables.len())
+}
+
+#[test]
+fn a_task_is_made_once(rt: HostRuntime) -> Result<(), Fail> {
+    let config = config(rt.alloc(), 0)?;
+    let counts = ConfigCounts {
+        roles: 1,
+        clients: 1,
+        hooks: 0,
+    };
+    assert_eq!(rt; config.counts(), counts);
+    assert_eq!(rt; made_twice(rt.alloc(), &config)?, 1);
     Ok(())
 }
 
@@ -194,71 +265,5 @@ fn the_last_moment_never_falls(rt: HostRuntime) -> Result<(), Fail> {
     tick(&mut tables, later);
     tick(&mut tables, Moment::FIRST);
     assert_eq!(rt; tables.last().millis(), 5);
-    Ok(())
-}
-
-/// The smallest definition, with a deadline a day after its making.
-const PLAIN: &[u8] =
-    b"{\"created\":\"2024-01-01T00:00:00.000Z\",\"deadline\":\"2024-01-02T00:00:00.000Z\",\"metadata\":{\"description\":\"d\",\"name\":\"n\",\"owner\":\"o@example.com\",\"source\":\"https://example.com/\"},\"payload\":{},\"taskQueueId\":\"prov/wt\"}";
-
-/// The definition of a task that a text says.
-fn definition(alloc: Global, id: SlugId) -> Result<TaskDef, Fail> {
-    let doc = Doc::read(alloc, PLAIN).ok().ok_or("a document")?;
-    let found = read_task(alloc, &doc, id).ok().ok_or("a definition")?;
-    Ok(found)
-}
-
-/// The role `anonymous` with the scope `*`.
-fn open_to_all(alloc: Global) -> Result<Vec<Role>, Fail> {
-    let scope = Scope::new(String::from_str(alloc, "*")?).ok_or("a scope")?;
-    let role = Role {
-        id: String::from_str(alloc, "anonymous")?,
-        scopes: vec![in alloc; scope]?,
-    };
-    Ok(vec![in alloc; role]?)
-}
-
-/// The status of the reply to createTask of a task, in these tables.
-fn create_in(alloc: Global, tables: &mut Tables, config: &Config, id: SlugId) -> Result<u16, Fail> {
-    let definition = definition(alloc, id)?;
-    let call = Call::CreateTask(Creation { id, definition });
-    let question = Question::new(Moment::FIRST, id, Caller::Anonymous, call);
-    let reply = ask_in(alloc, tables, config, question)?;
-    Ok(reply.status().as_u16())
-}
-
-#[test]
-fn a_task_is_made_once(rt: HostRuntime) -> Result<(), Fail> {
-    let alloc = rt.alloc();
-    let config = config(alloc, open_to_all(alloc)?)?;
-    let mut tables = Tables::new(alloc);
-    for _ in 0..2 {
-        let status = create_in(alloc, &mut tables, &config, first_task(&rt))?;
-        assert_eq!(rt; status, 200);
-    }
-    assert_eq!(rt; tables.len(), 1);
-    Ok(())
-}
-
-#[test]
-fn bodies_and_full_farms_are_told(rt: HostRuntime) -> Result<(), Fail> {
-    let alloc = rt.alloc();
-    let reply = ask(
-        alloc,
-        Caller::BadHeader,
-        first_task(&rt),
-        Call::BadBody(BodyFault::NotJson),
-    )?;
-    assert_eq!(rt; reply.status().as_u16(), 400);
-    assert_eq!(rt;
-        reply.body(),
-        "{\"code\":\"InputError\",\"details\":{\"rule\":20},\"message\":\"the request breaks a rule\"}"
-    );
-    let reply = Reply::Answered(farm_full(alloc, 7)?);
-    assert_eq!(rt; reply.status().as_u16(), 507);
-    assert_eq!(rt;
-        reply.body(),
-        "{\"code\":\"FarmFull\",\"details\":{\"count\":7},\"message\":\"the farm is full\"}"
-    );
     Ok(())
 }

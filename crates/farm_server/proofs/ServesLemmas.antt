@@ -46,7 +46,7 @@ ServesWithin-none room old new before after served asked same_spare same_moments
 }
 
 -- one message was asked, and it ended so
-ServesWithin-one : (room : ℕ) (old new : Standing) (before after : Outside) (m : Message) (call : Call) (reply : Reply) (served : Served) → IsCallOf m call → (once : AsksOnce old new before.moments after.moments before.ids after.ids (caller_from m.authorization) call reply) → IsCount room 1 served → IfSome before.left (λ bytes. EndsAs room bytes (m ∷ []) served) → Writes room before after (record { message = m; call = call; moment = once.moment; id = once.id } ∷ []) (reply ∷ []) served → IsCaused before after served → before.read_faults ≤ after.read_faults → before.write_faults ≤ after.write_faults → ServesWithin room old new before after served
+ServesWithin-one : (room : ℕ) (old new : Standing) (before after : Outside) (m : Message) (call : Call) (reply : Reply) (served : Served) → IsCallOf m call → (once : AsksOnce old new before.moments after.moments before.ids after.ids (caller_from m) call reply) → IsCount room 1 served → IfSome before.left (λ bytes. EndsAs room bytes (m ∷ []) served) → Writes room before after (record { message = m; call = call; moment = once.moment; id = once.id } ∷ []) (reply ∷ []) served → IsCaused before after served → before.read_faults ≤ after.read_faults → before.write_faults ≤ after.write_faults → ServesWithin room old new before after served
 ServesWithin-one room old new before after m call reply served routed once count taken written cause reads writes = record {
   asks = record { message = m; call = call; moment = once.moment; id = once.id } ∷ [];
   replies = reply ∷ [];

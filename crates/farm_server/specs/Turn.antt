@@ -49,7 +49,7 @@ pub record Answers (room : ℕ) (old new : Standing) (before after : Telling) (m
   pub reply : Reply
   pub call : Call
   pub routed : IsCallOf message call
-  pub once : AsksOnce old new before.moments after.moments before.ids after.ids (caller_from message.authorization) call reply
+  pub once : AsksOnce old new before.moments after.moments before.ids after.ids (caller_from message) call reply
   pub written : Appends before.written after.written (reply_text reply (message.closes || (room == 1)))
   pub gate : LogGrows before.gate after.gate (Asked (REQUESTS - room) ∷ Answered (REQUESTS - room) ∷ [])
   pub kept : after.write_faults ≡ before.write_faults
@@ -59,7 +59,7 @@ pub record Breaks (room : ℕ) (old new : Standing) (before after : Telling) (me
   pub reply : Reply
   pub call : Call
   pub routed : IsCallOf message call
-  pub once : AsksOnce old new before.moments after.moments before.ids after.ids (caller_from message.authorization) call reply
+  pub once : AsksOnce old new before.moments after.moments before.ids after.ids (caller_from message) call reply
   pub written : AppendsFront before.written after.written (reply_text reply (message.closes || (room == 1)))
   pub gate : LogGrows before.gate after.gate (Asked (REQUESTS - room) ∷ [])
   pub rose : Rose before.write_faults after.write_faults
@@ -94,7 +94,7 @@ pub record Goes (room : ℕ) (old new : Standing) (before after : Outside) (rest
   pub taken : TakesOne before.left message rest
   pub call : Call
   pub routed : IsCallOf message call
-  pub once : AsksOnce old new before.moments after.moments before.ids after.ids (caller_from message.authorization) call reply
+  pub once : AsksOnce old new before.moments after.moments before.ids after.ids (caller_from message) call reply
   pub written : Appends before.written after.written (reply_text reply (message.closes || (room == 1)))
   pub gate : LogGrows before.gate after.gate (Asked (REQUESTS - room) ∷ Answered (REQUESTS - room) ∷ [])
   pub goes_on : (message.closes ≡ false) ⊎ (room ≡ 1)

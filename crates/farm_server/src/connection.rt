@@ -83,7 +83,7 @@ fn turn<
         (prepend_known reader.new (L.left link.new)) result }
 {
     match reader.next_request(alloc, link) {
-        Ok(message) => answer(alloc, &message, place, link, desk, clock, draws, gate),
+        Ok(message) => answer(alloc, message, place, link, desk, clock, draws, gate),
         Err(reason) => Some(refuse(link, reason)),
     }
 }
@@ -97,7 +97,7 @@ fn answer<
     G: Gate,
 >(
     alloc: Global,
-    message: &Message,
+    message: Message,
     place: u64,
     link: &mut L,
     desk: &mut K,
@@ -112,22 +112,23 @@ fn answer<
         (record { stands = K.stands desk.old; spare = K.spare desk.old })
         (record { stands = K.stands desk.new; spare = K.spare desk.new })
         (telling_of (outside_of L.Link C.Clock R.Draws G.Gate link.old clock.old draws.old gate.old))
-        (telling_of (outside_of L.Link C.Clock R.Draws G.Gate link.new clock.new draws.new gate.new)) message.now result }
+        (telling_of (outside_of L.Link C.Clock R.Draws G.Gate link.new clock.new draws.new gate.new)) message result }
     ensures left { L.left link.new ≡ L.left link.old }
     ensures read_faults { L.read_faults link.new ≡ L.read_faults link.old }
 {
-    let call = match call_of(alloc, message) {
+    let call = match call_of(alloc, &message) {
         Ok(call) => call,
         Err(_) => return Some(Served::NoMemory),
     };
+    let closes = message.closes;
     gate.at(When::Asked(place));
     let reply = ask(caller_of(message), call, desk, clock, draws);
     let is_last = place >= REQUESTS - 1;
-    if let Err(Failed) = write_reply(link, &reply, message.closes || is_last) {
+    if let Err(Failed) = write_reply(link, &reply, closes || is_last) {
         return Some(Served::WriteFault);
     }
     gate.at(When::Answered(place));
-    if message.closes && !is_last {
+    if closes && !is_last {
         return Some(Served::Closed);
     }
     None

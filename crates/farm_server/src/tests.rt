@@ -15,11 +15,13 @@ use farm_machine::law::Farm;
 use farm_machine::question::{Call, Caller, Question};
 use farm_machine::reply::Asked;
 use farm_text::{ListClock, ListDraws, Moment, SlugId, Text};
+use hawk_auth::ClientBook;
 use http_wire::{Joined, MemorySink, MemorySource, Wire};
 use role_expand::RoleSet;
 use std::alloc::{AllocError, Global};
 use std::test::Fail;
 
+mod clients;
 mod tasks;
 
 const PING: &[u8] = b"GET /api/queue/v1/ping HTTP/1.1\r\n\r\n";
@@ -88,12 +90,16 @@ fn config(alloc: Global) -> Result<Config, Fail> {
     let roles = RoleSet::build(alloc, Vec::new(alloc))
         .ok()
         .ok_or("no roles")?;
+    let clients = ClientBook::build(alloc, Vec::new(alloc))
+        .ok()
+        .ok_or("no clients")?;
     Ok(Config {
         host: Text::from_str(alloc, "localhost")?,
         port: 8080,
         claim_timeout: 1200,
         max_tasks: 1_000_000,
         roles: Grants::new(alloc, roles)?,
+        clients,
     })
 }
 
@@ -265,7 +271,7 @@ impl Desk for Busy {
 
     fn ask(&mut self, question: Question) -> Asked {
         self.left -= 1;
-        let other = Question::new(Moment::FIRST, self.others, Caller::BadHeader, Call::Ping);
+        let other = Question::new(Moment::FIRST, self.others, Caller::Anonymous, Call::Ping);
         let _ = self.farm.ask(other);
         self.farm.ask(question)
     }

@@ -1,6 +1,6 @@
 -- The access of a caller, by the conditions in their order.
 use Rattle.std.proofs.Common.{◌≡◌, inl, inr, ℕ, ◌+◌, ◌-◌, ◌*◌, ◌^◌, ◌<◌, ◌≤◌, List, [], ◌∷◌, length, take, get_or, refl, sym, ap, ◌∙◌, subst, lit<, rules}
-use Rattle.std.specs.Prelude.{codes, map, Option, Some, None, Ok, Err}
+use Rattle.std.specs.Prelude.{codes, map, Option, Some, None, Result, Ok, Err}
 use Rattle.std.specs.Int.Digits.{number_from_digits}
 use Rattle.std.proofs.lemmas.List.{take_more, map_push}
 use Rattle.std.proofs.lemmas.Int.Digits.{number_push}
@@ -11,32 +11,33 @@ use Rattle.base64.proofs.EngineFacts.{decode_of-encode_of}
 use Rattle.scope_sets.specs.Expressions.{Expression, missing, view}
 use Rattle.role_expand.specs.Roles.{RoleData}
 use Rattle.role_expand.specs.Closures.{IsClosure, HasMoreDerivable}
-use Rattle.farm_text.specs.Document.{Document, text, data_of, get}
+use Rattle.farm_text.specs.Document.{Document, text, array, items_of, data_of, get}
 use Rattle.farm_text.specs.Reading.{IsJson}
 use Rattle.hawk_auth.specs.Header.{HeaderData}
 use Rattle.hawk_auth.specs.Clients.{ClientData}
 use Rattle.hawk_auth.specs.Ext.{Allows, AllowsOnly, AreScopes, IsExt}
-use Rattle.hawk_auth.specs.Access.{Access, Expands, IsFirst, Limits, Refused, UnlessNoMemory, all_scopes, ext_conditions, own_scopes, seconds_of}
+use Rattle.hawk_auth.specs.Access.{Access, BadHeader, UnknownClient, Disabled, Expired, Skew, BadMac, BadHash, BadExt, Oversteps, TooMany, Expands, IsFirst, Limits, Refused, UnlessNoMemory, all_scopes, ext_conditions, own_scopes, seconds_of}
 use Rattle.hawk_auth.specs.Admitted.{within_conditions}
-use Rattle.hawk_auth.specs.declared.check.AuthFault.TheVariants.{BadHeader, UnknownClient, Disabled, Expired, Skew, BadMac, BadHash, BadExt, Oversteps, TooMany, NoMemory}
+use Rattle.hawk_auth.specs.declared.check.AuthFault.{AuthFault}
+use Rattle.hawk_auth.specs.declared.check.AuthFault.TheVariants as told
 use Rattle.hawk_auth.proofs.ExtLemmas.{same_lists}
 
-pub unless : (P Q : Access → Type 0) → ((a : Access) → P a → Q a) → (a : Access) → UnlessNoMemory P a → UnlessNoMemory Q a
+pub unless : (P Q : Access → Type 0) → ((a : Access) → P a → Q a) → (a : Result (List (List ℕ)) AuthFault) → UnlessNoMemory P a → UnlessNoMemory Q a
 unless P Q f (Ok set) h = f (Ok set) h
-unless P Q f (Err BadHeader) h = f (Err BadHeader) h
-unless P Q f (Err UnknownClient) h = f (Err UnknownClient) h
-unless P Q f (Err Disabled) h = f (Err Disabled) h
-unless P Q f (Err Expired) h = f (Err Expired) h
-unless P Q f (Err (Skew ts now)) h = f (Err (Skew ts now)) h
-unless P Q f (Err BadMac) h = f (Err BadMac) h
-unless P Q f (Err BadHash) h = f (Err BadHash) h
-unless P Q f (Err BadExt) h = f (Err BadExt) h
-unless P Q f (Err (Oversteps lack)) h = f (Err (Oversteps lack)) h
-unless P Q f (Err TooMany) h = f (Err TooMany) h
-unless P Q f (Err NoMemory) h = h
+unless P Q f (Err told.BadHeader) h = f (Err BadHeader) h
+unless P Q f (Err told.UnknownClient) h = f (Err UnknownClient) h
+unless P Q f (Err told.Disabled) h = f (Err Disabled) h
+unless P Q f (Err told.Expired) h = f (Err Expired) h
+unless P Q f (Err (told.Skew ts now)) h = f (Err (Skew ts now)) h
+unless P Q f (Err told.BadMac) h = f (Err BadMac) h
+unless P Q f (Err told.BadHash) h = f (Err BadHash) h
+unless P Q f (Err told.BadExt) h = f (Err BadExt) h
+unless P Q f (Err (told.Oversteps lack)) h = f (Err (Oversteps (view lack))) h
+unless P Q f (Err told.TooMany) h = f (Err TooMany) h
+unless P Q f (Err told.NoMemory) h = h
 
 -- the next condition, where one never holds
-pub next : (P : Access → Type 0) (Ps : List (Access → Type 0)) → ((o : Access) → ¬ P o) → (a : Access) → UnlessNoMemory (IsFirst Ps) a → UnlessNoMemory (IsFirst (P ∷ Ps)) a
+pub next : (P : Access → Type 0) (Ps : List (Access → Type 0)) → ((o : Access) → ¬ P o) → (a : Result (List (List ℕ)) AuthFault) → UnlessNoMemory (IsFirst Ps) a → UnlessNoMemory (IsFirst (P ∷ Ps)) a
 next P Ps none = unless (IsFirst Ps) (IsFirst (P ∷ Ps)) (λ a h. inr (none, h))
 
 -- ---- an ext allows one thing
@@ -48,6 +49,9 @@ text_in _ = []
 texts_back : (ts : List (List ℕ)) → map text_in (map text ts) ≡ ts
 texts_back [] = refl
 texts_back (t ∷ ts) = ap (λ (x : List (List ℕ)). t ∷ x) (texts_back ts)
+
+pub texts_once : (s t : List (List ℕ)) → items_of (map text s) ≡ items_of (map text t) → s ≡ t
+texts_once s t same = sym (texts_back s) ∙ ap (λ (ds : List Document). map text_in ds) (same_lists (map text s) (map text t) (ap array same)) ∙ texts_back t
 
 scopes_once : (d : Document) (s t : List (List ℕ)) → AreScopes d s → AreScopes d t → s ≡ t
 scopes_once d s t h k =
@@ -65,7 +69,7 @@ allows_once (Some d) (Some s) (Some t) h k = ap (λ (x : List (List ℕ)). Some 
 consistent : IsConsistent standard
 consistent = search rules
 
-encode_once : (x y : List ℕ) → IsBytes x → IsBytes y → encode_of standard x ≡ encode_of standard y → x ≡ y
+pub encode_once : (x y : List ℕ) → IsBytes x → IsBytes y → encode_of standard x ≡ encode_of standard y → x ≡ y
 encode_once x y h k e =
     let both : Ok x ≡ Ok y = sym (decode_of-encode_of standard x consistent h) ∙ ap (decode_of standard) e ∙ decode_of-encode_of standard y consistent k in
     cc
@@ -105,7 +109,7 @@ module _ (roles : List RoleData) (h : HeaderData) (c : ClientData) (once : (x y 
         inr (
           λ o p. n o p.2,
           inr (
-            λ o p. m o (p.1, p.2, p.4, subst (λ (s : List (List ℕ)). Refused (missing p.1 (all_scopes s) ≡ Some (view p.2)) (Oversteps p.2) o) (some_same (once (Some p.0) (Some scopes) p.3 only)) p.5),
+            λ o p. m o (p.1, p.2, p.4, subst (λ (s : List (List ℕ)). Refused (missing p.1 (all_scopes s) ≡ Some p.2) (Oversteps p.2) o) (some_same (once (Some p.0) (Some scopes) p.3 only)) p.5),
             inl (Some scopes, only, e),
           ),
         ),

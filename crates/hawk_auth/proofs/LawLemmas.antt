@@ -9,7 +9,7 @@ use Rattle.hawk_auth.specs.Mac.{skip_spaces}
 use Rattle.hawk_auth.proofs.AttributeLemmas.{attributes_once}
 use Rattle.hawk_auth.proofs.HeaderLemmas.{scheme_once}
 
-required_once : (values : List (List ℕ)) (v w : List ℕ) → IsRequired values v → IsRequired values w → v ≡ w
+pub required_once : (values : List (List ℕ)) (v w : List ℕ) → IsRequired values v → IsRequired values w → v ≡ w
 required_once values v w h k = let e : v ∷ [] ≡ w ∷ [] = sym h.0 ∙ k.0 in cc
 
 not_empty : (v : List ℕ) → 0 < length v → v ≡ [] → ⊥

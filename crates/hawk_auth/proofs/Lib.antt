@@ -4,6 +4,9 @@ pub mod PlaceLemmas
 pub mod RepeatLemmas
 pub mod ExtLemmas
 pub mod AccessLemmas
+pub mod DataLemmas
 pub mod LawLemmas
 pub mod SignLemmas
 pub mod OneAccessLemmas
+pub mod DecideLemmas
+pub mod SomeLemmas

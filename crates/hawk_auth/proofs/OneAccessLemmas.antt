@@ -2,22 +2,20 @@
 use Rattle.std.proofs.Common.{◌≡◌, ◌≢◌, ◌⊎◌, inl, inr, ℕ, List, [], ◌∷◌, refl, sym, ap, ◌∙◌, subst}
 use Rattle.std.specs.Prelude.{All, Contains, Option, Some, None, Ok, Err}
 use Rattle.std.proofs.lemmas.List.Elements.{All-contains}
-use Rattle.scope_sets.specs.Expressions.{Expression, missing, view}
+use Rattle.scope_sets.specs.Expressions.{Expression, missing}
 use Rattle.role_expand.specs.Roles.{RoleData}
 use Rattle.role_expand.specs.Closures.{IsClosure, HasMoreDerivable}
 use Rattle.farm_text.specs.Document.{Document, data_of}
 use Rattle.farm_text.specs.Reading.{IsJson}
 use Rattle.hawk_auth.specs.Header.{HeaderData, IsHeader}
 use Rattle.hawk_auth.specs.Clients.{ClientData, IsBook, IsClientOf}
-use Rattle.hawk_auth.specs.Access.{Access, DoesOverstep, Expands, HasAccess, HasAccessBy, HasSignedAccess, HasStart, HasTooMany, HeadData, IsFirst, IsSameAccess, Limits, Refused, all_scopes, anonymous_scopes, conditions, own_scopes, start_list}
-use Rattle.hawk_auth.specs.declared.check.AuthFault.{AuthFault}
-use Rattle.hawk_auth.specs.declared.check.AuthFault.TheVariants.{UnknownClient}
+use Rattle.hawk_auth.specs.Access.{Access, Refusal, Oversteps, UnknownClient, DoesOverstep, Expands, HasAccess, HasAccessBy, HasSignedAccess, HasStart, HasTooMany, HeadData, IsFirst, Limits, Refused, all_scopes, anonymous_scopes, conditions, own_scopes, start_list}
 use Rattle.hawk_auth.proofs.AccessLemmas.{limits_once}
 use Rattle.hawk_auth.proofs.LawLemmas.{header_once, client_once}
 
 -- such a condition gives one access at most
 abbrev IsOne : (Access → Type 0) → Type 0
-IsOne P = (a b : Access) → P a → P b → IsSameAccess a b
+IsOne P = (a b : Access) → P a → P b → a ≡ b
 
 abbrev AreOne : List (Access → Type 0) → Type 0
 AreOne [] = Unit {0}
@@ -30,18 +28,18 @@ first_once (P ∷ Ps) one a b (inl h) (inr k) = absurd (k.0 a h)
 first_once (P ∷ Ps) one a b (inr h) (inl k) = absurd (h.0 b k)
 first_once (P ∷ Ps) one a b (inr h) (inr k) = first_once Ps one.1 a b h.1 k.1
 
-refused_once : (condition : Type 0) (fault : AuthFault) → IsOne (Refused condition fault)
-refused_once condition fault a b h k = inl (h.1 ∙ sym k.1)
+refused_once : (condition : Type 0) (refusal : Refusal) → IsOne (Refused condition refusal)
+refused_once condition refusal a b h k = h.1 ∙ sym k.1
 
 module _ (json : (bytes : List ℕ) (a b : Document) → IsJson bytes (data_of a) → IsJson bytes (data_of b) → a ≡ b)
     (closure : (most : ℕ) (roles : List RoleData) (start set other : List (List ℕ)) → IsClosure most roles start set → IsClosure most roles start other → set ≡ other)
     (few : (most : ℕ) (roles : List RoleData) (start set : List (List ℕ)) → IsClosure most roles start set → ¬ HasMoreDerivable most roles start)
     (roles : List RoleData) where
   expands_once : (start : List (List ℕ)) → IsOne (Expands roles start)
-  expands_once start (Ok s) (Ok t) h k = inl (ap (λ (x : List (List ℕ)). Ok x) (closure 10_000 roles start s t h k))
+  expands_once start (Ok s) (Ok t) h k = ap (λ (x : List (List ℕ)). Ok x) (closure 10_000 roles start s t h k)
   expands_once start (Ok s) (Err f) h k = absurd (few 10_000 roles start s h k.0)
   expands_once start (Err f) (Ok t) h k = absurd (few 10_000 roles start t k h.0)
-  expands_once start (Err f) (Err g) h k = inl (ap (λ (x : AuthFault). Err x) (h.1 ∙ sym k.1))
+  expands_once start (Err f) (Err g) h k = ap (λ (x : Refusal). Err x) (h.1 ∙ sym k.1)
 
   module _ (h : HeaderData) (c : ClientData) where
     some_same : {s t : List (List ℕ)} → Some s ≡ Some t → s ≡ t
@@ -51,14 +49,14 @@ module _ (json : (bytes : List ℕ) (a b : Document) → IsJson bytes (data_of a
     lack_same e = cc
 
     many_once : IsOne (HasTooMany roles h c)
-    many_once a b p q = inl (p.2.1 ∙ sym q.2.1)
+    many_once a b p q = p.2.1 ∙ sym q.2.1
 
     oversteps_once : IsOne (DoesOverstep roles h c)
     oversteps_once a b (s, set, x, limits, closed, lack) (t, other, y, limits', closed', lack') =
         let scopes : s ≡ t = some_same (limits_once json h.ext (Some s) (Some t) limits limits') in
         let sets : set ≡ other = closure 10_000 roles (own_scopes c) set other closed closed' in
         let e = sym lack.0 ∙ ap (λ (z : List (List ℕ)). missing z (all_scopes s)) sets ∙ ap (λ (z : List (List ℕ)). missing other (all_scopes z)) scopes ∙ lack'.0 in
-        inr (x, y, lack.1, lack'.1, lack_same e)
+        lack.1 ∙ ap (λ (z : Expression). Err (Oversteps z)) (lack_same e) ∙ sym lack'.1
 
     start_once : IsOne (HasStart roles h c)
     start_once a b (s, limits, e) (t, limits', f) =
@@ -92,7 +90,7 @@ module _ (json : (bytes : List ℕ) (a b : Document) → IsJson bytes (data_of a
     Rest h a = Refused (All (λ d. d.id ≢ h.id) clients) UnknownClient a ⊎ ((c : ClientData) × IsClientOf clients h.id c × IsFirst (conditions roles head now h c) a)
 
     rest_once : (h : HeaderData) → IsOne (Rest h)
-    rest_once h a b (inl p) (inl q) = inl (p.1 ∙ sym q.1)
+    rest_once h a b (inl p) (inl q) = p.1 ∙ sym q.1
     rest_once h a b (inl p) (inr (c, is, q)) = absurd (known h c is p.0)
     rest_once h a b (inr (c, is, p)) (inl q) = absurd (known h c is q.0)
     rest_once h a b (inr (c, is, p)) (inr (d, other, q)) =
@@ -100,7 +98,7 @@ module _ (json : (bytes : List ℕ) (a b : Document) → IsJson bytes (data_of a
         conditions_once h c head now a b p (subst (λ (x : ClientData). IsFirst (conditions roles head now h x) b) same q)
 
     signed_once : (value : List ℕ) → IsOne (HasSignedAccess clients roles head now value)
-    signed_once value a b (inl p) (inl q) = inl (p.1 ∙ sym q.1)
+    signed_once value a b (inl p) (inl q) = p.1 ∙ sym q.1
     signed_once value a b (inl (inl p, e)) (inr (count, (h, is, q))) = absurd (p count)
     signed_once value a b (inl (inr p, e)) (inr (count, (h, is, q))) = absurd (p h is)
     signed_once value a b (inr (count, (h, is, p))) (inl (inl q, e)) = absurd (q count)

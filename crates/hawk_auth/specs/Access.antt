@@ -3,7 +3,6 @@ use Rattle.std.specs.Prelude.{◌≡◌, ◌≢◌, ◌⊎◌, ℕ, ◌+◌, ◌
 use Rattle.std.specs.Int.Digits.{number_from_digits}
 use Rattle.std.specs.Option.{option_copied}
 use Rattle.scope_sets.specs.Expressions.{Expression, one, all_of, members_of, missing, view}
-use Rattle.scope_sets.specs.declared.expressions.Expr.{Expr}
 use Rattle.role_expand.specs.Roles.{RoleData}
 use Rattle.role_expand.specs.Closures.{IsClosure, HasMoreDerivable}
 use Rattle.hawk_auth.specs.Mac.{PartsData, mac_of, payload_hash_of}
@@ -12,7 +11,7 @@ use Rattle.hawk_auth.specs.Clients.{ClientData, IsClientOf}
 use Rattle.hawk_auth.specs.Ext.{IsExt}
 use Rattle.hawk_auth.specs.declared.check.AuthHead.{AuthHead}
 use Rattle.hawk_auth.specs.declared.check.AuthFault.{AuthFault}
-use Rattle.hawk_auth.specs.declared.check.AuthFault.TheVariants.{BadHeader, UnknownClient, Disabled, Expired, Skew, BadMac, BadHash, BadExt, Oversteps, TooMany, NoMemory}
+use Rattle.hawk_auth.specs.declared.check.AuthFault.TheVariants as told
 
 -- what of a request tells who calls: the value of the first Authorization field, the number of such fields, and what is signed
 pub record HeadData : Type 0 where
@@ -38,18 +37,31 @@ head_data head = record {
   port = head.port;
 }
 
+-- why a caller is refused, with what that tells: the seconds of the header and of the farm, or what is missing of the scopes that are asked for
+pub data Refusal : Type 0 where
+  BadHeader : Refusal
+  UnknownClient : Refusal
+  Disabled : Refusal
+  Expired : Refusal
+  Skew : (ts : ℕ) → (now : ℕ) → Refusal
+  BadMac : Refusal
+  BadHash : Refusal
+  BadExt : Refusal
+  Oversteps : (lack : Expression) → Refusal
+  TooMany : Refusal
+
 -- the scopes of whoever is let in, or why not
 abbrev pub Access : Type 0
-Access = Result (List (List ℕ)) AuthFault
+Access = Result (List (List ℕ)) Refusal
 
 -- where this holds, the caller is refused so
-abbrev pub Refused : Type 0 → AuthFault → Access → Type 0
-Refused condition fault access = condition × (access ≡ Err fault)
+abbrev pub Refused : Type 0 → Refusal → Access → Type 0
+Refused condition refusal access = condition × (access ≡ Err refusal)
 
 -- what a start list gives: its closure, or that more scopes are derivable than a closure may have
 abbrev pub Expands : List RoleData → List (List ℕ) → Access → Type 0
 Expands roles start (Ok set) = IsClosure 10_000 roles start set
-Expands roles start (Err fault) = HasMoreDerivable 10_000 roles start × (fault ≡ TooMany)
+Expands roles start (Err refusal) = HasMoreDerivable 10_000 roles start × (refusal ≡ TooMany)
 
 -- the start list of whoever gives no credentials
 abbrev pub anonymous_scopes : List (List ℕ)
@@ -99,8 +111,8 @@ HasTooMany roles h c access =
 -- the client's own closure does not hold all the scopes that are asked for; what is missing is told
 abbrev pub DoesOverstep : List RoleData → HeaderData → ClientData → Access → Type 0
 DoesOverstep roles h c access =
-    (scopes : List (List ℕ)) × (set : List (List ℕ)) × (lack : Expr) × Limits h.ext (Some scopes) × IsClosure 10_000 roles (own_scopes c) set
-    × Refused (missing set (all_scopes scopes) ≡ Some (view lack)) (Oversteps lack) access
+    (scopes : List (List ℕ)) × (set : List (List ℕ)) × (lack : Expression) × Limits h.ext (Some scopes) × IsClosure 10_000 roles (own_scopes c) set
+    × Refused (missing set (all_scopes scopes) ≡ Some lack) (Oversteps lack) access
 
 -- the start list: the scopes that are asked for alone, or the client's own
 abbrev pub start_list : ClientData → Option (List (List ℕ)) → List (List ℕ)
@@ -156,12 +168,17 @@ HasAccessBy clients roles head now (Some value) access = HasSignedAccess clients
 abbrev pub HasAccess : List ClientData → List RoleData → HeadData → ℕ → Access → Type 0
 HasAccess clients roles head now access = HasAccessBy clients roles head now head.header access
 
--- this, or memory is wanting
-abbrev pub UnlessNoMemory : (Access → Type 0) → Access → Type 0
-UnlessNoMemory Is (Err NoMemory) = Unit {0}
-UnlessNoMemory Is access = Is access
-
--- the two are one access: the same, or both tell that the same is missing
-abbrev pub IsSameAccess : Access → Access → Type 0
-IsSameAccess a b =
-    (a ≡ b) ⊎ ((x : Expr) × (y : Expr) × (a ≡ Err (Oversteps x)) × (b ≡ Err (Oversteps y)) × (view x ≡ view y))
+-- the access that a check tells is this, or memory is wanting
+abbrev pub UnlessNoMemory : (Access → Type 0) → Result (List (List ℕ)) AuthFault → Type 0
+UnlessNoMemory Is (Ok set) = Is (Ok set)
+UnlessNoMemory Is (Err told.BadHeader) = Is (Err BadHeader)
+UnlessNoMemory Is (Err told.UnknownClient) = Is (Err UnknownClient)
+UnlessNoMemory Is (Err told.Disabled) = Is (Err Disabled)
+UnlessNoMemory Is (Err told.Expired) = Is (Err Expired)
+UnlessNoMemory Is (Err (told.Skew ts now)) = Is (Err (Skew ts now))
+UnlessNoMemory Is (Err told.BadMac) = Is (Err BadMac)
+UnlessNoMemory Is (Err told.BadHash) = Is (Err BadHash)
+UnlessNoMemory Is (Err told.BadExt) = Is (Err BadExt)
+UnlessNoMemory Is (Err (told.Oversteps lack)) = Is (Err (Oversteps (view lack)))
+UnlessNoMemory Is (Err told.TooMany) = Is (Err TooMany)
+UnlessNoMemory Is (Err told.NoMemory) = Unit {0}

@@ -70,6 +70,13 @@ impl ClientBook {
         self.clients.len()
     }
 
+    /// What holds of each book: its clients are of their form, and no id comes twice.
+    pub(crate) fn is_book(&self)
+        ensures { IsBook self.now }
+    {
+        let _ = self.clients.len();
+    }
+
     /// The client with this id, which is looked up in an ordered map.
     pub fn find(&self, id: &str) -> Option<&Client>
         ensures client { MatchOption result (All (λ c. c.id ≢ id.now) self.now)

@@ -5,7 +5,7 @@ ghost use Rattle.scope_sets.specs.Expressions.{view};
 ghost use Rattle.scope_sets.specs.Scopes.{IsPrintable};
 ghost use Rattle.hawk_auth.specs.Mac.{mac_of};
 ghost use Rattle.hawk_auth.specs.Header.{header_data, IsTs};
-ghost use Rattle.hawk_auth.specs.Clients.{client_data};
+ghost use Rattle.hawk_auth.specs.Clients.{client_data, IsBook};
 ghost use Rattle.hawk_auth.specs.Access.{head_data, signed_parts, own_scopes, seconds_of, AreFar, HasOtherHash, Limits, all_scopes, anonymous_scopes, conditions, ext_conditions, Expands, HasAccess, HasSignedAccess, IsFirst, UnlessNoMemory};
 ghost use Rattle.hawk_auth.specs.Admitted.{within_conditions};
 ghost use Rattle.hawk_auth.specs.Read.{IsAllowedBy};
@@ -77,8 +77,10 @@ impl ClientBook {
         head: &AuthHead,
         moment: Moment,
     ) -> Result<ScopeSet, AuthFault>
-        ensures { UnlessNoMemory (HasAccess self.now roles.now (head_data head.now) moment) result }
+        ensures access { UnlessNoMemory (HasAccess self.now roles.now (head_data head.now) moment) result }
+        ensures book { IsBook self.now }
     {
+        self.is_book();
         match head.header {
             None => check_anonymous(alloc, roles),
             Some(value) => self.check_signed(alloc, roles, head, value, moment),

@@ -4,13 +4,13 @@ use role_expand::Role;
 use scope_sets::Scope;
 
 /// 2024-01-01T00:00:00.000Z.
-const CREATED: u64 = 1_704_067_200_000;
+pub(super) const CREATED: u64 = 1_704_067_200_000;
 
 /// 2024-01-02T00:00:00.000Z.
 const DEADLINE: u64 = 1_704_153_600_000;
 
 /// The smallest definition, without its last brace.
-const PLAIN: &str =
+pub(super) const PLAIN: &str =
     r#"{"created":"2024-01-01T00:00:00.000Z","deadline":"2024-01-02T00:00:00.000Z","metadata":{"description":"d","name":"n","owner":"o@example.com","source":"https://example.com/"},"payload":{},"taskQueueId":"prov/wt""#;
 
 /// The same with its keys in another order, and the retries that it has without them.
@@ -18,7 +18,7 @@ const REORDERED: &str =
     r#"{"taskQueueId":"prov/wt","retries":5,"payload":{},"metadata":{"source":"https://example.com/","owner":"o@example.com","name":"n","description":"d"},"deadline":"2024-01-02T00:00:00.000Z","created":"2024-01-01T00:00:00.000Z""#;
 
 /// The status of the first task while it is pending.
-const STATUS: &str =
+pub(super) const STATUS: &str =
     r#"{"deadline":"2024-01-02T00:00:00.000Z","expires":"2025-01-01T00:00:00.000Z","projectId":"none","provisionerId":"prov","retriesLeft":5,"runs":[{"reasonCreated":"scheduled","runId":0,"scheduled":"2024-01-01T00:00:00.000Z","state":"pending"}],"schedulerId":"-","state":"pending","taskGroupId":"AAAAAAAAQACAAAAAAAAAAA","taskId":"AAAAAAAAQACAAAAAAAAAAA","taskQueueId":"prov/wt","workerType":"wt"}"#;
 
 /// The status of the first task after its deadline.
@@ -29,14 +29,14 @@ const EXCEEDED: &str =
 const SECOND: &str =
     r#"{"status":{"deadline":"2024-01-02T00:00:00.000Z","expires":"2025-01-01T00:00:00.000Z","projectId":"none","provisionerId":"prov","retriesLeft":5,"runs":[{"reasonCreated":"scheduled","runId":0,"scheduled":"2024-01-01T00:00:00.000Z","state":"pending"}],"schedulerId":"-","state":"pending","taskGroupId":"AAAAAAAAQACAAAAAAAAAAQ","taskId":"AAAAAAAAQACAAAAAAAAAAQ","taskQueueId":"prov/wt","workerType":"wt"}}"#;
 
-const FIRST_TASK: &str = "PUT /api/queue/v1/task/AAAAAAAAQACAAAAAAAAAAA";
+pub(super) const FIRST_TASK: &str = "PUT /api/queue/v1/task/AAAAAAAAQACAAAAAAAAAAA";
 
 const SECOND_TASK: &str = "PUT /api/queue/v1/task/AAAAAAAAQACAAAAAAAAAAQ";
 
-const FIRST_STATUS: &str = "GET /api/queue/v1/task/AAAAAAAAQACAAAAAAAAAAA/status";
+pub(super) const FIRST_STATUS: &str = "GET /api/queue/v1/task/AAAAAAAAQACAAAAAAAAAAA/status";
 
 /// The three scopes that creating the smallest definition asks for.
-const THREE_SCOPES: [&str; 3] = [
+pub(super) const THREE_SCOPES: [&str; 3] = [
     "queue:create-task:project:none",
     "queue:scheduler-id:-",
     "queue:create-task:lowest:prov/wt",
@@ -100,18 +100,22 @@ fn farm(alloc: Global, scopes: &[&str], max_tasks: u32) -> Result<Solo<Bare>, Fa
     let roles = RoleSet::build(alloc, vec![in alloc; role]?)
         .ok()
         .ok_or("roles")?;
+    let clients = ClientBook::build(alloc, Vec::new(alloc))
+        .ok()
+        .ok_or("no clients")?;
     let config = Config {
         host: Text::from_str(alloc, "localhost")?,
         port: 8080,
         claim_timeout: 1200,
         max_tasks,
         roles: Grants::new(alloc, roles)?,
+        clients,
     };
     Ok(Solo::new(Bare::new(alloc, config)))
 }
 
 /// What a desk writes where these bytes come at this moment.
-fn written_at(
+pub(super) fn written_at(
     alloc: Global,
     desk: &mut Solo<Bare>,
     bytes: &[u8],

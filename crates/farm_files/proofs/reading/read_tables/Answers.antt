@@ -48,7 +48,7 @@ pub returns : goal.returns
 returns c =
     let top = table_view c.args.top.now in
     let only : has_only table_names top ≡ true = ap (λ (t : List (Bor (List ℕ))). has_only (map (λ k. k.now) t) top) (sym c.as_slice.ensures) ∙ sym c.if-not-has_only.ensures in
-    let made : Settings → List RoleData → Config = λ s rs. record { host = s.host; port = s.port; claim_timeout = s.claim_timeout; max_tasks = s.max_tasks; roles = rs } in record {
+    let made : Settings → List RoleData → Config = λ s rs. record { host = s.host; port = s.port; claim_timeout = s.claim_timeout; max_tasks = s.max_tasks; roles = rs; clients = [] } in record {
       sound = tables_sound top only c.in-Ok.ensures.0 c.in_ok-roles.ensures.0 (roles_data c.in_ok-roles.roles.items) c.in_ok-roles.ensures.1 c.in_ok-roles-2.ensures.1;
       said = ap (λ s. made s c.in_ok-new.field-0) c.in-Ok.ensures.1 ∙ ap (made _) (c.in_ok-new.ensures ∙ c.in_ok-roles-2.ensures.0 ∙ c.in_ok-roles.ensures.1);
     }

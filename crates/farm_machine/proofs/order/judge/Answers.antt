@@ -17,17 +17,17 @@ returns-in_ok-ok-in-Reads-clause-judged g c =
     let case = g.C.Called.case c.args.call in
     let at = setting_at c.args.config.now c.args.tables.now c.args.moment c.args.drawn in
     let text = document_text (document c.in-Reads.body) in
-    let passes : Passes at c.args.caller (case at) = subst (λ (a : Option Answer). IsRefusal at c.args.caller case a) c.in_default.is c.in_ok-answer.ensures in
+    let passes : Passes at c.args.caller.now (case at) = subst (λ (a : Option Answer). IsRefusal at c.args.caller.now case a) c.in_default.is c.in_ok-answer.ensures in
     let deed : IsDeed at (case at).deed (Reads c.in-Reads.body) = subst (IsDeed at (case at).deed) c.in-Reads.is c.in_ok-body.ensures in
     let first = reads-first at (case at).deed (only_answer (ok text)) deed.0 (done-only at (case at).deed text deed.0 (ap document_text deed.1)) in
-    IsJudged-only at c.args.caller (asks case) c.only-in-Reads.result (ok text)
+    IsJudged-only at c.args.caller.now (asks case) c.only-in-Reads.result (ok text)
     (c.only-in-Reads.ensures.answer ∙ c.in_ok-ok-in-Reads.ensures) c.only-in-Reads.ensures.change
-    (asks-passed at c.args.caller case (only_answer (ok text)) passes first)
+    (asks-passed at c.args.caller.now case (only_answer (ok text)) passes first)
 
 pub returns-in_ok-made-in-Makes-clause-judged : goal.returns-in_ok-made-in-Makes-clause-judged
 returns-in_ok-made-in-Makes-clause-judged g c =
     let case = g.C.Called.case c.args.call in
     let at = setting_at c.args.config.now c.args.tables.now c.args.moment c.args.drawn in
-    let passes : Passes at c.args.caller (case at) = subst (λ (a : Option Answer). IsRefusal at c.args.caller case a) c.in_default.is c.in_ok-answer.ensures in
+    let passes : Passes at c.args.caller.now (case at) = subst (λ (a : Option Answer). IsRefusal at c.args.caller.now case a) c.in_default.is c.in_ok-answer.ensures in
     let deed : IsDeed at (case at).deed (Makes c.in-Makes.creation) = subst (IsDeed at (case at).deed) c.in-Makes.is c.in_ok-body.ensures in
-    IsJudged-made at c.args.caller case c.in-Makes.creation c.in_ok-made-in-Makes.made passes deed.0 c.in_ok-made-in-Makes.ensures.made
+    IsJudged-made at c.args.caller.now case c.in-Makes.creation c.in_ok-made-in-Makes.made passes deed.0 c.in_ok-made-in-Makes.ensures.made

@@ -1,33 +1,29 @@
--- Each part of the call is asked in its turn, and answers where it strikes.
-use Rattle.std.proofs.Common.{◌≡◌, Some, None, option_map, sym, ap, ◌∙◌}
-use Rattle.scope_sets.specs.Expressions.{view, missing}
-use Rattle.farm_machine.specs.Access.{Has, HasAccess}
-use Rattle.farm_machine.proofs.AccessLemmas.{has_told}
-use Rattle.farm_machine.proofs.OrderLemmas.{asks-absent, asks-lacking, refusal_by_rule}
+-- Whoever has access is asked for its scopes, and another caller is refused.
+use Rattle.std.proofs.Common.{◌≡◌, List, ℕ, Option, IfOk, Result, subst}
+use Rattle.farm_machine.specs.declared.reply.Answer.{Answer}
+use Rattle.farm_machine.specs.Access.{Has, Refused, HasAccess}
+use Rattle.farm_machine.specs.Refused.{IsRefusal}
+use Rattle.farm_machine.proofs.AccessLemmas.{has_kept, has_made, has_refused}
+use Rattle.farm_machine.proofs.OrderLemmas.{asks-refused, refused-within}
 use Rattle.farm_machine.proofs.order.refusal.Goals as goal
 
-pub returns-in-Some : goal.returns-in-Some
-returns-in-Some g c =
+pub returns-in-Keeps : goal.returns-in-Keeps
+returns-in-Keeps g c =
     let at = c.args.at.now in
     let case = g.C.Called.case c.args.call.now in
-    let has : HasAccess at.state.config.roles c.args.caller (Has c.in-Has.scopes.now) = rw (← c.at.view_is) (has_told _ _ _ _ c.in-Has.is c.in_ok-scopes.ensures) in
-    asks-absent at c.args.caller case c.in-Has.scopes.now c.in-Some.answer has (sym c.in_ok-answer.ensures ∙ c.in-Some.is)
+    let has : HasAccess at.state.config at.moment c.args.caller.now (Has c.in-Keeps.scopes.now) = rw (← c.at.view_is) (has_kept c.at.inside.config.now c.at.inside.moment c.args.caller.now c.in_ok-scopes.field-0 c.in-Keeps.scopes c.in-Keeps.is c.in_ok-scopes.ensures) in
+    refused-within at c.args.caller.now case c.in-Keeps.scopes.now c.refusal_within.result has c.refusal_within.ensures
 
-pub returns-in-Some-2 : goal.returns-in-Some-2
-returns-in-Some-2 g c =
+pub returns-in-Makes : goal.returns-in-Makes
+returns-in-Makes g c =
     let at = c.args.at.now in
     let case = g.C.Called.case c.args.call.now in
-    let has : HasAccess at.state.config.roles c.args.caller (Has c.in-Has.scopes.now) = rw (← c.at.view_is) (has_told _ _ _ _ c.in-Has.is c.in_ok-scopes.ensures) in
-    let there : (case at).absent ≡ None = sym c.in_ok-answer.ensures ∙ c.in_default.is in
-    let lacks : missing c.in-Has.scopes.now (case at).policy ≡ Some (view c.in-Some-2.lack) = ap (missing c.in-Has.scopes.now) (sym c.in_ok-policy.ensures) ∙ (sym c.in_ok-lack.ensures ∙ ap (option_map view) c.in-Some-2.is) in
-    rw c.in_ok-insufficient_scopes.ensures
-    (asks-lacking at c.args.caller case c.in-Has.scopes.now (view c.in-Some-2.lack) has there lacks)
+    let has : HasAccess at.state.config at.moment c.args.caller.now (Has c.in-Makes.scopes) = rw (← c.at.view_is) (has_made c.at.inside.config.now c.at.inside.moment c.args.caller.now c.in_ok-scopes.field-0 c.in-Makes.scopes c.in-Makes.is c.in_ok-scopes.ensures) in
+    refused-within at c.args.caller.now case c.in-Makes.scopes c.refusal_within-in-Makes.result has c.refusal_within-in-Makes.ensures
 
-pub returns : goal.returns
-returns g c =
+pub returns-in-Refused : goal.returns-in-Refused
+returns-in-Refused g c =
     let at = c.args.at.now in
     let case = g.C.Called.case c.args.call.now in
-    let has : HasAccess at.state.config.roles c.args.caller (Has c.in-Has.scopes.now) = rw (← c.at.view_is) (has_told _ _ _ _ c.in-Has.is c.in_ok-scopes.ensures) in
-    let there : (case at).absent ≡ None = sym c.in_ok-answer.ensures ∙ c.in_default.is in
-    let none : missing c.in-Has.scopes.now (case at).policy ≡ None = ap (missing c.in-Has.scopes.now) (sym c.in_ok-policy.ensures) ∙ (sym c.in_ok-lack.ensures ∙ ap (option_map view) c.in_default-2.is) in
-    refusal_by_rule at c.args.caller case c.in-Has.scopes.now c.in_ok-rule.rule has there none c.in_ok-rule.ensures
+    let has : HasAccess at.state.config at.moment c.args.caller.now (Refused c.in-Refused.answer) = rw (← c.at.view_is) (has_refused c.at.inside.config.now c.at.inside.moment c.args.caller.now c.in_ok-scopes.field-0 c.in-Refused.answer c.in-Refused.is c.in_ok-scopes.ensures) in
+    asks-refused at c.args.caller.now case c.in-Refused.answer has

@@ -22,5 +22,5 @@ returns-in-Err-Fault-clause-judged c =
     let fault = c.in-Err-Fault.fault in
     let answer : IfOk c.refused_body.result (λ judged. judged.answer ≡ bad_body (NoDefinition fault)) =
     subst (λ (f : DefFault). IfOk c.refused_body.result (λ (judged : Judged). judged.answer ≡ bad_body (NoDefinition f))) c.in-Err-Fault.fault-is c.refused_body.ensures.answer in
-    IsJudged-refused at c.args.caller (create_form c.args.creation) c.refused_body.result (bad_body (NoDefinition fault)) answer c.refused_body.ensures.change
-    (alone-refused at c.args.caller c.args.creation fault (subst (Refuses (alone_rules c.args.creation.definition c.args.creation.id)) c.in-Err-Fault.field-0-is c.in-Err-Fault.ensures))
+    IsJudged-refused at c.args.caller.now (create_form c.args.creation) c.refused_body.result (bad_body (NoDefinition fault)) answer c.refused_body.ensures.change
+    (alone-refused at c.args.caller.now c.args.creation fault (subst (Refuses (alone_rules c.args.creation.definition c.args.creation.id)) c.in-Err-Fault.field-0-is c.in-Err-Fault.ensures))
