@@ -1,6 +1,6 @@
 use Rattle.std.proofs.Common.{◌≡◌, map, take, All}
 use Rattle.scope_sets.specs.Scopes.{IsPrintable}
-use Rattle.farm_files.proofs.roles.scopes_of.Given as goal
+use Rattle.farm_files.proofs.scopes.scopes_of.Given as goal
 
 abbrev pub invariant-loop-text : goal.invariant-loop-text
 invariant-loop-text l =

@@ -1,7 +1,7 @@
 use Rattle.std.proofs.Common.{◌∙◌, refl}
 use Rattle.std.proofs.lemmas.Bool.{false≢true}
 use Rattle.farm_files.proofs.RowLemmas.{not_printable, scopes_more, printable_more}
-use Rattle.farm_files.proofs.roles.scopes_of.Goals as goal
+use Rattle.farm_files.proofs.scopes.scopes_of.Goals as goal
 
 pub returns-in-None : goal.returns-in-None
 returns-in-None c =

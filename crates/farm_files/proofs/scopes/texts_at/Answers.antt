@@ -1,6 +1,6 @@
 use Rattle.toml.specs.View.{view}
 use Rattle.farm_files.proofs.RowLemmas.{array_texts}
-use Rattle.farm_files.proofs.roles.texts_at.Goals as goal
+use Rattle.farm_files.proofs.scopes.texts_at.Goals as goal
 
 pub returns-in-Some : goal.returns-in-Some
 returns-in-Some c =
