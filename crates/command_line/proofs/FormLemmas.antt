@@ -1,24 +1,32 @@
 -- Which words are read as a command.
-use Rattle.std.proofs.Common.{◌≡◌, ◌⊎◌, ◌∙◌, Bool, true, false, suc, cond, refl, sym, ap, subst, arith, inl, inr, List, [], ◌∷◌, Option, Some, None, codes, length}
+use Rattle.std.proofs.Common.{◌≡◌, ◌⊎◌, ◌∙◌, Bool, true, false, suc, cond, refl, sym, ap, subst, arith, inl, inr, List, [], ◌∷◌, Option, Some, None, codes, length, option_map, option_and_then}
 use Rattle.std.specs.Prelude.{◌==◌, ◌||◌, IsUtf8, drop, encode_utf8}
 use Rattle.std.specs.List.{All}
 use Rattle.std.proofs.lemmas.Bool.{ne_eqb}
 use Rattle.std.proofs.lemmas.Slice.Eq.{bytes_eq-Decides}
 use Rattle.std.specs.Str.{bytes_eq}
-use Rattle.clap.specs.Words.{App, Kinds, Rule, Shape, Text, built, fault_of}
+use Rattle.clap.specs.Words.{App, Kinds, Rule, Shape, Text, built, fault_of, subcommand_of}
 use Rattle.clap.specs.Faults.{bundle_step_fault, entered_fault, flags_fault, level_fault, long_fault, react_fault, settle_fault, short_fault, turn_fault, use_fault, walk_fault, word_fault}
 use Rattle.clap.specs.Lexer.{name_and_value}
 use Rattle.clap.specs.Kinds.{or_else}
-use Rattle.clap.specs.Simple.{argument_words, built_leaf, filled, help_rule, inherited, names_of}
+use Rattle.clap.specs.Simple.{argument_words, built_leaf, entered, filled, help_rule, inherited, names_of}
 use Rattle.clap.specs.Walk.{Held, Names, Walk, idle, is_empty, nothing_held, reacted, settled, walk_from, walked}
 use Rattle.clap.proofs.OnLiterals.{clap_on_literals}
 use Rattle.clap.specs.declared.error.ErrorKind.TheVariants.{UnknownArgument, InvalidSubcommand}
 use Rattle.command_line.proofs.FlagLemmas.{IsFlag, value_cases, word_kind}
-use Rattle.command_line.proofs.LawLemmas.{answer_stops, check_stops, empty_read, expand_stops, fails_below, help_first, no_reading, other_first}
-use Rattle.command_line.specs.Forms.{GivesValue, IsValue, SaysCommand}
-use Rattle.command_line.specs.Words.{IsPlain, farm_app, reading, with_farm}
+use Rattle.command_line.proofs.LawLemmas.{answer_stops, check_stops, empty_read, expand_stops, fails_below, help_first, no_reading, other_first, sign_stops}
+use Rattle.command_line.specs.Forms.{GivesValue, IsValue, SaysWork}
+use Rattle.command_line.specs.Words.{IsPlain, command_in, farm_app, reading, with_farm}
 use Rattle.command_line.specs.declared.command.Command.{Command}
-use Rattle.command_line.specs.declared.command.Command.TheVariants.{Answer, Expand, Check}
+use Rattle.command_line.specs.declared.command.Command.TheVariants.{OverFarm, Sign}
+use Rattle.command_line.specs.declared.command.Work.{Work}
+use Rattle.command_line.specs.declared.command.Work.TheVariants.{Answer, Expand, Check}
+use Rattle.command_line.specs.declared.signing.Signing.{Signing}
+
+-- the words say the command, if it is work over a farm
+abbrev SaysCommand : Command → List Text → Type 0
+SaysCommand (OverFarm farm work) words = SaysWork farm work words
+SaysCommand (Sign signing) words = Unit {0}
 
 none_some : (command : Command) → None ≡ Some command → ⊥
 none_some command e = cc
@@ -177,21 +185,24 @@ dash_unread rest = refl
 
 -- the first word of words that have a reading is a command's name
 abbrev IsName : Text → Type 0
-IsName w = (bytes_eq (codes "answer") w ≡ true) ⊎ ((bytes_eq (codes "expand") w ≡ true) ⊎ (bytes_eq (codes "check") w ≡ true))
+IsName w =
+    (bytes_eq (codes "answer") w ≡ true) ⊎ ((bytes_eq (codes "expand") w ≡ true) ⊎ ((bytes_eq (codes "check") w ≡ true) ⊎ (bytes_eq (codes "sign") w ≡ true)))
 
-value_named : (w : Text) (rest : List Text) (command : Command) → IsPlain w → reading (w ∷ rest) ≡ Some command → (a e c h : Bool) → bytes_eq (codes "answer") w ≡ a
-    → bytes_eq (codes "expand") w ≡ e → bytes_eq (codes "check") w ≡ c → bytes_eq (codes "help") w ≡ h → IsName w
-value_named w rest command plain read true e c h is_a is_e is_c is_h = inl is_a
-value_named w rest command plain read false true c h is_a is_e is_c is_h = inr (inl is_e)
-value_named w rest command plain read false false true h is_a is_e is_c is_h = inr (inr is_c)
-value_named w rest command plain read false false false true is_a is_e is_c is_h = let none = help_first w rest is_h in absurd (none_some command (sym none ∙ read))
-value_named w rest command plain read false false false false is_a is_e is_c is_h =
-    let none = other_first w rest plain is_a is_e is_c is_h in absurd (none_some command (sym none ∙ read))
+value_named : (w : Text) (rest : List Text) (command : Command) → IsPlain w → reading (w ∷ rest) ≡ Some command → (a e c s h : Bool) → bytes_eq (codes "answer") w ≡ a
+    → bytes_eq (codes "expand") w ≡ e → bytes_eq (codes "check") w ≡ c → bytes_eq (codes "sign") w ≡ s → bytes_eq (codes "help") w ≡ h → IsName w
+value_named w rest command plain read true e c s h is_a is_e is_c is_s is_h = inl is_a
+value_named w rest command plain read false true c s h is_a is_e is_c is_s is_h = inr (inl is_e)
+value_named w rest command plain read false false true s h is_a is_e is_c is_s is_h = inr (inr (inl is_c))
+value_named w rest command plain read false false false true h is_a is_e is_c is_s is_h = inr (inr (inr is_s))
+value_named w rest command plain read false false false false true is_a is_e is_c is_s is_h =
+    let none = help_first w rest is_h in absurd (none_some command (sym none ∙ read))
+value_named w rest command plain read false false false false false is_a is_e is_c is_s is_h =
+    let none = other_first w rest plain is_a is_e is_c is_s is_h in absurd (none_some command (sym none ∙ read))
 
 first_named : (w : Text) (rest : List Text) (command : Command) → IsUtf8 w → reading (w ∷ rest) ≡ Some command → IsName w
 first_named w rest command utf8 read = elim (word_kind w utf8) [
   | inl v ↦ elim v [
-    | inl plain ↦ value_named w rest command plain read _ _ _ _ refl refl refl refl
+    | inl plain ↦ value_named w rest command plain read _ _ _ _ _ refl refl refl refl refl
     | inr dash ↦ let none = no_reading ((45 ∷ []) ∷ rest) (ap is_empty (dash_unread rest)) in
         absurd (none_some command (sym none ∙ subst (λ a. reading (a ∷ rest) ≡ Some command) dash read))
   ]
@@ -256,76 +267,92 @@ rest_said name of is (w ∷ more) command utf8 read = elim (word_kind w (utf8 0 
   ]
 ]
 
-answer_after : (f : Text) → reading (codes "answer" ∷ codes "--" ∷ f ∷ []) ≡ Some (Answer f)
+answer_after : (f : Text) → reading (codes "answer" ∷ codes "--" ∷ f ∷ []) ≡ Some (OverFarm f Answer)
 unfolding clap_on_literals
 answer_after f = refl
 
-answer_alone : (f : Text) → IsValue f → reading (codes "answer" ∷ f ∷ []) ≡ Some (Answer f)
+answer_alone : (f : Text) → IsValue f → reading (codes "answer" ∷ f ∷ []) ≡ Some (OverFarm f Answer)
 unfolding clap_on_literals
-answer_alone f v = value_cases (λ a. reading (codes "answer" ∷ a ∷ []) ≡ Some (Answer a)) refl refl (λ x xs e. simp e) f v
+answer_alone f v = value_cases (λ a. reading (codes "answer" ∷ a ∷ []) ≡ Some (OverFarm a Answer)) refl refl (λ x xs e. simp e) f v
 
-answer_before : (f : Text) → IsValue f → reading (codes "answer" ∷ f ∷ codes "--" ∷ []) ≡ Some (Answer f)
+answer_before : (f : Text) → IsValue f → reading (codes "answer" ∷ f ∷ codes "--" ∷ []) ≡ Some (OverFarm f Answer)
 unfolding clap_on_literals
-answer_before f v = value_cases (λ a. reading (codes "answer" ∷ a ∷ codes "--" ∷ []) ≡ Some (Answer a)) refl refl (λ x xs e. simp e) f v
+answer_before f v = value_cases (λ a. reading (codes "answer" ∷ a ∷ codes "--" ∷ []) ≡ Some (OverFarm a Answer)) refl refl (λ x xs e. simp e) f v
 
 answer_fails : (rest : List Text) → is_empty (leaf_faults (codes "answer") rest) ≡ false → reading (codes "answer" ∷ rest) ≡ None
 unfolding clap_on_literals
 answer_fails rest fails =
     no_reading (codes "answer" ∷ rest) (fails_below farm_app (codes "answer" ∷ rest) (ap is_empty (ap (entered_fault (built farm_app)) (answer_stops rest)) ∙ fails))
 
-answer_is : IsReadAs (codes "answer") (λ f. Answer f)
+answer_is : IsReadAs (codes "answer") (λ f. OverFarm f Answer)
 answer_is = record { fails = answer_fails; alone = answer_alone; after = answer_after; before = answer_before; says = λ f rest gives. (refl, gives) }
 
-expand_after : (f : Text) → reading (codes "expand" ∷ codes "--" ∷ f ∷ []) ≡ Some (Expand f)
+expand_after : (f : Text) → reading (codes "expand" ∷ codes "--" ∷ f ∷ []) ≡ Some (OverFarm f Expand)
 unfolding clap_on_literals
 expand_after f = refl
 
-expand_alone : (f : Text) → IsValue f → reading (codes "expand" ∷ f ∷ []) ≡ Some (Expand f)
+expand_alone : (f : Text) → IsValue f → reading (codes "expand" ∷ f ∷ []) ≡ Some (OverFarm f Expand)
 unfolding clap_on_literals
-expand_alone f v = value_cases (λ a. reading (codes "expand" ∷ a ∷ []) ≡ Some (Expand a)) refl refl (λ x xs e. simp e) f v
+expand_alone f v = value_cases (λ a. reading (codes "expand" ∷ a ∷ []) ≡ Some (OverFarm a Expand)) refl refl (λ x xs e. simp e) f v
 
-expand_before : (f : Text) → IsValue f → reading (codes "expand" ∷ f ∷ codes "--" ∷ []) ≡ Some (Expand f)
+expand_before : (f : Text) → IsValue f → reading (codes "expand" ∷ f ∷ codes "--" ∷ []) ≡ Some (OverFarm f Expand)
 unfolding clap_on_literals
-expand_before f v = value_cases (λ a. reading (codes "expand" ∷ a ∷ codes "--" ∷ []) ≡ Some (Expand a)) refl refl (λ x xs e. simp e) f v
+expand_before f v = value_cases (λ a. reading (codes "expand" ∷ a ∷ codes "--" ∷ []) ≡ Some (OverFarm a Expand)) refl refl (λ x xs e. simp e) f v
 
 expand_fails : (rest : List Text) → is_empty (leaf_faults (codes "expand") rest) ≡ false → reading (codes "expand" ∷ rest) ≡ None
 unfolding clap_on_literals
 expand_fails rest fails =
     no_reading (codes "expand" ∷ rest) (fails_below farm_app (codes "expand" ∷ rest) (ap is_empty (ap (entered_fault (built farm_app)) (expand_stops rest)) ∙ fails))
 
-expand_is : IsReadAs (codes "expand") (λ f. Expand f)
+expand_is : IsReadAs (codes "expand") (λ f. OverFarm f Expand)
 expand_is = record { fails = expand_fails; alone = expand_alone; after = expand_after; before = expand_before; says = λ f rest gives. (refl, gives) }
 
-check_after : (f : Text) → reading (codes "check" ∷ codes "--" ∷ f ∷ []) ≡ Some (Check f)
+check_after : (f : Text) → reading (codes "check" ∷ codes "--" ∷ f ∷ []) ≡ Some (OverFarm f Check)
 unfolding clap_on_literals
 check_after f = refl
 
-check_alone : (f : Text) → IsValue f → reading (codes "check" ∷ f ∷ []) ≡ Some (Check f)
+check_alone : (f : Text) → IsValue f → reading (codes "check" ∷ f ∷ []) ≡ Some (OverFarm f Check)
 unfolding clap_on_literals
-check_alone f v = value_cases (λ a. reading (codes "check" ∷ a ∷ []) ≡ Some (Check a)) refl refl (λ x xs e. simp e) f v
+check_alone f v = value_cases (λ a. reading (codes "check" ∷ a ∷ []) ≡ Some (OverFarm a Check)) refl refl (λ x xs e. simp e) f v
 
-check_before : (f : Text) → IsValue f → reading (codes "check" ∷ f ∷ codes "--" ∷ []) ≡ Some (Check f)
+check_before : (f : Text) → IsValue f → reading (codes "check" ∷ f ∷ codes "--" ∷ []) ≡ Some (OverFarm f Check)
 unfolding clap_on_literals
-check_before f v = value_cases (λ a. reading (codes "check" ∷ a ∷ codes "--" ∷ []) ≡ Some (Check a)) refl refl (λ x xs e. simp e) f v
+check_before f v = value_cases (λ a. reading (codes "check" ∷ a ∷ codes "--" ∷ []) ≡ Some (OverFarm a Check)) refl refl (λ x xs e. simp e) f v
 
 check_fails : (rest : List Text) → is_empty (leaf_faults (codes "check") rest) ≡ false → reading (codes "check" ∷ rest) ≡ None
 unfolding clap_on_literals
 check_fails rest fails =
     no_reading (codes "check" ∷ rest) (fails_below farm_app (codes "check" ∷ rest) (ap is_empty (ap (entered_fault (built farm_app)) (check_stops rest)) ∙ fails))
 
-check_is : IsReadAs (codes "check") (λ f. Check f)
+check_is : IsReadAs (codes "check") (λ f. OverFarm f Check)
 check_is = record { fails = check_fails; alone = check_alone; after = check_after; before = check_before; says = λ f rest gives. (refl, gives) }
+
+-- ---- sign
+
+taken : (b : Bool) (o : Option Command) (command : Command) → cond b o None ≡ Some command → o ≡ Some command
+taken true o command e = e
+taken false o command e = absurd (none_some command e)
+
+sign_command : (o : Option Signing) (words : List Text) (command : Command) → option_map (λ s. Sign s) o ≡ Some command → SaysCommand command words
+sign_command None words command e = absurd (none_some command e)
+sign_command (Some s) words (OverFarm farm work) e = cc
+sign_command (Some s) words (Sign signing) e = tt
+
+sign_said : (rest : List Text) (command : Command) → reading (codes "sign" ∷ rest) ≡ Some command → SaysCommand command (codes "sign" ∷ rest)
+unfolding clap_on_literals
+sign_said rest command read =
+    let met = taken (is_empty (fault_of farm_app (codes "sign" ∷ rest))) (option_and_then command_in (subcommand_of farm_app (codes "sign" ∷ rest))) command read in
+    sign_command _ (codes "sign" ∷ rest) command (sym (ap (λ stop. option_and_then command_in (entered (built farm_app) stop)) (sign_stops rest)) ∙ met)
 
 -- ---- both ways
 
 pub reading_says : (words : List Text) (command : Command) → All IsUtf8 words → reading words ≡ Some command → SaysCommand command words
 reading_says [] command utf8 read = absurd (none_some command (sym empty_read ∙ read))
 reading_says (w ∷ rest) command utf8 read = elim (first_named w rest command (utf8 0 [] (omega arith)) read) [
-  | inl a ↦ named (codes "answer") a (rest_said (codes "answer") (λ f. Answer f) answer_is rest command others)
-  | inr other ↦ elim other [
-    | inl e ↦ named (codes "expand") e (rest_said (codes "expand") (λ f. Expand f) expand_is rest command others)
-    | inr c ↦ named (codes "check") c (rest_said (codes "check") (λ f. Check f) check_is rest command others)
-  ]
+  | inl a ↦ named (codes "answer") a (rest_said (codes "answer") (λ f. OverFarm f Answer) answer_is rest command others)
+  | inr (inl e) ↦ named (codes "expand") e (rest_said (codes "expand") (λ f. OverFarm f Expand) expand_is rest command others)
+  | inr (inr (inl c)) ↦ named (codes "check") c (rest_said (codes "check") (λ f. OverFarm f Check) check_is rest command others)
+  | inr (inr (inr s)) ↦ named (codes "sign") s (sign_said rest command)
 ]
   where
     others : All IsUtf8 rest
@@ -339,8 +366,8 @@ given_read name of is f rest (inl p) = subst (λ words. reading (name ∷ words)
 given_read name of is f rest (inr (inl e)) = subst (λ words. reading (name ∷ words) ≡ Some (of f)) (sym e) (is.after f)
 given_read name of is f rest (inr (inr p)) = subst (λ words. reading (name ∷ words) ≡ Some (of f)) (sym p.1) (is.before f p.0)
 
-pub said_read : (words : List Text) (command : Command) → SaysCommand command words → reading words ≡ Some command
-said_read [] command says = absurd says
-said_read (w ∷ rest) (Answer f) says = subst (λ a. reading (a ∷ rest) ≡ Some (Answer f)) (sym says.0) (given_read (codes "answer") (λ f. Answer f) answer_is f rest says.1)
-said_read (w ∷ rest) (Expand f) says = subst (λ a. reading (a ∷ rest) ≡ Some (Expand f)) (sym says.0) (given_read (codes "expand") (λ f. Expand f) expand_is f rest says.1)
-said_read (w ∷ rest) (Check f) says = subst (λ a. reading (a ∷ rest) ≡ Some (Check f)) (sym says.0) (given_read (codes "check") (λ f. Check f) check_is f rest says.1)
+pub said_read : (words : List Text) (farm : Text) (work : Work) → SaysWork farm work words → reading words ≡ Some (OverFarm farm work)
+said_read [] farm work says = absurd says
+said_read (w ∷ rest) f Answer says = subst (λ a. reading (a ∷ rest) ≡ Some (OverFarm f Answer)) (sym says.0) (given_read (codes "answer") (λ f. OverFarm f Answer) answer_is f rest says.1)
+said_read (w ∷ rest) f Expand says = subst (λ a. reading (a ∷ rest) ≡ Some (OverFarm f Expand)) (sym says.0) (given_read (codes "expand") (λ f. OverFarm f Expand) expand_is f rest says.1)
+said_read (w ∷ rest) f Check says = subst (λ a. reading (a ∷ rest) ≡ Some (OverFarm f Check)) (sym says.0) (given_read (codes "check") (λ f. OverFarm f Check) check_is f rest says.1)

@@ -11,33 +11,34 @@ use Rattle.clap.specs.Simple.{argument_words, names_of}
 use Rattle.clap.specs.Walk.{Names, Rule, Walk, is_empty, nothing_held, stop_after, walk_from, walked, walked_from}
 use Rattle.clap.proofs.OnLiterals.{clap_on_literals}
 use Rattle.clap.specs.declared.error.ErrorKind.TheVariants.{UnknownArgument, InvalidSubcommand, DisplayHelp}
-use Rattle.command_line.specs.Words.{IsPlain, command_in, farm_app, farm_of, name_of, reading}
-use Rattle.command_line.specs.declared.command.Command.{Command}
-use Rattle.command_line.specs.declared.command.Command.TheVariants.{Answer, Expand, Check}
+use Rattle.command_line.specs.Words.{IsPlain, command_in, farm_app, name_of, reading}
+use Rattle.command_line.specs.declared.command.Command.TheVariants.{OverFarm}
+use Rattle.command_line.specs.declared.command.Work.{Work}
+use Rattle.command_line.specs.declared.command.Work.TheVariants.{Answer, Expand, Check}
 
 not_minus : (x : ℕ) (xs : List ℕ) → IsPlain (x ∷ xs) → (x == 45) ≡ false
 not_minus x xs plain = ne_eqb x 45 (λ same. plain (ap Some same))
 
-pub answer_read : (farm : List ℕ) → IsPlain farm → reading (codes "answer" ∷ farm ∷ []) ≡ Some (Answer farm)
+pub answer_read : (farm : List ℕ) → IsPlain farm → reading (codes "answer" ∷ farm ∷ []) ≡ Some (OverFarm farm Answer)
 unfolding clap_on_literals
 answer_read [] plain = refl
 answer_read (x ∷ xs) plain = simp (not_minus x xs plain)
 
-pub expand_read : (farm : List ℕ) → IsPlain farm → reading (codes "expand" ∷ farm ∷ []) ≡ Some (Expand farm)
+pub expand_read : (farm : List ℕ) → IsPlain farm → reading (codes "expand" ∷ farm ∷ []) ≡ Some (OverFarm farm Expand)
 unfolding clap_on_literals
 expand_read [] plain = refl
 expand_read (x ∷ xs) plain = simp (not_minus x xs plain)
 
-pub check_read : (farm : List ℕ) → IsPlain farm → reading (codes "check" ∷ farm ∷ []) ≡ Some (Check farm)
+pub check_read : (farm : List ℕ) → IsPlain farm → reading (codes "check" ∷ farm ∷ []) ≡ Some (OverFarm farm Check)
 unfolding clap_on_literals
 check_read [] plain = refl
 check_read (x ∷ xs) plain = simp (not_minus x xs plain)
 
--- a command with a plain farm file is read
-pub plain_read : (command : Command) → IsPlain (farm_of command) → reading (name_of command ∷ farm_of command ∷ []) ≡ Some command
-plain_read (Answer farm) plain = answer_read farm plain
-plain_read (Expand farm) plain = expand_read farm plain
-plain_read (Check farm) plain = check_read farm plain
+-- work over a plain farm file is read
+pub plain_read : (farm : List ℕ) (work : Work) → IsPlain farm → reading (name_of work ∷ farm ∷ []) ≡ Some (OverFarm farm work)
+plain_read farm Answer plain = answer_read farm plain
+plain_read farm Expand plain = expand_read farm plain
+plain_read farm Check plain = check_read farm plain
 
 -- words with a fault have no reading
 pub no_reading : (words : List (List ℕ)) → is_empty (fault_of farm_app words) ≡ false → reading words ≡ None
@@ -46,9 +47,9 @@ no_reading words fails = ap (λ (b : Bool). cond b (option_and_then command_in (
 -- ---- the first word
 
 first_fault : (x : ℕ) (xs : List ℕ) (rest : List Text) → IsPlain (x ∷ xs) → bytes_eq (codes "answer") (x ∷ xs) ≡ false → bytes_eq (codes "expand") (x ∷ xs) ≡ false
-    → bytes_eq (codes "check") (x ∷ xs) ≡ false → bytes_eq (codes "help") (x ∷ xs) ≡ false → fault_of farm_app ((x ∷ xs) ∷ rest) ≡ UnknownArgument ∷ InvalidSubcommand ∷ []
+    → bytes_eq (codes "check") (x ∷ xs) ≡ false → bytes_eq (codes "sign") (x ∷ xs) ≡ false → bytes_eq (codes "help") (x ∷ xs) ≡ false → fault_of farm_app ((x ∷ xs) ∷ rest) ≡ UnknownArgument ∷ InvalidSubcommand ∷ []
 unfolding clap_on_literals
-first_fault x xs rest plain answer expand check help = simp (answer, expand, check, help, not_minus x xs plain)
+first_fault x xs rest plain answer expand check sign help = simp (answer, expand, check, sign, help, not_minus x xs plain)
 
 pub empty_fault : (rest : List Text) → fault_of farm_app ([] ∷ rest) ≡ UnknownArgument ∷ InvalidSubcommand ∷ []
 unfolding clap_on_literals
@@ -97,12 +98,18 @@ check_stops rest =
     let app = built farm_app in
     stopped_on app.top.rules (names_of app) (walked app.top.rules (names_of app) (walk_from nothing_held) (codes "check")) (codes "check") [] rest refl
 
+pub sign_stops : (rest : List Text) → stop_after (built farm_app).top.rules (names_of (built farm_app)) (argument_words farm_app (codes "sign" ∷ rest)) ≡ Some (codes "sign", rest)
+unfolding clap_on_literals
+sign_stops rest =
+    let app = built farm_app in
+    stopped_on app.top.rules (names_of app) (walked app.top.rules (names_of app) (walk_from nothing_held) (codes "sign")) (codes "sign") [] rest refl
+
 -- ---- every first word
 
 pub other_first : (w : Text) (rest : List Text) → IsPlain w → bytes_eq (codes "answer") w ≡ false → bytes_eq (codes "expand") w ≡ false
-    → bytes_eq (codes "check") w ≡ false → bytes_eq (codes "help") w ≡ false → reading (w ∷ rest) ≡ None
-other_first [] rest plain a e c h = no_reading ([] ∷ rest) (ap is_empty (empty_fault rest))
-other_first (x ∷ xs) rest plain a e c h = no_reading ((x ∷ xs) ∷ rest) (ap is_empty (first_fault x xs rest plain a e c h))
+    → bytes_eq (codes "check") w ≡ false → bytes_eq (codes "sign") w ≡ false → bytes_eq (codes "help") w ≡ false → reading (w ∷ rest) ≡ None
+other_first [] rest plain a e c s h = no_reading ([] ∷ rest) (ap is_empty (empty_fault rest))
+other_first (x ∷ xs) rest plain a e c s h = no_reading ((x ∷ xs) ∷ rest) (ap is_empty (first_fault x xs rest plain a e c s h))
 
 pub help_first : (w : Text) (rest : List Text) → bytes_eq (codes "help") w ≡ true → reading (w ∷ rest) ≡ None
 help_first w rest same =

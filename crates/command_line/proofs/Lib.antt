@@ -2,4 +2,7 @@ mod FlagLemmas
 mod FormLemmas
 mod LawLemmas
 mod MatchLemmas
+mod OptionLemmas
 mod ReadingLemmas
+mod SigningLemmas
+mod ValueLemmas

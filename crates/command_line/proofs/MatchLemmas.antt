@@ -1,12 +1,13 @@
 -- The command that matches name.
-use Rattle.std.proofs.Common.{◌≡◌, ◌∙◌, sym, ap, List, Option, Some, None, Box, option_map, option_and_then, codes}
+use Rattle.std.proofs.Common.{◌≡◌, ◌∙◌, refl, sym, ap, List, Option, Some, None, Box, option_map, option_and_then, codes}
 use Rattle.std.specs.Box.{box_value}
-use Rattle.clap.specs.Words.{Row, Text, first_value, found_of, rows_of, subcommand_rows, subcommand_rows_of, subcommand_name_of}
+use Rattle.clap.specs.Words.{Row, Text, first_of, first_value, found_of, rows_of, subcommand_rows, subcommand_rows_of, subcommand_name_of}
 use Rattle.clap.specs.declared.ArgMatches.{ArgMatches}
 use Rattle.clap.specs.declared.parser.matches.SubCommand.{SubCommand}
 use Rattle.clap.specs.declared.parser.matches.ArgMatches.TheViews.{out-ArgMatches, out-SubCommand}
 use Rattle.clap.proofs.WalkLemmas.{first_value-rows}
-use Rattle.command_line.specs.Words.{command_in, command_named}
+use Rattle.command_line.specs.Words.{command_in, work_in, work_named}
+use Rattle.command_line.specs.declared.command.Command.TheVariants.{OverFarm}
 
 met : {Z : Type 0} (o : Option (Box SubCommand Z)) (name : Text) (rows : List Row) → option_map (λ b. (out-SubCommand (box_value b)).name.now) o ≡ Some name
     → option_map (λ p. p.1) (subcommand_rows o) ≡ Some rows → subcommand_rows o ≡ Some (name, rows)
@@ -18,8 +19,19 @@ pub rows_met : (m inner : ArgMatches) (name : Text) → subcommand_name_of m ≡
     → option_map (λ p. p.1) (subcommand_rows (out-ArgMatches m).subcommand) ≡ Some (rows_of (found_of inner)) → subcommand_rows_of m ≡ Some (name, rows_of (found_of inner))
 rows_met m inner name is has = met (out-ArgMatches m).subcommand name (rows_of (found_of inner)) is has
 
--- the command of a subcommand with its farm file
-pub command_met : (m inner : ArgMatches) (name : Text) (farm : Option Text) → subcommand_rows_of m ≡ Some (name, rows_of (found_of inner)) → farm ≡ first_value (found_of inner) (codes "FARM")
-    → option_and_then (command_named name) farm ≡ option_and_then command_in (subcommand_rows_of m)
-command_met m inner name farm is has =
-    ap (option_and_then (command_named name)) (has ∙ first_value-rows (found_of inner) (codes "FARM")) ∙ sym (ap (option_and_then command_in) is)
+-- the command of a subcommand's name and matches
+pub command_met : (m inner : ArgMatches) (name : Text) → subcommand_rows_of m ≡ Some (name, rows_of (found_of inner))
+    → option_and_then command_in (subcommand_rows_of m) ≡ command_in (name, rows_of (found_of inner))
+command_met m inner name is = ap (option_and_then command_in) is
+
+-- a value, by the rows of the matches
+pub value_met : (m : ArgMatches) (id : Text) (value : Option Text) → value ≡ first_value (found_of m) id → value ≡ first_of id (rows_of (found_of m))
+value_met m id value is = is ∙ first_value-rows (found_of m) id
+
+-- no work has this name
+pub work_unnamed : (name : Text) (rows : List Row) → None ≡ work_named name → work_in name rows ≡ None
+work_unnamed name rows none = none_over (first_of (codes "FARM") rows)
+  where
+    none_over : (farm : Option Text) → option_and_then (λ f. option_map (λ work. OverFarm f work) (work_named name)) farm ≡ None
+    none_over None = refl
+    none_over (Some f) = ap (option_map (λ work. OverFarm f work)) (sym none)

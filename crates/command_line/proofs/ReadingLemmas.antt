@@ -1,5 +1,6 @@
 -- What a parse says of the reading of its words.
-use Rattle.std.proofs.Common.{◌≡◌, ◌≢◌, ◌∙◌, ℕ, arith, Bool, true, false, cond, refl, sym, ap, subst, inl, inr, List, [], ◌∷◌, None, option_and_then}
+use Rattle.std.proofs.Common.{◌≡◌, ◌≢◌, ◌∙◌, ℕ, arith, Bool, true, false, cond, refl, sym, ap, subst, inl, inr, List, [], ◌∷◌, Option, Some, None, Result, Ok, Err, option_and_then}
+use Rattle.std.specs.Prelude.{MatchResult}
 use Rattle.std.proofs.lemmas.Bool.{ne_eqb}
 use Rattle.clap.specs.Words.{App, HasKind, HasMatchesOf, Kinds, fault_of, is_simple, is_simple_and_free, kind_of, subcommand_of, subcommand_rows_of}
 use Rattle.clap.specs.Walk.{is_empty}
@@ -8,8 +9,9 @@ use Rattle.clap.specs.declared.ArgMatches.{ArgMatches}
 use Rattle.clap.specs.declared.Error.{Error}
 use Rattle.clap.specs.declared.error.ErrorKind.TheVariants.{OutOfMemory}
 use Rattle.command_line.specs.Parts.{TellsOf}
-use Rattle.command_line.specs.Refusal.{RefusesWords}
+use Rattle.command_line.specs.Refusal.{Refuses, RefusesWords}
 use Rattle.command_line.specs.Words.{command_in, farm_app, reading}
+use Rattle.command_line.specs.declared.command.Command.{Command}
 use Rattle.command_line.specs.declared.reading.WordsFault.{WordsFault}
 use Rattle.command_line.specs.declared.reading.WordsFault.TheVariants.{Usage, NoMemory}
 
@@ -43,3 +45,9 @@ refused_by a words e (Usage text) is has other =
     let kinds : HasKind (fault_of farm_app words) e = subst (λ (b : App). HasKind (fault_of b words) e) is (has (ap is_simple_and_free is ∙ farm_is_free)) in
     let fails : is_empty (fault_of farm_app words) ≡ false = not_taken (fault_of farm_app words) e kinds other in
     ap (λ (b : Bool). cond b (option_and_then command_in (subcommand_of farm_app words)) None) fails
+
+-- what is read of the matches is read of the words
+pub read_from : (words : List (List ℕ)) (r : Result Command WordsFault) (read : Option Command) → reading words ≡ read
+    → MatchResult r (λ command. read ≡ Some command) (Refuses read) → MatchResult r (λ command. reading words ≡ Some command) (RefusesWords words)
+read_from words (Ok command) read is h = is ∙ h
+read_from words (Err fault) read is h = subst (λ (o : Option Command). Refuses o fault) (sym is) h

@@ -1,4 +1,6 @@
 pub mod Forms
 pub mod Parts
 pub mod Refusal
+pub mod Signing
+pub mod Values
 pub mod Words

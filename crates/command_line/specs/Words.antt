@@ -1,10 +1,13 @@
 -- The command line of the farm program, over what the crate clap (https://docs.rs/clap) is stated to read of words.
-use Rattle.std.specs.Prelude.{◌≢◌, ℕ, Bool, true, List, Option, Some, None, codes, if◌then◌else◌, option_and_then, slice_get}
+use Rattle.std.specs.Prelude.{◌≢◌, ℕ, Bool, true, List, Option, Some, None, codes, if◌then◌else◌, option_map, option_and_then, slice_get}
 use Rattle.std.specs.Str.{bytes_eq}
 use Rattle.clap.specs.Words.{App, Row, Rule, first_of, new_app, new_rule, subcommand_of, with_rule, with_subcommand, fault_of}
 use Rattle.clap.specs.Walk.{is_empty}
+use Rattle.command_line.specs.Signing.{sign_app, signing_in}
 use Rattle.command_line.specs.declared.command.Command.{Command}
-use Rattle.command_line.specs.declared.command.Command.TheVariants.{Answer, Expand, Check}
+use Rattle.command_line.specs.declared.command.Command.TheVariants.{OverFarm, Sign}
+use Rattle.command_line.specs.declared.command.Work.{Work}
+use Rattle.command_line.specs.declared.command.Work.TheVariants.{Answer, Expand, Check}
 
 -- FARM: a required word in its place
 abbrev pub farm_argument : Rule
@@ -14,44 +17,45 @@ farm_argument = record (new_rule (codes "FARM")) { required = true; value_names 
 abbrev pub with_farm : List ℕ → App
 with_farm name = with_rule (new_app name) farm_argument
 
--- the program: its words come without its name, and name one of three commands
+-- the program: its words come without its name, and name one of four commands
 abbrev pub farm_app : App
 farm_app =
     let program = new_app (codes "farm") in
     let bare = record program { top = record program.top { no_binary_name = true; subcommand_required = true; arg_required_else_help = true } } in
-    with_subcommand (with_subcommand (with_subcommand bare (with_farm (codes "answer")).top) (with_farm (codes "expand")).top) (with_farm (codes "check")).top
+    with_subcommand (with_subcommand (with_subcommand (with_subcommand bare (with_farm (codes "answer")).top) (with_farm (codes "expand")).top) (with_farm (codes "check")).top)
+    sign_app.top
 
--- the command of a name, with its farm file
-abbrev pub command_named : List ℕ → List ℕ → Option Command
-command_named name farm =
-    if bytes_eq name (codes "answer") then Some (Answer farm)
-    else if bytes_eq name (codes "expand") then Some (Expand farm)
-    else if bytes_eq name (codes "check") then Some (Check farm)
+-- the work of a name
+abbrev pub work_named : List ℕ → Option Work
+work_named name =
+    if bytes_eq name (codes "answer") then Some Answer
+    else if bytes_eq name (codes "expand") then Some Expand
+    else if bytes_eq name (codes "check") then Some Check
     else None
 
--- the command of a subcommand's name and matches, whose FARM has a value
+-- the work of a name, over the farm file that is given
+abbrev pub work_in : List ℕ → List Row → Option Command
+work_in name rows = option_and_then (λ farm. option_map (λ work. OverFarm farm work) (work_named name)) (first_of (codes "FARM") rows)
+
+-- the command of a subcommand's name and matches
 abbrev pub command_in : List ℕ × List Row → Option Command
-command_in met = option_and_then (command_named met.0) (first_of (codes "FARM") met.1)
+command_in met =
+    if bytes_eq met.0 (codes "sign") then option_map (λ signing. Sign signing) (signing_in met.1)
+    else work_in met.0 met.1
 
 -- clap finds no fault in the words, and no request for help
 abbrev pub are_taken : List (List ℕ) → Bool
 are_taken words = is_empty (fault_of farm_app words)
 
--- what the words ask for: the subcommand that clap matches, where it takes them
+-- what the words ask for: the subcommand that clap matches, where it takes them and each value is of its form
 abbrev pub reading : List (List ℕ) → Option Command
 reading words = if are_taken words then option_and_then command_in (subcommand_of farm_app words) else None
 
--- the name of the farm file
-abbrev pub farm_of : Command → List ℕ
-farm_of (Answer farm) = farm
-farm_of (Expand farm) = farm
-farm_of (Check farm) = farm
-
--- the name of the command
-abbrev pub name_of : Command → List ℕ
-name_of (Answer farm) = codes "answer"
-name_of (Expand farm) = codes "expand"
-name_of (Check farm) = codes "check"
+-- the name of the command that does this work
+abbrev pub name_of : Work → List ℕ
+name_of Answer = codes "answer"
+name_of Expand = codes "expand"
+name_of Check = codes "check"
 
 -- the word does not begin with `-` (45)
 abbrev pub IsPlain : List ℕ → Type 0

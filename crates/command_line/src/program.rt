@@ -1,7 +1,8 @@
 //! The command line, as clap reads it and tells it to the user.
 ghost use Rattle.std.specs.Prelude.{◌≡◌, false, IfOk, codes};
-ghost use Rattle.clap.specs.Words.{app_of, rule_of};
-ghost use Rattle.command_line.specs.Parts.{IsLeaf};
+ghost use Rattle.clap.specs.Words.{app_of, new_app, rule_of};
+ghost use Rattle.command_line.specs.Parts.{IsLeaf, IsPlainLeaf};
+ghost use Rattle.command_line.specs.Signing.{option_rule, request_fields, sign_app, with_fields};
 ghost use Rattle.command_line.specs.Words.{farm_app, farm_argument};
 
 use clap::{Arg, Command};
@@ -42,6 +43,57 @@ fn check<'a>(alloc: Global) -> Result<Command<'a>, AllocError>
         .arg(farm_file(alloc))
 }
 
+/// `--name`, with one value.
+fn option<'a>(alloc: Global, name: &'a str, required: bool, help: &'a str) -> Arg<'a>
+    ensures rule { rule_of result ≡ option_rule name.entry.now required }
+    ensures local { result.global ≡ false }
+{
+    Arg::new(alloc, name)
+        .long(name)
+        .required(required)
+        .help(help)
+}
+
+/// `sign`, with who signs, and what is asked of which host.
+fn sign_request<'a>(alloc: Global) -> Result<Command<'a>, AllocError>
+    ensures { IfOk result (IsPlainLeaf (with_fields (new_app (codes "sign")) request_fields)) }
+{
+    Command::new(alloc, "sign")
+        .about("Writes the value of the Authorization header that signs a request (Hawk).")
+        .arg(option(alloc, "id", true, "The client's id."))?
+        .arg(option(alloc, "token", true, "The client's access token."))?
+        .arg(option(alloc, "method", true, "The method of the request."))?
+        .arg(option(
+            alloc,
+            "target",
+            true,
+            "The target of the request, as it is sent.",
+        ))?
+        .arg(option(alloc, "host", true, "The host that the farm file names."))
+}
+
+/// `sign` with all its options.
+fn sign<'a>(alloc: Global) -> Result<Command<'a>, AllocError>
+    ensures { IfOk result (IsPlainLeaf sign_app) }
+{
+    sign_request(alloc)?
+        .arg(option(alloc, "port", true, "The port that the farm file names."))?
+        .arg(option(alloc, "ts", true, "The seconds since 1970."))?
+        .arg(option(alloc, "nonce", true, "A text that is used once."))?
+        .arg(option(
+            alloc,
+            "ext",
+            false,
+            "The scopes that are asked for, in base64.",
+        ))?
+        .arg(option(
+            alloc,
+            "type",
+            false,
+            "The content type of the body, which is read from standard input.",
+        ))
+}
+
 /// The program with its commands. Its words come without its name.
 pub(crate) fn farm<'a>(alloc: Global) -> Result<Command<'a>, AllocError>
     ensures { IfOk result (λ program. app_of program ≡ farm_app) }
@@ -54,5 +106,6 @@ pub(crate) fn farm<'a>(alloc: Global) -> Result<Command<'a>, AllocError>
         .arg_required_else_help(true)
         .subcommand(answer(alloc)?)?
         .subcommand(expand(alloc)?)?
-        .subcommand(check(alloc)?)
+        .subcommand(check(alloc)?)?
+        .subcommand(sign(alloc)?)
 }

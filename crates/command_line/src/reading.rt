@@ -1,12 +1,13 @@
 //! What the words ask for, or clap's text where they ask for nothing.
-ghost use Rattle.std.specs.Prelude.{◌≡◌, Some, IfOk, MatchResult, List, map, option_and_then, string_bytes};
-ghost use Rattle.clap.specs.Words.{kind_of, subcommand_rows_of};
+ghost use Rattle.std.specs.Prelude.{◌≡◌, Some, MatchResult, Option, List, map, option_and_then, string_bytes};
+ghost use Rattle.clap.specs.Words.{found_of, kind_of, rows_of, subcommand_rows_of};
 ghost use Rattle.command_line.specs.Parts.{TellsOf};
-ghost use Rattle.command_line.specs.Refusal.{RefusesWords};
-ghost use Rattle.command_line.specs.Words.{command_in, command_named, reading};
+ghost use Rattle.command_line.specs.Refusal.{Refuses, RefusesWords};
+ghost use Rattle.command_line.specs.Words.{command_in, work_in, work_named, reading};
 
-use crate::command::Command;
+use crate::command::{Command, Work};
 use crate::program;
+use crate::signing::read_signing;
 use clap::ArgMatches;
 use clap::error::{Error, ErrorKind};
 use farm_text::Text;
@@ -18,6 +19,16 @@ pub enum WordsFault {
     /// No command line of the program has these words, or they ask for help: the text for the user, of some lines.
     Usage(Text),
     NoMemory,
+}
+
+impl WordsFault {
+    /// A text for the user, where there is memory for it.
+    pub(crate) fn usage(alloc: Global, text: &str) -> WordsFault {
+        match Text::from_str(alloc, text) {
+            Ok(text) => WordsFault::Usage(text),
+            Err(AllocError) => WordsFault::NoMemory,
+        }
+    }
 }
 
 impl From<AllocError> for WordsFault {
@@ -35,45 +46,62 @@ impl From<AllocError> for WordsFault {
 ///
 /// # Errors
 ///
-/// `Usage` exactly where the words have no reading: an unknown or a missing command, a word too many or too few, an option that no
-/// command has, or a request for help. Or want of memory.
+/// `Usage` exactly where the words have no reading: an unknown or a missing command, a word too many or too few, an option that the
+/// command does not have, has twice or is without, a value off its form, or a request for help. Or want of memory.
 pub fn read_words(alloc: Global, words: &[String]) -> Result<Command, WordsFault>
     ensures { MatchResult result (λ command. reading (map string_bytes words.now) ≡ Some command)
         (RefusesWords (map string_bytes words.now)) }
 {
     match program::farm(alloc)?.try_get_matches_from(words) {
-        Ok(matches) => match command_of(alloc, &matches)? {
-            Some(command) => Ok(command),
-            None => Err(WordsFault::Usage(Text::from_str(
-                alloc,
-                "error: the words name no command\n",
-            )?)),
-        },
+        Ok(matches) => command_of(alloc, &matches),
         Err(error) => Err(told(alloc, &error)),
     }
 }
 
 /// The command that the matches name.
-fn command_of(alloc: Global, matches: &ArgMatches<'_>) -> Result<Option<Command>, AllocError>
-    ensures { IfOk result (λ command. command ≡ option_and_then command_in (subcommand_rows_of matches.now)) }
+fn command_of(alloc: Global, matches: &ArgMatches<'_>) -> Result<Command, WordsFault>
+    ensures { MatchResult result
+        (λ command. option_and_then command_in (subcommand_rows_of matches.now) ≡ Some command)
+        (Refuses (option_and_then command_in (subcommand_rows_of matches.now))) }
 {
     let Some((name, inner)) = matches.subcommand() else {
-        return Ok(None);
+        return Err(WordsFault::usage(alloc, "error: the words name no command\n"));
     };
-    match inner.get_str("FARM") {
-        Some(farm) => Ok(command_named(name, Text::from_str(alloc, farm)?)),
-        None => Ok(None),
+    if name == "sign" {
+        return match read_signing(alloc, inner) {
+            Ok(signing) => Ok(Command::Sign { signing }),
+            Err(fault) => Err(fault),
+        };
+    }
+    read_work(alloc, name, inner)
+}
+
+/// The work of this name, over the farm file that the matches give.
+fn read_work(alloc: Global, name: &str, matches: &ArgMatches<'_>) -> Result<Command, WordsFault>
+    ensures { MatchResult result
+        (λ command. work_in name.now (rows_of (found_of matches.now)) ≡ Some command)
+        (Refuses (work_in name.now (rows_of (found_of matches.now)))) }
+{
+    let Some(work) = work_named(name) else {
+        return Err(WordsFault::usage(alloc, "error: the words name no command\n"));
+    };
+    let Some(farm) = matches.get_str("FARM") else {
+        return Err(WordsFault::usage(alloc, "error: the words name no farm file\n"));
+    };
+    match Text::from_str(alloc, farm) {
+        Ok(farm) => Ok(Command::OverFarm { farm, work }),
+        Err(AllocError) => Err(WordsFault::NoMemory),
     }
 }
 
-/// The command of this name.
-fn command_named(name: &str, farm: Text) -> Option<Command>
-    ensures { result ≡ command_named name.now farm }
+/// The work of this name.
+fn work_named(name: &str) -> Option<Work>
+    ensures { result ≡ work_named name.now }
 {
     match name {
-        "answer" => Some(Command::Answer { farm }),
-        "expand" => Some(Command::Expand { farm }),
-        "check" => Some(Command::Check { farm }),
+        "answer" => Some(Work::Answer),
+        "expand" => Some(Work::Expand),
+        "check" => Some(Work::Check),
         _ => None,
     }
 }

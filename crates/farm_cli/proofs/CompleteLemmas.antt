@@ -4,7 +4,10 @@ use Rattle.std.specs.Prelude.{IfSome}
 use Rattle.std.specs.Io.KnownBytes.{Appends}
 use Rattle.causes.specs.Causes.{Rose}
 use Rattle.command_line.specs.declared.command.Command.{Command}
-use Rattle.command_line.specs.declared.command.Command.TheVariants.{Answer, Expand, Check}
+use Rattle.command_line.specs.declared.command.Command.TheVariants.{OverFarm, Sign}
+use Rattle.command_line.specs.declared.command.Work.{Work}
+use Rattle.command_line.specs.declared.command.Work.TheVariants.{Answer, Expand, Check}
+use Rattle.command_line.specs.declared.signing.Signing.{Signing}
 use Rattle.http_wire.specs.declared.message.Message.{Message}
 use Rattle.http_wire.specs.declared.message.Wire.{Wire as Reason}
 use Rattle.http_wire.specs.declared.message.Wire.TheVariants as wire
@@ -21,12 +24,14 @@ use Rattle.farm_cli.specs.declared.lending.Lending.TheVariants.{Ready, Back}
 use Rattle.farm_cli.specs.declared.status.Status.{Status}
 use Rattle.farm_cli.specs.declared.status.Status.TheVariants.{Done, Usage, FarmFile, Input, Opening, Read, Write, NoMemory, Wire}
 use Rattle.farm_cli.specs.Checking.{Checks, check_text}
-use Rattle.farm_cli.specs.Complete.{stop_status, status_for, own_text, HasFile, NoFileFault, NoConsoleFault, AnswersAll, WritesAll, Finishes, Completes, RefusesFile, MissesFile, TellsUsage}
+use Rattle.farm_cli.specs.Complete.{stop_status, status_for, own_text, HasFile, NoFileFault, NoConsoleFault, AnswersAll, WritesAll, Finishes, FinishesSigning, Completes, CompletesSigning, RefusesFile, MissesFile, TellsUsage}
 use Rattle.farm_cli.specs.Expanding.{IsExpansion, IsBadInput, Expands}
 use Rattle.farm_cli.specs.FarmFile.{SetsUp, HasFault, FileRefused}
-use Rattle.farm_cli.specs.House.{Held, holds, refuses, back, Lendings}
+use Rattle.farm_cli.specs.House.{holds, back, Lendings}
+use Rattle.farm_cli.specs.Inputs.{Tells, Turns}
 use Rattle.farm_cli.specs.Run.{Obeyed, RanOverFile, RanOver, RanCommand, Ran}
 use Rattle.farm_cli.specs.Serving.{status_of, Conversed}
+use Rattle.farm_cli.specs.Signing.{IsSigned, IsTooLong, Signs, SignsAs, signed_line}
 use Rattle.farm_cli.specs.Views.{Views, outside_of, talk_of}
 
 -- a reason for which the wire itself replies
@@ -118,55 +123,63 @@ answers_all {C} views old new config status console bytes messages ending ran re
       })
     ]
 
--- an input that is known was expanded, or refused
-expands_all : {F C N T I : Type 0} (views : Views F C N T I) (new : Lendings F C N T I) (config : Config) (status : Status) (console console' : C) (input : List ℕ)
+-- what a known input gives was written, or it was refused
+turns_all : {F C N T I : Type 0} (views : Views F C N T I) (new : Lendings F C N T I) (Gives : List ℕ → List ℕ → Type 0) (IsBad : List ℕ → Type 0) (status : Status) (console console' : C) (input : List ℕ)
     → status ≢ NoMemory → new.console ≡ Back console' → views.console_left console ≡ Some input
     → ¬ (Rose (views.console_read_faults console) (views.console_read_faults console')) → ¬ (Rose (views.console_write_faults console) (views.console_write_faults console'))
-    → Expands config.roles (talk_of views console) (talk_of views console') status
-    → ((text : List ℕ) × IsExpansion config.roles input text × WritesAll views new console text status) ⊎ (IsBadInput config.roles input × (status ≡ Input))
-expands_all views new config Done console console' input some came_back known reads_well writes_well did =
+    → Turns Gives IsBad (talk_of views console) (talk_of views console') status
+    → ((text : List ℕ) × Gives input text × WritesAll views new console text status) ⊎ (IsBad input × (status ≡ Input))
+turns_all views new Gives IsBad Done console console' input some came_back known reads_well writes_well did =
     inl (did.0, rw known at did.1, record { done = refl; console' = console'; came_back = came_back; written = did.4.0 })
-expands_all views new config Usage console console' input some came_back known reads_well writes_well did = absurd did.4
-expands_all views new config FarmFile console console' input some came_back known reads_well writes_well did = absurd did.4
-expands_all views new config Input console console' input some came_back known reads_well writes_well did = inr (rw known at did.0, refl)
-expands_all views new config Opening console console' input some came_back known reads_well writes_well did = absurd did.4
-expands_all views new config Read console console' input some came_back known reads_well writes_well did = absurd (reads_well did.0)
-expands_all views new config Write console console' input some came_back known reads_well writes_well did = absurd (writes_well did.4.1)
-expands_all views new config NoMemory console console' input some came_back known reads_well writes_well did = absurd (some refl)
-expands_all views new config Wire console console' input some came_back known reads_well writes_well did = absurd did.4
+turns_all views new Gives IsBad Usage console console' input some came_back known reads_well writes_well did = absurd did.4
+turns_all views new Gives IsBad FarmFile console console' input some came_back known reads_well writes_well did = absurd did.4
+turns_all views new Gives IsBad Input console console' input some came_back known reads_well writes_well did = inr (rw known at did.0, refl)
+turns_all views new Gives IsBad Opening console console' input some came_back known reads_well writes_well did = absurd did.4
+turns_all views new Gives IsBad Read console console' input some came_back known reads_well writes_well did = absurd (reads_well did.0)
+turns_all views new Gives IsBad Write console console' input some came_back known reads_well writes_well did = absurd (writes_well did.4.1)
+turns_all views new Gives IsBad NoMemory console console' input some came_back known reads_well writes_well did = absurd (some refl)
+turns_all views new Gives IsBad Wire console console' input some came_back known reads_well writes_well did = absurd did.4
 
--- the counts were written
-checks_all : {F C N T I : Type 0} (views : Views F C N T I) (new : Lendings F C N T I) (config : Config) (status : Status) (console console' : C)
+-- a text was written
+tells_all : {F C N T I : Type 0} (views : Views F C N T I) (new : Lendings F C N T I) (text : List ℕ) (status : Status) (console console' : C)
     → status ≢ NoMemory → new.console ≡ Back console' → ¬ (Rose (views.console_write_faults console) (views.console_write_faults console'))
-    → Checks config (talk_of views console) (talk_of views console') status → WritesAll views new console (check_text config) status
-checks_all views new config Done console console' some came_back writes_well did = record { done = refl; console' = console'; came_back = came_back; written = did.1.0 }
-checks_all views new config Usage console console' some came_back writes_well did = absurd did.1
-checks_all views new config FarmFile console console' some came_back writes_well did = absurd did.1
-checks_all views new config Input console console' some came_back writes_well did = absurd did.1
-checks_all views new config Opening console console' some came_back writes_well did = absurd did.1
-checks_all views new config Read console console' some came_back writes_well did = absurd did.1
-checks_all views new config Write console console' some came_back writes_well did = absurd (writes_well did.1.1)
-checks_all views new config NoMemory console console' some came_back writes_well did = absurd (some refl)
-checks_all views new config Wire console console' some came_back writes_well did = absurd did.1
+    → Tells text (talk_of views console) (talk_of views console') status → WritesAll views new console text status
+tells_all views new text Done console console' some came_back writes_well did = record { done = refl; console' = console'; came_back = came_back; written = did.1.0 }
+tells_all views new text Usage console console' some came_back writes_well did = absurd did.1
+tells_all views new text FarmFile console console' some came_back writes_well did = absurd did.1
+tells_all views new text Input console console' some came_back writes_well did = absurd did.1
+tells_all views new text Opening console console' some came_back writes_well did = absurd did.1
+tells_all views new text Read console console' some came_back writes_well did = absurd did.1
+tells_all views new text Write console console' some came_back writes_well did = absurd (writes_well did.1.1)
+tells_all views new text NoMemory console console' some came_back writes_well did = absurd (some refl)
+tells_all views new text Wire console console' some came_back writes_well did = absurd did.1
 
-finishes : {F C N T I : Type 0} (views : Views F C N T I) (old new : Lendings F C N T I) (config : Config) (command : Command) (status : Status) (console : C)
-    → status ≢ NoMemory → Obeyed views old new config command status → old.console ≡ Ready console → NoConsoleFault views new console
-    → Finishes views new console config command status
-finishes views old new config (Answer farm) status console some ran ready well = λ bytes messages ending known list.
+finishes : {F C N T I : Type 0} (views : Views F C N T I) (old new : Lendings F C N T I) (config : Config) (work : Work) (status : Status) (console : C)
+    → status ≢ NoMemory → Obeyed views old new config work status → old.console ≡ Ready console → NoConsoleFault views new console
+    → Finishes views new console config work status
+finishes views old new config Answer status console some ran ready well = λ bytes messages ending known list.
     elim (answers_all views old new config status console bytes messages ending ran ready known list well) [
       | inl none ↦ absurd (some none)
       | inr all ↦ all
     ]
-finishes {C} views old new config (Expand farm) status console some ran ready well = λ input known.
+finishes {C} views old new config Expand status console some ran ready well = λ input known.
     let given = rw ready at ran.console.could in
     let came_back = rw ready at ran.console.returned in
-    expands_all views new config status console ran.back input some came_back known (well.reads ran.back came_back) (well.writes ran.back came_back)
+    turns_all views new (IsExpansion config.roles) (IsBadInput config.roles) status console ran.back input some came_back known (well.reads ran.back came_back) (well.writes ran.back came_back)
     (subst (λ (x : C). Expands config.roles (talk_of views x) (talk_of views ran.back) status) given ran.did)
-finishes {C} views old new config (Check farm) status console some ran ready well =
+finishes {C} views old new config Check status console some ran ready well =
     let given = rw ready at ran.console.could in
     let came_back = rw ready at ran.console.returned in
-    checks_all views new config status console ran.back some came_back (well.writes ran.back came_back)
+    tells_all views new (check_text config) status console ran.back some came_back (well.writes ran.back came_back)
     (subst (λ (x : C). Checks config (talk_of views x) (talk_of views ran.back) status) given ran.did)
+
+finishes_signing : {F C N T I : Type 0} (views : Views F C N T I) (new : Lendings F C N T I) (signing : Signing) (kind : Option (List ℕ)) (status : Status) (console console' : C)
+    → status ≢ NoMemory → new.console ≡ Back console' → NoConsoleFault views new console → SignsAs signing kind (talk_of views console) (talk_of views console') status
+    → FinishesSigning views new console signing kind status
+finishes_signing views new signing None status console console' some came_back well did =
+    tells_all views new (signed_line signing None) status console console' some came_back (well.writes console' came_back) did
+finishes_signing views new signing (Some content_type) status console console' some came_back well did = λ body known.
+    turns_all views new (IsSigned signing content_type) IsTooLong status console console' body some came_back known (well.reads console' came_back) (well.writes console' came_back) did
 
 -- ---- a farm file that is there
 
@@ -194,37 +207,37 @@ words_taken said command status asked (inl none) = none
 words_taken said command status asked (inr usage) = absurd (no_command said command asked usage.1)
 
 -- a command was run over the file that the house has
-record Opened {F C N T I : Type 0} (views : Views F C N T I) (old new : Lendings F C N T I) (command : Command) (file : F) (status : Status) : Type 0 where
+record Opened {F C N T I : Type 0} (views : Views F C N T I) (old new : Lendings F C N T I) (work : Work) (file : F) (status : Status) : Type 0 where
   closed : F
   came_back : new.file ≡ back closed
-  ran : RanOverFile views old new command file closed status
+  ran : RanOverFile views old new work file closed status
 
-opened_over : {F C N T I : Type 0} (views : Views F C N T I) (old new : Lendings F C N T I) (before now : ℕ) (said : Option Command) (command : Command) (file : F) (status : Status)
-    → HasFile old said command (holds file) → RanOver views old new before now command status → Opened views old new command file status
-opened_over {F} views old new before now said command file status has over =
+opened_over : {F C N T I : Type 0} (views : Views F C N T I) (old new : Lendings F C N T I) (before now : ℕ) (said : Option Command) (work : Work) (file : F) (status : Status) (has : HasFile old said work (holds file))
+    → RanOver views old new before now has.farm work status → Opened views old new work file status
+opened_over {F} views old new before now said work file status has over =
     let is = rw (has.files, has.there) at over.file.could in
     record {
       closed = over.closed;
       came_back = rw has.files at over.file.returned;
-      ran = subst (λ (x : F). RanOverFile views old new command x over.closed status) is over.ran;
+      ran = subst (λ (x : F). RanOverFile views old new work x over.closed status) is over.ran;
     }
 
 -- the run of the command that the words ask for
-run_of : {F C N T I : Type 0} (views : Views F C N T I) (old new : Lendings F C N T I) (before now : ℕ) (said : Option Command) (command : Command) (held : Held F) (status : Status)
-    → HasFile old said command held → Ran views old new before now said status → (status ≡ NoMemory) ⊎ RanCommand views old new before now command status
-run_of views old new before now said command held status has (inl refused) = inl (words_taken said command status has.asked refused.why)
-run_of views old new before now said command held status has (inr ran) =
-    let same : ran.0 ≡ command = same_command said ran.0 command ran.1 has.asked in
+run_of : {F C N T I : Type 0} (views : Views F C N T I) (old new : Lendings F C N T I) (before now : ℕ) (said : Option Command) (command : Command) (status : Status)
+    → said ≡ Some command → Ran views old new before now said status → (status ≡ NoMemory) ⊎ RanCommand views old new before now command status
+run_of views old new before now said command status asked (inl refused) = inl (words_taken said command status asked refused.why)
+run_of views old new before now said command status asked (inr ran) =
+    let same : ran.0 ≡ command = same_command said ran.0 command ran.1 asked in
     inr (subst (λ c. RanCommand views old new before now c status) same ran.2)
 
-over_file : {F C N T I : Type 0} (views : Views F C N T I) (old new : Lendings F C N T I) (before now : ℕ) (said : Option Command) (command : Command) (file : F) (status : Status)
-    → HasFile old said command (holds file) → ¬ (Rose before now) → Ran views old new before now said status
-    → (status ≡ NoMemory) ⊎ Opened views old new command file status
-over_file views old new before now said command file status has well ran =
-    elim (run_of views old new before now said command (holds file) status has ran) [
+over_file : {F C N T I : Type 0} (views : Views F C N T I) (old new : Lendings F C N T I) (before now : ℕ) (said : Option Command) (work : Work) (file : F) (status : Status)
+    → HasFile old said work (holds file) → ¬ (Rose before now) → Ran views old new before now said status
+    → (status ≡ NoMemory) ⊎ Opened views old new work file status
+over_file views old new before now said work file status has well ran =
+    elim (run_of views old new before now said (OverFarm has.farm work) status has.asked ran) [
       | inl none ↦ inl none
       | inr (inl refused) ↦ absurd (well refused.rose)
-      | inr (inr over) ↦ inr (opened_over views old new before now said command file status has over)
+      | inr (inr over) ↦ inr (opened_over views old new before now said work file status has over)
     ]
 
 -- a file that is refused, of which no read failed, breaks a rule, or memory ran out
@@ -240,15 +253,15 @@ refused_by left before now Opening why well = absurd why
 refused_by left before now Write why well = absurd why
 refused_by left before now Wire why well = absurd why
 
-completes_over : {F C N T I : Type 0} (views : Views F C N T I) (old new : Lendings F C N T I) (before now : ℕ) (command : Command) (file : F) (bytes : List ℕ) (console : C) (status : Status)
-    → Opened views old new command file status → views.file_left file ≡ Some bytes → ¬ HasFault bytes → NoFileFault views new before now file
+completes_over : {F C N T I : Type 0} (views : Views F C N T I) (old new : Lendings F C N T I) (before now : ℕ) (work : Work) (file : F) (bytes : List ℕ) (console : C) (status : Status)
+    → Opened views old new work file status → views.file_left file ≡ Some bytes → ¬ HasFault bytes → NoFileFault views new before now file
     → old.console ≡ Ready console → NoConsoleFault views new console
-    → (status ≡ NoMemory) ⊎ ((config : Config) × SetsUp bytes config × Finishes views new console config command status)
-completes_over views old new before now command file bytes console status opened left sound well ready console_well =
+    → (status ≡ NoMemory) ⊎ ((config : Config) × SetsUp bytes config × Finishes views new console config work status)
+completes_over views old new before now work file bytes console status opened left sound well ready console_well =
     elim opened.ran [
       | inl ran ↦ elim (is_memory status) [
         | inl none ↦ inl none
-        | inr some ↦ inr (ran.0, rw left at ran.1, finishes views old new ran.0 command status console some ran.3 ready console_well)
+        | inr some ↦ inr (ran.0, rw left at ran.1, finishes views old new ran.0 work status console some ran.3 ready console_well)
       ]
       | inr refused ↦ elim (refused_by (views.file_left file) (views.file_faults file) (views.file_faults opened.closed) status refused.0 (well.reads opened.closed opened.came_back)) [
         | inl none ↦ inl none
@@ -256,10 +269,10 @@ completes_over views old new before now command file bytes console status opened
       ]
     ]
 
-refuses_over : {F C N T I : Type 0} (views : Views F C N T I) (old new : Lendings F C N T I) (before now : ℕ) (command : Command) (file : F) (bytes : List ℕ) (status : Status)
-    → Opened views old new command file status → views.file_left file ≡ Some bytes → HasFault bytes → NoFileFault views new before now file
+refuses_over : {F C N T I : Type 0} (views : Views F C N T I) (old new : Lendings F C N T I) (before now : ℕ) (work : Work) (file : F) (bytes : List ℕ) (status : Status)
+    → Opened views old new work file status → views.file_left file ≡ Some bytes → HasFault bytes → NoFileFault views new before now file
     → (status ≡ NoMemory) ⊎ (status ≡ FarmFile)
-refuses_over views old new before now command file bytes status opened left fault well =
+refuses_over views old new before now work file bytes status opened left fault well =
     elim opened.ran [
       | inl ran ↦ absurd ((rw left at ran.1).sound fault.0 fault.1)
       | inr refused ↦ elim (refused_by (views.file_left file) (views.file_faults file) (views.file_faults opened.closed) status refused.0 (well.reads opened.closed opened.came_back)) [
@@ -270,27 +283,44 @@ refuses_over views old new before now command file bytes status opened left faul
 
 pub Completes-from_run : {F C N T I : Type 0} (views : Views F C N T I) (old new : Lendings F C N T I) (before now : ℕ) (said : Option Command) (status : Status)
     → Ran views old new before now said status → Completes views old new before now said status
-Completes-from_run views old new before now said status ran = λ command file bytes console has left sound well ready console_well.
-    elim (over_file views old new before now said command file status has well.openings ran) [
+Completes-from_run views old new before now said status ran = λ work file bytes console has left sound well ready console_well.
+    elim (over_file views old new before now said work file status has well.openings ran) [
       | inl none ↦ inl none
-      | inr opened ↦ completes_over views old new before now command file bytes console status opened left sound well ready console_well
+      | inr opened ↦ completes_over views old new before now work file bytes console status opened left sound well ready console_well
     ]
 
 pub RefusesFile-from_run : {F C N T I : Type 0} (views : Views F C N T I) (old new : Lendings F C N T I) (before now : ℕ) (said : Option Command) (status : Status)
     → Ran views old new before now said status → RefusesFile views old new before now said status
-RefusesFile-from_run views old new before now said status ran = λ command file bytes has left fault well.
-    elim (over_file views old new before now said command file status has well.openings ran) [
+RefusesFile-from_run views old new before now said status ran = λ work file bytes has left fault well.
+    elim (over_file views old new before now said work file status has well.openings ran) [
       | inl none ↦ inl none
-      | inr opened ↦ refuses_over views old new before now command file bytes status opened left fault well
+      | inr opened ↦ refuses_over views old new before now work file bytes status opened left fault well
     ]
 
 pub MissesFile-from_run : {F C N T I : Type 0} (views : Views F C N T I) (old new : Lendings F C N T I) (before now : ℕ) (said : Option Command) (status : Status)
     → Ran views old new before now said status → MissesFile old said status
-MissesFile-from_run views old new before now said status ran = λ command has.
-    elim (run_of views old new before now said command refuses status has ran) [
+MissesFile-from_run views old new before now said status ran = λ work has.
+    elim (run_of views old new before now said (OverFarm has.farm work) status has.asked ran) [
       | inl none ↦ inl none
       | inr (inl refused) ↦ inr refused.status_is
       | inr (inr over) ↦ absurd (rw (has.files, has.there) at over.file.could)
+    ]
+
+pub CompletesSigning-from_run : {F C N T I : Type 0} (views : Views F C N T I) (old new : Lendings F C N T I) (before now : ℕ) (said : Option Command) (status : Status)
+    → Ran views old new before now said status → CompletesSigning views old new said status
+CompletesSigning-from_run {F} {C} views old new before now said status ran = λ signing console asked ready well.
+    elim (run_of views old new before now said (Sign signing) status asked ran) [
+      | inl none ↦ inl none
+      | inr signed ↦ elim (is_memory status) [
+        | inl none ↦ inl none
+        | inr some ↦ inr (
+            let used = signed.used in
+            let given = rw ready at used.console.could in
+            let came_back = rw ready at used.console.returned in
+            finishes_signing views new signing signing.content_type status console used.back some came_back well
+            (subst (λ (x : C). Signs signing (talk_of views x) (talk_of views used.back) status) given used.did)
+            )
+      ]
     ]
 
 -- words without a reading

@@ -1,18 +1,12 @@
 -- An input has one expansion, or it is refused.
-use Rattle.std.proofs.Common.{◌≡◌, ℕ, ◌∙◌, List, Option, Some, None, inl, inr, ap, sym, subst, arith}
-use Rattle.std.specs.Prelude.{IfSome}
-use Rattle.std.specs.Io.KnownBytes.{IsAtEnd}
+use Rattle.std.proofs.Common.{◌≡◌, ℕ, ◌∙◌, List, inl, inr, ap, sym, subst, arith}
 use Rattle.scope_lines.specs.declared.lines.LineFault.TheVariants.{BadLine, NoMemory}
 use Rattle.scope_lines.specs.Lines.{lines_text}
 use Rattle.scope_lines.proofs.LineLemmas.{lines_are_one, says_not_refused}
 use Rattle.role_expand.specs.Roles.{RoleData}
 use Rattle.role_expand.specs.Closures.{IsClosure, HasMoreDerivable}
 use Rattle.role_expand.proofs.SetLemmas.{closure_is_one, closure_or_more}
-use Rattle.farm_cli.specs.Expanding.{most_scopes, HasScopes, IsExpansion, IsBadInput, Expands}
-use Rattle.http_wire.specs.Calls.{LinkState}
-use Rattle.farm_cli.specs.Writing.{SameReads, SameWrites, WritesText}
-use Rattle.farm_cli.specs.declared.status.Status.{Status}
-use Rattle.farm_cli.specs.declared.status.Status.TheVariants.{Done, Usage, FarmFile, Input, Opening, Read, Write, NoMemory as OutOfMemory, Wire}
+use Rattle.farm_cli.specs.Expanding.{most_scopes, HasScopes, IsExpansion, IsBadInput}
 
 scopes_are_one : (input : List ℕ) (a b : List (List ℕ)) → HasScopes input a → HasScopes input b → a ≡ b
 scopes_are_one input a b first second = lines_are_one input a b first.says.in_text second.says.in_text
@@ -35,26 +29,3 @@ expansion_not_refused roles input text is (inr (inl bad)) =
 expansion_not_refused roles input text is (inr (inr many)) =
     let same = scopes_are_one input many.scopes is.scopes many.lines is.lines in
     closure_or_more most_scopes roles is.scopes is.set is.closure (subst (λ scopes. HasMoreDerivable most_scopes roles scopes) same many.many)
-
--- all that was left was read, and this is its expansion
-held_expansion : (left : Option (List ℕ)) (roles : List RoleData) (input text : List ℕ) → IfSome left (λ all. input ≡ all) → IsExpansion roles input text
-    → IfSome left (λ all. IsExpansion roles all text)
-held_expansion None roles input text all is = tt
-held_expansion (Some bytes) roles input text all is = subst (λ i. IsExpansion roles i text) all is
-
--- an input was read to its end, and then its expansion was written
-pub Expands-written : (roles : List RoleData) (before between after : LinkState) (input text : List ℕ) (status : Status)
-    → IfSome before.left (λ all. input ≡ all) → IsExpansion roles input text → IsAtEnd between.left
-    → between.read_faults ≡ before.read_faults → SameWrites before between → SameReads between after
-    → WritesText between after text status → Expands roles before after status
-Expands-written roles before between after input text Done all is end reads same kept writes =
-    (text, held_expansion before.left roles input text all is, rw kept.left end, kept.faults ∙ reads, rw (same.written, same.faults) at writes)
-Expands-written roles before between after input text Write all is end reads same kept writes =
-    (text, held_expansion before.left roles input text all is, rw kept.left end, kept.faults ∙ reads, rw (same.written, same.faults) at writes)
-Expands-written roles before between after input text Usage all is end reads same kept writes = absurd writes
-Expands-written roles before between after input text FarmFile all is end reads same kept writes = absurd writes
-Expands-written roles before between after input text Input all is end reads same kept writes = absurd writes
-Expands-written roles before between after input text Opening all is end reads same kept writes = absurd writes
-Expands-written roles before between after input text Read all is end reads same kept writes = absurd writes
-Expands-written roles before between after input text OutOfMemory all is end reads same kept writes = absurd writes
-Expands-written roles before between after input text Wire all is end reads same kept writes = absurd writes

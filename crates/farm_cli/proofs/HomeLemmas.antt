@@ -1,8 +1,10 @@
 -- All that a run asked for is home again.
 use Rattle.std.proofs.Common.{◌≡◌, ℕ, List, Option, refl, sym, ◌∙◌, inl, inr}
 use Rattle.command_line.specs.declared.command.Command.{Command}
-use Rattle.command_line.specs.declared.command.Command.TheVariants.{Answer, Expand, Check}
-use Rattle.command_line.specs.Words.{farm_of}
+use Rattle.command_line.specs.declared.command.Command.TheVariants.{OverFarm, Sign}
+use Rattle.command_line.specs.declared.command.Work.{Work}
+use Rattle.command_line.specs.declared.command.Work.TheVariants.{Answer, Expand, Check}
+use Rattle.command_line.specs.declared.signing.Signing.{Signing}
 use Rattle.farm_machine.specs.declared.config.Config.{Config}
 use Rattle.farm_cli.specs.declared.lending.Lending.{Lending}
 use Rattle.farm_cli.specs.declared.lending.Lending.TheVariants.{Ready, Out, Back, Untold}
@@ -65,30 +67,32 @@ ConsoleHome-used views old new Did used = record {
   draws = IsHome-same old.draws new.draws used.draws;
 }
 
-ConsoleHome-obeyed : {F C N T I : Type 0} (views : Views F C N T I) (old new : Lendings F C N T I) (config : Config) (command : Command) (status : Status) → Obeyed views old new config command status → ConsoleHome old new
-ConsoleHome-obeyed views old new config (Answer farm) status ran = record {
+ConsoleHome-obeyed : {F C N T I : Type 0} (views : Views F C N T I) (old new : Lendings F C N T I) (config : Config) (work : Work) (status : Status) → Obeyed views old new config work status → ConsoleHome old new
+ConsoleHome-obeyed views old new config Answer status ran = record {
   console = IsHome-lent old.console new.console ran.console_given ran.console_back ran.console;
   clock = IsHome-lent old.clock new.clock ran.clock_given ran.clock_back ran.clock;
   draws = IsHome-lent old.draws new.draws ran.draws_given ran.draws_back ran.draws;
 }
-ConsoleHome-obeyed views old new config (Expand farm) status used = ConsoleHome-used views old new _ used
-ConsoleHome-obeyed views old new config (Check farm) status used = ConsoleHome-used views old new _ used
+ConsoleHome-obeyed views old new config Expand status used = ConsoleHome-used views old new _ used
+ConsoleHome-obeyed views old new config Check status used = ConsoleHome-used views old new _ used
 
-ConsoleHome-over : {F C N T I : Type 0} (views : Views F C N T I) (old new : Lendings F C N T I) (command : Command) (opened closed : F) (status : Status) → RanOverFile views old new command opened closed status → ConsoleHome old new
-ConsoleHome-over views old new command opened closed status (inl ran) = ConsoleHome-obeyed views old new ran.0 command status ran.3
-ConsoleHome-over views old new command opened closed status (inr ran) = ConsoleHome-left old new ran.1
+ConsoleHome-over : {F C N T I : Type 0} (views : Views F C N T I) (old new : Lendings F C N T I) (work : Work) (opened closed : F) (status : Status) → RanOverFile views old new work opened closed status → ConsoleHome old new
+ConsoleHome-over views old new work opened closed status (inl ran) = ConsoleHome-obeyed views old new ran.0 work status ran.3
+ConsoleHome-over views old new work opened closed status (inr ran) = ConsoleHome-left old new ran.1
 
 ConsoleHome-command : {F C N T I : Type 0} (views : Views F C N T I) (old new : Lendings F C N T I) (before now : ℕ) (command : Command) (status : Status) → RanCommand views old new before now command status → ConsoleHome old new
-ConsoleHome-command views old new before now command status (inl ran) = ConsoleHome-left old new ran.others
-ConsoleHome-command views old new before now command status (inr ran) = ConsoleHome-over views old new command ran.opened ran.closed status ran.ran
+ConsoleHome-command views old new before now (OverFarm farm work) status (inl ran) = ConsoleHome-left old new ran.others
+ConsoleHome-command views old new before now (OverFarm farm work) status (inr ran) = ConsoleHome-over views old new work ran.opened ran.closed status ran.ran
+ConsoleHome-command views old new before now (Sign signing) status ran = ConsoleHome-used views old new _ ran.used
 
 ConsoleHome-ran : {F C N T I : Type 0} (views : Views F C N T I) (old new : Lendings F C N T I) (before now : ℕ) (said : Option Command) (status : Status) → Ran views old new before now said status → ConsoleHome old new
 ConsoleHome-ran views old new before now said status (inl ran) = ConsoleHome-left old new ran.others
 ConsoleHome-ran views old new before now said status (inr ran) = ConsoleHome-command views old new before now ran.0 status ran.2
 
 AreHome-command : {F C N T I : Type 0} (views : Views F C N T I) (old new : Lendings F C N T I) (before now : ℕ) (command : Command) (status : Status) → RanCommand views old new before now command status → AreHome old.file new.file
-AreHome-command views old new before now command status (inl ran) = AreHome-same old.file new.file ran.file
-AreHome-command views old new before now command status (inr ran) = AreHome-opened old.file new.file (farm_of command) ran.opened ran.closed ran.file
+AreHome-command views old new before now (OverFarm farm work) status (inl ran) = AreHome-same old.file new.file ran.file
+AreHome-command views old new before now (OverFarm farm work) status (inr ran) = AreHome-opened old.file new.file farm ran.opened ran.closed ran.file
+AreHome-command views old new before now (Sign signing) status ran = AreHome-same old.file new.file ran.file
 
 AreHome-ran : {F C N T I : Type 0} (views : Views F C N T I) (old new : Lendings F C N T I) (before now : ℕ) (said : Option Command) (status : Status) → Ran views old new before now said status → AreHome old.file new.file
 AreHome-ran views old new before now said status (inl ran) = AreHome-same old.file new.file ran.file

@@ -2,6 +2,7 @@ pub mod CompleteLemmas
 pub mod FarmFileLemmas
 pub mod ExpansionLemmas
 mod HomeLemmas
+mod InputLemmas
 mod NoteLemmas
 pub mod ReasonLemmas
 pub mod RunLemmas

@@ -1,12 +1,15 @@
 -- A run has the reason of its status.
-use Rattle.std.proofs.Common.{◌≡◌, ℕ, ◌⊎◌, List, Option, Some, None, refl, inl, inr}
+use Rattle.std.proofs.Common.{◌≡◌, ℕ, ◌≤◌, ◌⊎◌, List, length, Option, Some, None, refl, inl, inr}
 use Rattle.std.specs.Prelude.{IfSome}
-use Rattle.command_line.specs.Words.{farm_of}
 use Rattle.command_line.specs.declared.command.Command.{Command}
-use Rattle.command_line.specs.declared.command.Command.TheVariants.{Answer, Expand, Check}
+use Rattle.command_line.specs.declared.command.Command.TheVariants.{OverFarm, Sign}
+use Rattle.command_line.specs.declared.command.Work.{Work}
+use Rattle.command_line.specs.declared.command.Work.TheVariants.{Answer, Expand, Check}
+use Rattle.command_line.specs.declared.signing.Signing.{Signing}
 use Rattle.farm_machine.specs.declared.config.Config.{Config}
 use Rattle.role_expand.specs.Roles.{RoleData}
 use Rattle.http_wire.specs.declared.message.Message.{Message}
+use Rattle.http_wire.specs.Calls.{LinkState}
 use Rattle.farm_server.specs.Served.{messages_of, EndsAs, IsCaused}
 use Rattle.farm_server.specs.declared.served.TheConstants.{REQUESTS}
 use Rattle.farm_server.specs.declared.served.Served.{Served}
@@ -17,33 +20,41 @@ use Rattle.farm_cli.specs.Checking.{Checks}
 use Rattle.farm_cli.specs.Expanding.{IsExpansion, Expands}
 use Rattle.farm_cli.specs.FarmFile.{SetsUp, FileRefused}
 use Rattle.farm_cli.specs.House.{WasLent, WasOpened, Lendings}
-use Rattle.farm_cli.specs.Reasons.{FileLent, FileTaken, EndsWith, IsDone, IsRefused, IsCut, HasReason}
+use Rattle.farm_cli.specs.Inputs.{longest_input}
+use Rattle.farm_cli.specs.Reasons.{FileLent, FileTaken, SigningTaken, ConsoleFailed, EndsWith, IsDone, IsRefused, IsCut, IsSigningDone, IsSigningRefused, IsSigningUnread, HasReason}
 use Rattle.farm_cli.specs.Run.{Obeyed, RanOverFile, RanCommand, Ran}
 use Rattle.farm_cli.specs.Serving.{status_of, Conversed}
+use Rattle.farm_cli.specs.Signing.{IsSigned, Signs, SignsAs}
 use Rattle.farm_cli.specs.Views.{Views, outside_of, talk_of}
 
 -- a farm file was taken, and this command was obeyed over it
-record Taken {F C N T I : Type 0} (views : Views F C N T I) (old new : Lendings F C N T I) (before now : ℕ) (said : Option Command) (config : Config) (command : Command) : Type 0 where
+record Taken {F C N T I : Type 0} (views : Views F C N T I) (old new : Lendings F C N T I) (before now : ℕ) (said : Option Command) (config : Config) (farm : List ℕ) (work : Work) : Type 0 where
   openings : now ≡ before
-  asked : said ≡ Some command
+  asked : said ≡ Some (OverFarm farm work)
   opened : F
   closed : F
-  file : WasOpened old.file new.file (farm_of command) opened closed
+  file : WasOpened old.file new.file farm opened closed
   sets_up : IfSome (views.file_left opened) (λ bytes. SetsUp bytes config)
   reads_kept : views.file_faults closed ≡ views.file_faults opened
 
-FileTaken-from : {F C N T I : Type 0} (views : Views F C N T I) (old new : Lendings F C N T I) (before now : ℕ) (said : Option Command) (config : Config) (command : Command) (IsSo : Config → Command → Type 0)
-    → Taken views old new before now said config command → IsSo config command → (now ≡ before) × FileTaken views old new said IsSo
-FileTaken-from views old new before now said config command IsSo taken so = (
+FileTaken-from : {F C N T I : Type 0} (views : Views F C N T I) (old new : Lendings F C N T I) (before now : ℕ) (said : Option Command) (config : Config) (farm : List ℕ) (work : Work) (IsSo : Config → Work → Type 0)
+    → Taken views old new before now said config farm work → IsSo config work → (now ≡ before) × FileTaken views old new said IsSo
+FileTaken-from views old new before now said config farm work IsSo taken so = (
   taken.openings,
   record {
-    lent = record { command = command; asked = taken.asked; opened = taken.opened; closed = taken.closed; file = taken.file };
+    lent = record { farm = farm; work = work; asked = taken.asked; opened = taken.opened; closed = taken.closed; file = taken.file };
     config = config;
     sets_up = taken.sets_up;
     reads_kept = taken.reads_kept;
     is_so = so;
   },
 )
+
+-- the same, where it may also be that a request was to be signed
+FileTaken-or : {F C N T I : Type 0} (views : Views F C N T I) (old new : Lendings F C N T I) (before now : ℕ) (said : Option Command) (config : Config) (farm : List ℕ) (work : Work) (IsSo : Config → Work → Type 0) (Other : Signing → Type 0)
+    → Taken views old new before now said config farm work → IsSo config work → (now ≡ before) × (FileTaken views old new said IsSo ⊎ SigningTaken old new said Other)
+FileTaken-or views old new before now said config farm work IsSo Other taken so =
+    let file = FileTaken-from views old new before now said config farm work IsSo taken so in (file.0, inl file.1)
 
 -- the list of the messages ends so, where the bytes are known
 ends_with : (left : Option (List ℕ)) (messages : List Message) (served : Served) → IfSome left (λ bytes. EndsAs REQUESTS bytes messages served)
@@ -53,26 +64,26 @@ ends_with (Some bytes) messages served ends = record { messages = messages; serv
 
 -- a connection that ended so has the reason of its status
 HasReason-served : {F C N T I : Type 0} (views : Views F C N T I) (old new : Lendings F C N T I) (before now : ℕ) (said : Option Command) (config : Config) (farm : List ℕ) (given back : C) (clock clock' : T) (draws draws' : I) (messages : List Message) (served : Served)
-    → Taken views old new before now said config (Answer farm) → WasLent old.console new.console given back
+    → Taken views old new before now said config farm Answer → WasLent old.console new.console given back
     → IfSome (views.console_left given) (λ bytes. EndsAs REQUESTS bytes messages served)
     → IsCaused (outside_of views given clock draws) (outside_of views back clock' draws') served
     → HasReason views old new before now said (status_of served)
 HasReason-served views old new before now said config farm given back clock clock' draws draws' messages served.Closed taken lent ends cause =
-    FileTaken-from views old new before now said config (Answer farm) (IsDone views old new) taken (record { given = given; back = back; lent = lent; reads_kept = cause.0; writes_kept = cause.1; held = ends_with (views.console_left given) messages served.Closed ends })
+    FileTaken-or views old new before now said config farm Answer (IsDone views old new) _ taken (record { given = given; back = back; lent = lent; reads_kept = cause.0; writes_kept = cause.1; held = ends_with (views.console_left given) messages served.Closed ends })
 HasReason-served views old new before now said config farm given back clock clock' draws draws' messages served.Full taken lent ends cause =
-    FileTaken-from views old new before now said config (Answer farm) (IsDone views old new) taken (record { given = given; back = back; lent = lent; reads_kept = cause.0; writes_kept = cause.1; held = ends_with (views.console_left given) messages served.Full ends })
+    FileTaken-or views old new before now said config farm Answer (IsDone views old new) _ taken (record { given = given; back = back; lent = lent; reads_kept = cause.0; writes_kept = cause.1; held = ends_with (views.console_left given) messages served.Full ends })
 HasReason-served views old new before now said config farm given back clock clock' draws draws' messages served.EndedInside taken lent ends cause =
-    FileTaken-from views old new before now said config (Answer farm) (IsCut views old new) taken (record { given = given; back = back; lent = lent; reads_kept = cause.0; writes_kept = cause.1; held = ends_with (views.console_left given) messages served.EndedInside ends })
+    FileTaken-from views old new before now said config farm Answer (IsCut views old new) taken (record { given = given; back = back; lent = lent; reads_kept = cause.0; writes_kept = cause.1; held = ends_with (views.console_left given) messages served.EndedInside ends })
 HasReason-served views old new before now said config farm given back clock clock' draws draws' messages (served.WireFault reason) taken lent ends cause =
-    FileTaken-from views old new before now said config (Answer farm) (IsCut views old new) taken (record { given = given; back = back; lent = lent; reads_kept = cause.0; writes_kept = cause.1; held = ends_with (views.console_left given) messages (served.WireFault reason) ends })
+    FileTaken-from views old new before now said config farm Answer (IsCut views old new) taken (record { given = given; back = back; lent = lent; reads_kept = cause.0; writes_kept = cause.1; held = ends_with (views.console_left given) messages (served.WireFault reason) ends })
 HasReason-served views old new before now said config farm given back clock clock' draws draws' messages served.ReadFault taken lent ends cause =
-    let failed = FileTaken-from views old new before now said config (Answer farm) _ taken (record { given = given; back = back; lent = lent; rose = cause.0; kept = cause.1 }) in (failed.0, inr failed.1)
+    let failed = FileTaken-from views old new before now said config farm Answer _ taken (record { given = given; back = back; lent = lent; rose = cause.0; kept = cause.1 }) in (failed.0, inr (inl failed.1))
 HasReason-served views old new before now said config farm given back clock clock' draws draws' messages served.WriteFault taken lent ends cause =
-    FileTaken-from views old new before now said config (Answer farm) _ taken (record { given = given; back = back; lent = lent; rose = cause.0; kept = cause.1 })
+    FileTaken-or views old new before now said config farm Answer _ _ taken (record { given = given; back = back; lent = lent; rose = cause.0; kept = cause.1 })
 HasReason-served views old new before now said config farm given back clock clock' draws draws' messages served.NoMemory taken lent ends cause = tt
 
 HasReason-conversed : {F C N T I : Type 0} (views : Views F C N T I) (old new : Lendings F C N T I) (before now : ℕ) (said : Option Command) (config : Config) (farm : List ℕ) (status : Status)
-    → Taken views old new before now said config (Answer farm) → Conversed views old new config status → HasReason views old new before now said status
+    → Taken views old new before now said config farm Answer → Conversed views old new config status → HasReason views old new before now said status
 HasReason-conversed views old new before now said config farm status taken ran =
     rw ran.status_is (HasReason-served views old new before now said config farm ran.console_given ran.console_back ran.clock_given ran.clock_back ran.draws_given ran.draws_back (messages_of ran.asks) ran.served taken ran.console ran.spoke.taken ran.spoke.cause)
 
@@ -84,20 +95,20 @@ has_expansion (Some input) roles text h = (text, h)
 
 -- an expansion that ended so has the reason of its status
 HasReason-expanded : {F C N T I : Type 0} (views : Views F C N T I) (old new : Lendings F C N T I) (before now : ℕ) (said : Option Command) (config : Config) (farm : List ℕ) (given back : C) (status : Status)
-    → Taken views old new before now said config (Expand farm) → WasLent old.console new.console given back
+    → Taken views old new before now said config farm Expand → WasLent old.console new.console given back
     → Expands config.roles (talk_of views given) (talk_of views back) status → HasReason views old new before now said status
 HasReason-expanded views old new before now said config farm given back Done taken lent did =
-    FileTaken-from views old new before now said config (Expand farm) (IsDone views old new) taken (record { given = given; back = back; lent = lent; reads_kept = did.3; writes_kept = did.4.1; held = has_expansion (views.console_left given) config.roles did.0 did.1 })
+    FileTaken-or views old new before now said config farm Expand (IsDone views old new) _ taken (record { given = given; back = back; lent = lent; reads_kept = did.3; writes_kept = did.4.1; held = has_expansion (views.console_left given) config.roles did.0 did.1 })
 HasReason-expanded views old new before now said config farm given back Usage taken lent did = absurd did.4
 HasReason-expanded views old new before now said config farm given back FarmFile taken lent did = absurd did.4
 HasReason-expanded views old new before now said config farm given back Opening taken lent did = absurd did.4
 HasReason-expanded views old new before now said config farm given back Wire taken lent did = absurd did.4
 HasReason-expanded views old new before now said config farm given back Input taken lent did =
-    FileTaken-from views old new before now said config (Expand farm) (IsRefused views old new) taken (record { given = given; back = back; lent = lent; reads_kept = did.1; writes_kept = did.2.faults; held = did.0 })
+    FileTaken-or views old new before now said config farm Expand (IsRefused views old new) _ taken (record { given = given; back = back; lent = lent; reads_kept = did.1; writes_kept = did.2.faults; held = did.0 })
 HasReason-expanded views old new before now said config farm given back Read taken lent did =
-    let failed = FileTaken-from views old new before now said config (Expand farm) _ taken (record { given = given; back = back; lent = lent; rose = did.0; kept = did.1.faults }) in (failed.0, inr failed.1)
+    let failed = FileTaken-from views old new before now said config farm Expand _ taken (record { given = given; back = back; lent = lent; rose = did.0; kept = did.1.faults }) in (failed.0, inr (inl failed.1))
 HasReason-expanded views old new before now said config farm given back Write taken lent did =
-    FileTaken-from views old new before now said config (Expand farm) _ taken (record { given = given; back = back; lent = lent; rose = did.4.1; kept = did.3 })
+    FileTaken-or views old new before now said config farm Expand _ _ taken (record { given = given; back = back; lent = lent; rose = did.4.1; kept = did.3 })
 HasReason-expanded views old new before now said config farm given back NoMemory taken lent did = tt
 
 -- whatever was there to read
@@ -107,10 +118,10 @@ anything (Some bytes) = tt
 
 -- a count that ended so has the reason of its status
 HasReason-checked : {F C N T I : Type 0} (views : Views F C N T I) (old new : Lendings F C N T I) (before now : ℕ) (said : Option Command) (config : Config) (farm : List ℕ) (given back : C) (status : Status)
-    → Taken views old new before now said config (Check farm) → WasLent old.console new.console given back
+    → Taken views old new before now said config farm Check → WasLent old.console new.console given back
     → Checks config (talk_of views given) (talk_of views back) status → HasReason views old new before now said status
 HasReason-checked views old new before now said config farm given back Done taken lent did =
-    FileTaken-from views old new before now said config (Check farm) (IsDone views old new) taken (record { given = given; back = back; lent = lent; reads_kept = did.0.faults; writes_kept = did.1.1; held = anything (views.console_left given) })
+    FileTaken-or views old new before now said config farm Check (IsDone views old new) _ taken (record { given = given; back = back; lent = lent; reads_kept = did.0.faults; writes_kept = did.1.1; held = anything (views.console_left given) })
 HasReason-checked views old new before now said config farm given back Usage taken lent did = absurd did.1
 HasReason-checked views old new before now said config farm given back FarmFile taken lent did = absurd did.1
 HasReason-checked views old new before now said config farm given back Input taken lent did = absurd did.1
@@ -118,15 +129,15 @@ HasReason-checked views old new before now said config farm given back Opening t
 HasReason-checked views old new before now said config farm given back Read taken lent did = absurd did.1
 HasReason-checked views old new before now said config farm given back Wire taken lent did = absurd did.1
 HasReason-checked views old new before now said config farm given back Write taken lent did =
-    FileTaken-from views old new before now said config (Check farm) _ taken (record { given = given; back = back; lent = lent; rose = did.1.1; kept = did.0.faults })
+    FileTaken-or views old new before now said config farm Check _ _ taken (record { given = given; back = back; lent = lent; rose = did.1.1; kept = did.0.faults })
 HasReason-checked views old new before now said config farm given back NoMemory taken lent did = tt
 
-HasReason-obeyed : {F C N T I : Type 0} (views : Views F C N T I) (old new : Lendings F C N T I) (before now : ℕ) (said : Option Command) (config : Config) (command : Command) (status : Status)
-    → Taken views old new before now said config command → Obeyed views old new config command status → HasReason views old new before now said status
-HasReason-obeyed views old new before now said config (Answer farm) status taken ran = HasReason-conversed views old new before now said config farm status taken ran
-HasReason-obeyed views old new before now said config (Expand farm) status taken ran =
+HasReason-obeyed : {F C N T I : Type 0} (views : Views F C N T I) (old new : Lendings F C N T I) (before now : ℕ) (said : Option Command) (config : Config) (farm : List ℕ) (work : Work) (status : Status)
+    → Taken views old new before now said config farm work → Obeyed views old new config work status → HasReason views old new before now said status
+HasReason-obeyed views old new before now said config farm Answer status taken ran = HasReason-conversed views old new before now said config farm status taken ran
+HasReason-obeyed views old new before now said config farm Expand status taken ran =
     HasReason-expanded views old new before now said config farm ran.given ran.back status taken ran.console ran.did
-HasReason-obeyed views old new before now said config (Check farm) status taken ran =
+HasReason-obeyed views old new before now said config farm Check status taken ran =
     HasReason-checked views old new before now said config farm ran.given ran.back status taken ran.console ran.did
 
 -- a farm file that was not taken
@@ -142,19 +153,104 @@ HasReason-refused views old new before now said lent FarmFile openings why = (op
 HasReason-refused views old new before now said lent Read openings why = (openings, inl (record { lent = lent; rose = why }))
 HasReason-refused views old new before now said lent NoMemory openings why = tt
 
-HasReason-over : {F C N T I : Type 0} (views : Views F C N T I) (old new : Lendings F C N T I) (before now : ℕ) (said : Option Command) (command : Command) (opened closed : F) (status : Status)
-    → now ≡ before → said ≡ Some command → WasOpened old.file new.file (farm_of command) opened closed → RanOverFile views old new command opened closed status
+HasReason-over : {F C N T I : Type 0} (views : Views F C N T I) (old new : Lendings F C N T I) (before now : ℕ) (said : Option Command) (farm : List ℕ) (work : Work) (opened closed : F) (status : Status)
+    → now ≡ before → said ≡ Some (OverFarm farm work) → WasOpened old.file new.file farm opened closed → RanOverFile views old new work opened closed status
     → HasReason views old new before now said status
-HasReason-over views old new before now said command opened closed status openings asked file (inl ran) =
-    HasReason-obeyed views old new before now said ran.0 command status (record { openings = openings; asked = asked; opened = opened; closed = closed; file = file; sets_up = ran.1; reads_kept = ran.2 }) ran.3
-HasReason-over views old new before now said command opened closed status openings asked file (inr ran) =
-    HasReason-refused views old new before now said (record { command = command; asked = asked; opened = opened; closed = closed; file = file }) status openings ran.0
+HasReason-over views old new before now said farm work opened closed status openings asked file (inl ran) =
+    HasReason-obeyed views old new before now said ran.0 farm work status (record { openings = openings; asked = asked; opened = opened; closed = closed; file = file; sets_up = ran.1; reads_kept = ran.2 }) ran.3
+HasReason-over views old new before now said farm work opened closed status openings asked file (inr ran) =
+    HasReason-refused views old new before now said (record { farm = farm; work = work; asked = asked; opened = opened; closed = closed; file = file }) status openings ran.0
+
+-- ---- a request is signed
+
+-- what is known of its run
+record Signed {F C N T I : Type 0} (old new : Lendings F C N T I) (before now : ℕ) (said : Option Command) (signing : Signing) (given back : C) : Type 0 where
+  openings : now ≡ before
+  asked : said ≡ Some (Sign signing)
+  file : new.file ≡ old.file
+  lent : WasLent old.console new.console given back
+
+SigningTaken-from : {F C N T I : Type 0} (old new : Lendings F C N T I) (before now : ℕ) (said : Option Command) (signing : Signing) (given back : C) (IsSo : Signing → Type 0)
+    → Signed old new before now said signing given back → IsSo signing → SigningTaken old new said IsSo
+SigningTaken-from old new before now said signing given back IsSo ran so = record { signing = signing; asked = ran.asked; file = ran.file; is_so = so }
+
+-- its body is not too long
+short_body : (left : Option (List ℕ)) (signing : Signing) (content_type text : List ℕ) → IfSome left (λ body. IsSigned signing content_type body text)
+    → IfSome left (λ body. length body ≤ longest_input)
+short_body None signing content_type text h = tt
+short_body (Some body) signing content_type text h = h.short
+
+module _ {F C N T I : Type 0} (views : Views F C N T I) (old new : Lendings F C N T I) (signing : Signing) (given back : C) (lent : WasLent old.console new.console given back) where
+  signing_done : (kind : Option (List ℕ)) → SignsAs signing kind (talk_of views given) (talk_of views back) Done → IsSigningDone views old new kind
+  signing_done None did = record { given = given; back = back; lent = lent; reads_kept = did.0.faults; writes_kept = did.1.1; held = anything (views.console_left given) }
+  signing_done (Some content_type) did = record {
+    given = given;
+    back = back;
+    lent = lent;
+    reads_kept = did.3;
+    writes_kept = did.4.1;
+    held = short_body (views.console_left given) signing content_type did.0 did.1;
+  }
+
+  signing_refused : (kind : Option (List ℕ)) → SignsAs signing kind (talk_of views given) (talk_of views back) Input → IsSigningRefused views old new kind
+  signing_refused None did = did.1
+  signing_refused (Some content_type) did = record { given = given; back = back; lent = lent; reads_kept = did.1; writes_kept = did.2.faults; held = did.0 }
+
+  signing_unread : (kind : Option (List ℕ)) → SignsAs signing kind (talk_of views given) (talk_of views back) Read → IsSigningUnread views old new kind
+  signing_unread None did = did.1
+  signing_unread (Some content_type) did = record { given = given; back = back; lent = lent; rose = did.0; kept = did.1.faults }
+
+  signing_unwritten : (kind : Option (List ℕ)) → SignsAs signing kind (talk_of views given) (talk_of views back) Write
+      → ConsoleFailed views.console_write_faults views.console_read_faults old new
+  signing_unwritten None did = record { given = given; back = back; lent = lent; rose = did.1.1; kept = did.0.faults }
+  signing_unwritten (Some content_type) did = record { given = given; back = back; lent = lent; rose = did.4.1; kept = did.3 }
+
+-- no other status ends it
+abbrev NeverSigns : Status → Type 0
+NeverSigns status = (signing : Signing) (kind : Option (List ℕ)) (before after : LinkState) → SignsAs signing kind before after status → ⊥
+
+never_usage : NeverSigns Usage
+never_usage signing None before after did = did.1
+never_usage signing (Some content_type) before after did = did.4
+
+never_farm_file : NeverSigns FarmFile
+never_farm_file signing None before after did = did.1
+never_farm_file signing (Some content_type) before after did = did.4
+
+never_opening : NeverSigns Opening
+never_opening signing None before after did = did.1
+never_opening signing (Some content_type) before after did = did.4
+
+never_wire : NeverSigns Wire
+never_wire signing None before after did = did.1
+never_wire signing (Some content_type) before after did = did.4
+
+HasReason-signed : {F C N T I : Type 0} (views : Views F C N T I) (old new : Lendings F C N T I) (before now : ℕ) (said : Option Command) (signing : Signing) (given back : C) (status : Status)
+    → Signed old new before now said signing given back → Signs signing (talk_of views given) (talk_of views back) status → HasReason views old new before now said status
+HasReason-signed views old new before now said signing given back Done ran did =
+    (ran.openings, inr (SigningTaken-from old new before now said signing given back _ ran (signing_done views old new signing given back ran.lent signing.content_type did)))
+HasReason-signed views old new before now said signing given back Usage ran did = absurd (never_usage signing signing.content_type _ _ did)
+HasReason-signed views old new before now said signing given back FarmFile ran did = absurd (never_farm_file signing signing.content_type _ _ did)
+HasReason-signed views old new before now said signing given back Input ran did =
+    (ran.openings, inr (SigningTaken-from old new before now said signing given back _ ran (signing_refused views old new signing given back ran.lent signing.content_type did)))
+HasReason-signed views old new before now said signing given back Opening ran did = absurd (never_opening signing signing.content_type _ _ did)
+HasReason-signed views old new before now said signing given back Read ran did =
+    (ran.openings, inr (inr (SigningTaken-from old new before now said signing given back _ ran (signing_unread views old new signing given back ran.lent signing.content_type did))))
+HasReason-signed views old new before now said signing given back Write ran did =
+    (ran.openings, inr (SigningTaken-from old new before now said signing given back _ ran (signing_unwritten views old new signing given back ran.lent signing.content_type did)))
+HasReason-signed views old new before now said signing given back NoMemory ran did = tt
+HasReason-signed views old new before now said signing given back Wire ran did = absurd (never_wire signing signing.content_type _ _ did)
+
+-- ---- a run
 
 HasReason-command : {F C N T I : Type 0} (views : Views F C N T I) (old new : Lendings F C N T I) (before now : ℕ) (said : Option Command) (command : Command) (status : Status)
     → said ≡ Some command → RanCommand views old new before now command status → HasReason views old new before now said status
-HasReason-command views old new before now said command status asked (inl ran) = rw ran.status_is ran.rose
-HasReason-command views old new before now said command status asked (inr ran) =
-    HasReason-over views old new before now said command ran.opened ran.closed status ran.openings asked ran.file ran.ran
+HasReason-command views old new before now said (OverFarm farm work) status asked (inl ran) = rw ran.status_is ran.rose
+HasReason-command views old new before now said (OverFarm farm work) status asked (inr ran) =
+    HasReason-over views old new before now said farm work ran.opened ran.closed status ran.openings asked ran.file ran.ran
+HasReason-command views old new before now said (Sign signing) status asked ran =
+    HasReason-signed views old new before now said signing ran.used.given ran.used.back status
+    (record { openings = ran.openings; asked = asked; file = ran.file; lent = ran.used.console }) ran.used.did
 
 HasReason-words : {F C N T I : Type 0} (views : Views F C N T I) (old new : Lendings F C N T I) (before now : ℕ) (said : Option Command) (status : Status)
     → (status ≡ NoMemory) ⊎ ((status ≡ Usage) × (said ≡ None)) → HasReason views old new before now said status

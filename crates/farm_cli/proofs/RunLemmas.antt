@@ -1,9 +1,11 @@
 -- What the calls of a run leave together.
-use Rattle.std.proofs.Common.{◌≡◌, ℕ, ◌+◌, List, [], Option, refl, sym, ◌∙◌, inl, inr}
+use Rattle.std.proofs.Common.{◌≡◌, ℕ, ◌+◌, List, [], Option, refl, sym, subst, ◌∙◌, inl, inr}
 use Rattle.history.specs.Asks.{AsksInTurn, LeadsAlone}
-use Rattle.command_line.specs.Words.{farm_of}
 use Rattle.command_line.specs.declared.command.Command.{Command}
-use Rattle.command_line.specs.declared.command.Command.TheVariants.{Answer, Expand, Check}
+use Rattle.command_line.specs.declared.command.Command.TheVariants.{OverFarm, Sign}
+use Rattle.command_line.specs.declared.command.Work.{Work}
+use Rattle.command_line.specs.declared.command.Work.TheVariants.{Answer, Expand, Check}
+use Rattle.command_line.specs.declared.signing.Signing.{Signing}
 use Rattle.farm_files.specs.declared.reading.TheConstants.{LONGEST_FILE}
 use Rattle.http_wire.specs.Whole.{piece_size, LosesWithin}
 use Rattle.farm_machine.specs.declared.config.Config.{Config}
@@ -14,7 +16,7 @@ use Rattle.farm_machine.specs.Step.{farm_rules}
 use Rattle.farm_machine.specs.declared.reply.Reply.{Reply}
 use Rattle.farm_server.specs.Served.{Ask, questions_of}
 use Rattle.farm_cli.specs.House.{CanGive, after_giving, after_return, WasLent, after_opened, after_closing, CanOpenAmong, Lendings}
-use Rattle.farm_cli.specs.Run.{LeavesConsole, UsedConsole, Obeyed, RanOverFile, RanCommand, Ran}
+use Rattle.farm_cli.specs.Run.{LeavesConsole, UsedConsole, Obeyed, RanOverFile, RanSigning, RanCommand, Ran}
 use Rattle.farm_cli.specs.Serving.{IsHistoryOf, Conversed}
 use Rattle.http_wire.specs.Calls.{LinkState}
 use Rattle.farm_cli.specs.Views.{Views}
@@ -92,11 +94,11 @@ UsedConsole-same views old old' new new' Did before after h = record {
   did = h.did;
 }
 
-pub Obeyed-same : {F C N T I : Type 0} (views : Views F C N T I) (old old' new new' : Lendings F C N T I) (config : Config) (command : Command) (status : Status)
-    → LeavesConsole old old' → LeavesConsole new new' → Obeyed views old new config command status → Obeyed views old' new' config command status
-Obeyed-same views old old' new new' config (Answer farm) status before after h = Conversed-same views old old' new new' config status before after h
-Obeyed-same views old old' new new' config (Expand farm) status before after h = UsedConsole-same views old old' new new' _ before after h
-Obeyed-same views old old' new new' config (Check farm) status before after h = UsedConsole-same views old old' new new' _ before after h
+pub Obeyed-same : {F C N T I : Type 0} (views : Views F C N T I) (old old' new new' : Lendings F C N T I) (config : Config) (work : Work) (status : Status)
+    → LeavesConsole old old' → LeavesConsole new new' → Obeyed views old new config work status → Obeyed views old' new' config work status
+Obeyed-same views old old' new new' config Answer status before after h = Conversed-same views old old' new new' config status before after h
+Obeyed-same views old old' new new' config Expand status before after h = UsedConsole-same views old old' new new' _ before after h
+Obeyed-same views old old' new new' config Check status before after h = UsedConsole-same views old old' new new' _ before after h
 
 LeavesConsole-same : {F C N T I : Type 0} (old old' new new' : Lendings F C N T I) → LeavesConsole old old' → LeavesConsole new new' → LeavesConsole old new → LeavesConsole old' new'
 LeavesConsole-same old old' new new' before after h = record {
@@ -108,45 +110,55 @@ LeavesConsole-same old old' new new' before after h = record {
 LeavesConsole-none : {F C N T I : Type 0} (old : Lendings F C N T I) → LeavesConsole old old
 LeavesConsole-none old = record { console = refl; clock = refl; draws = refl }
 
-RanOverFile-same : {F C N T I : Type 0} (views : Views F C N T I) (old old' new new' : Lendings F C N T I) (command : Command) (opened closed : F) (status : Status)
-    → LeavesConsole old old' → LeavesConsole new new' → RanOverFile views old new command opened closed status → RanOverFile views old' new' command opened closed status
-RanOverFile-same views old old' new new' command opened closed status before after (inl h) =
-    inl (h.0, h.1, h.2, Obeyed-same views old old' new new' h.0 command status before after h.3)
-RanOverFile-same views old old' new new' command opened closed status before after (inr h) = inr (h.0, LeavesConsole-same old old' new new' before after h.1)
+RanOverFile-same : {F C N T I : Type 0} (views : Views F C N T I) (old old' new new' : Lendings F C N T I) (work : Work) (opened closed : F) (status : Status)
+    → LeavesConsole old old' → LeavesConsole new new' → RanOverFile views old new work opened closed status → RanOverFile views old' new' work opened closed status
+RanOverFile-same views old old' new new' work opened closed status before after (inl h) =
+    inl (h.0, h.1, h.2, Obeyed-same views old old' new new' h.0 work status before after h.3)
+RanOverFile-same views old old' new new' work opened closed status before after (inr h) = inr (h.0, LeavesConsole-same old old' new new' before after h.1)
 
 -- a file was opened, and a command was run over it
-pub RanCommand-opened : {F C N T I : Type 0} (views : Views F C N T I) (old between new : Lendings F C N T I) (before now : ℕ) (command : Command) (file closed : F) (status : Status)
-    → now ≡ before → CanOpenAmong old.file (farm_of command) (Ok file) → between ≡ record old { file = after_opened old.file }
-    → new.file ≡ after_closing between.file closed → LosesWithin (LONGEST_FILE + piece_size) (views.file_left file) (views.file_left closed) → RanOverFile views between new command file closed status
-    → RanCommand views old new before now command status
-RanCommand-opened views old between new before now command file closed status openings could opens closes lost ran = inr (record {
+pub RanCommand-opened : {F C N T I : Type 0} (views : Views F C N T I) (old between new : Lendings F C N T I) (before now : ℕ) (farm : List ℕ) (work : Work) (file closed : F) (status : Status)
+    → now ≡ before → CanOpenAmong old.file farm (Ok file) → between ≡ record old { file = after_opened old.file }
+    → new.file ≡ after_closing between.file closed → LosesWithin (LONGEST_FILE + piece_size) (views.file_left file) (views.file_left closed) → RanOverFile views between new work file closed status
+    → RanCommand views old new before now (OverFarm farm work) status
+RanCommand-opened views old between new before now farm work file closed status openings could opens closes lost ran = inr (record {
   openings = openings;
   opened = file;
   closed = closed;
   file = record { could = could; returned = rw opens at closes };
   lost = lost;
-  ran = RanOverFile-same views between old new new command file closed status (record { console = rw opens refl; clock = rw opens refl; draws = rw opens refl }) (LeavesConsole-none new) ran;
+  ran = RanOverFile-same views between old new new work file closed status (record { console = rw opens refl; clock = rw opens refl; draws = rw opens refl }) (LeavesConsole-none new) ran;
 })
+
+-- a request was signed
+pub RanCommand-signed : {F C N T I : Type 0} (views : Views F C N T I) (old new : Lendings F C N T I) (before now : ℕ) (command : Command) (signing : Signing) (status : Status)
+    → command ≡ Sign signing → RanSigning views old new before now signing status → RanCommand views old new before now command status
+RanCommand-signed views old new before now command signing status is ran = subst (λ c. RanCommand views old new before now c status) (sym is) ran
 
 -- ---- a run is the same run where later only what is said of notes changes
 
 RanCommand-notes : {F C N T I : Type 0} (views : Views F C N T I) (old new new' : Lendings F C N T I) (before now : ℕ) (command : Command) (status : Status)
     → new'.file ≡ new.file → LeavesConsole new new' → RanCommand views old new before now command status → RanCommand views old new' before now command status
-RanCommand-notes views old new new' before now command status file after (inl h) = inl (record {
+RanCommand-notes views old new new' before now (OverFarm farm work) status file after (inl h) = inl (record {
   status_is = h.status_is;
   rose = h.rose;
   could = h.could;
   file = file ∙ h.file;
   others = LeavesConsole-same old old new new' (LeavesConsole-none old) after h.others;
 })
-RanCommand-notes views old new new' before now command status file after (inr h) = inr (record {
+RanCommand-notes views old new new' before now (OverFarm farm work) status file after (inr h) = inr (record {
   openings = h.openings;
   opened = h.opened;
   closed = h.closed;
   file = record { could = h.file.could; returned = file ∙ h.file.returned };
   lost = h.lost;
-  ran = RanOverFile-same views old old new new' command h.opened h.closed status (LeavesConsole-none old) after h.ran;
+  ran = RanOverFile-same views old old new new' work h.opened h.closed status (LeavesConsole-none old) after h.ran;
 })
+RanCommand-notes views old new new' before now (Sign signing) status file after h = record {
+  openings = h.openings;
+  file = file ∙ h.file;
+  used = UsedConsole-same views old old new new' _ (LeavesConsole-none old) after h.used;
+}
 
 pub Ran-notes : {F C N T I : Type 0} (views : Views F C N T I) (old new new' : Lendings F C N T I) (before now : ℕ) (said : Option Command) (status : Status)
     → new'.file ≡ new.file → LeavesConsole new new' → Ran views old new before now said status → Ran views old new' before now said status

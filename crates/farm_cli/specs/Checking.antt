@@ -4,9 +4,8 @@ use Rattle.farm_machine.specs.declared.config.Config.{Config}
 use Rattle.farm_machine.specs.declared.config.ConfigCounts.{ConfigCounts}
 use Rattle.farm_machine.specs.Config.{counts_of}
 use Rattle.farm_cli.specs.declared.status.Status.{Status}
-use Rattle.farm_cli.specs.declared.status.Status.TheVariants.{NoMemory}
 use Rattle.http_wire.specs.Calls.{LinkState}
-use Rattle.farm_cli.specs.Writing.{SameReads, SameWrites, WritesText}
+use Rattle.farm_cli.specs.Inputs.{Tells}
 
 -- the line of a farm file that breaks no rule and has these rows
 abbrev pub counts_text : ConfigCounts → List ℕ
@@ -19,5 +18,4 @@ check_text config = counts_text (counts_of config)
 
 -- what `check` did with a console, which it does not read, by the status that it ended with
 abbrev pub Checks : Config → LinkState → LinkState → Status → Type 0
-Checks config before after NoMemory = SameReads before after × SameWrites before after
-Checks config before after status = SameReads before after × WritesText before after (check_text config) status
+Checks config before after status = Tells (check_text config) before after status

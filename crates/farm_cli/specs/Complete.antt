@@ -2,9 +2,11 @@
 use Rattle.std.specs.Prelude.{◌≡◌, ℕ, ◌⊎◌, List, [], ◌++◌, Option, Some, None}
 use Rattle.std.specs.Io.KnownBytes.{Appends}
 use Rattle.causes.specs.Causes.{Rose}
-use Rattle.command_line.specs.Words.{farm_of}
 use Rattle.command_line.specs.declared.command.Command.{Command}
-use Rattle.command_line.specs.declared.command.Command.TheVariants.{Answer, Expand, Check}
+use Rattle.command_line.specs.declared.command.Command.TheVariants.{OverFarm, Sign}
+use Rattle.command_line.specs.declared.command.Work.{Work}
+use Rattle.command_line.specs.declared.command.Work.TheVariants.{Answer, Expand, Check}
+use Rattle.command_line.specs.declared.signing.Signing.{Signing}
 use Rattle.http_wire.specs.declared.message.Message.{Message}
 use Rattle.http_wire.specs.declared.message.Wire.{Wire as Reason}
 use Rattle.http_wire.specs.declared.message.Wire.TheVariants as wire
@@ -23,6 +25,7 @@ use Rattle.farm_cli.specs.Expanding.{IsExpansion, IsBadInput}
 use Rattle.farm_cli.specs.FarmFile.{SetsUp, HasFault}
 use Rattle.farm_cli.specs.House.{Held, holds, refuses, unopened, back, Lendings}
 use Rattle.farm_cli.specs.Serving.{IsHistoryOf}
+use Rattle.farm_cli.specs.Signing.{signed_line, IsSigned, IsTooLong}
 use Rattle.farm_cli.specs.Views.{Views}
 
 -- the status that a reason to stop calls for: an input that ends where a message would begin is read to its end
@@ -42,12 +45,13 @@ own_text (stopped reason) = wire_text reason
 own_text closed = []
 own_text full = []
 
--- the words ask for this command, and the house has this of its farm file, which was not opened yet
-pub record HasFile {F C N T I : Type 0} (old : Lendings F C N T I) (said : Option Command) (command : Command) (held : Held F) : Type 0 where
-  pub asked : said ≡ Some command
+-- the words ask for this work over a farm, and the house has this of its farm file, which was not opened yet
+pub record HasFile {F C N T I : Type 0} (old : Lendings F C N T I) (said : Option Command) (work : Work) (held : Held F) : Type 0 where
+  pub farm : List ℕ
+  pub asked : said ≡ Some (OverFarm farm work)
   pub at : List ℕ → Held F
   pub files : old.file ≡ unopened at
-  pub there : at (farm_of command) ≡ held
+  pub there : at farm ≡ held
 
 -- the count of refused openings did not rise, nor that of the farm file's reads
 pub record NoFileFault {F C N T I : Type 0} (views : Views F C N T I) (new : Lendings F C N T I) (before now : ℕ) (file : F) : Type 0 where
@@ -77,36 +81,50 @@ pub record WritesAll {F C N T I : Type 0} (views : Views F C N T I) (new : Lendi
   pub came_back : new.console ≡ Back console'
   pub written : Appends (views.console_written console) (views.console_written console') text
 
--- What a command has to do over a farm that is set up so, where the console is known and does not fail: `answer` answers each message, `expand`
+-- What work has to do over a farm that is set up so, where the console is known and does not fail: `answer` answers each message, `expand`
 -- writes the expansion of its input or refuses it, `check` writes its line.
-abbrev pub Finishes : {F C N T I : Type 0} → Views F C N T I → Lendings F C N T I → C → Config → Command → Status → Type 0
-Finishes views new console config (Answer farm) status =
+abbrev pub Finishes : {F C N T I : Type 0} → Views F C N T I → Lendings F C N T I → C → Config → Work → Status → Type 0
+Finishes views new console config Answer status =
     (bytes : List ℕ) (messages : List Message) (ending : Ending)
     → views.console_left console ≡ Some bytes → Messages REQUESTS bytes messages ending → AnswersAll views new console config messages ending status
-Finishes views new console config (Expand farm) status =
+Finishes views new console config Expand status =
     (input : List ℕ) → views.console_left console ≡ Some input
     → ((text : List ℕ) × IsExpansion config.roles input text × WritesAll views new console text status)
     ⊎ (IsBadInput config.roles input × (status ≡ Input))
-Finishes views new console config (Check farm) status = WritesAll views new console (check_text config) status
+Finishes views new console config Check status = WritesAll views new console (check_text config) status
 
--- Over a farm file that breaks no rule and a console that does not fail, a run finishes its command, or memory runs out.
+-- What `sign` has to do, by the content type, where the console is known and does not fail: it writes its line, or refuses a body that is too long.
+abbrev pub FinishesSigning : {F C N T I : Type 0} → Views F C N T I → Lendings F C N T I → C → Signing → Option (List ℕ) → Status → Type 0
+FinishesSigning views new console signing None status = WritesAll views new console (signed_line signing None) status
+FinishesSigning views new console signing (Some content_type) status =
+    (body : List ℕ) → views.console_left console ≡ Some body
+    → ((text : List ℕ) × IsSigned signing content_type body text × WritesAll views new console text status)
+    ⊎ (IsTooLong body × (status ≡ Input))
+
+-- Over a console that does not fail a run signs what its words ask for, or memory runs out.
+abbrev pub CompletesSigning : {F C N T I : Type 0} → Views F C N T I → Lendings F C N T I → Lendings F C N T I → Option Command → Status → Type 0
+CompletesSigning {F} {C} views old new said status =
+    (signing : Signing) (console : C) → said ≡ Some (Sign signing) → old.console ≡ Ready console → NoConsoleFault views new console
+    → (status ≡ NoMemory) ⊎ FinishesSigning views new console signing signing.content_type status
+
+-- Over a farm file that breaks no rule and a console that does not fail, a run finishes its work, or memory runs out.
 abbrev pub Completes : {F C N T I : Type 0} → Views F C N T I → Lendings F C N T I → Lendings F C N T I → ℕ → ℕ → Option Command → Status → Type 0
 Completes {F} {C} views old new before now said status =
-    (command : Command) (file : F) (bytes : List ℕ) (console : C)
-    → HasFile old said command (holds file) → views.file_left file ≡ Some bytes → ¬ HasFault bytes → NoFileFault views new before now file
+    (work : Work) (file : F) (bytes : List ℕ) (console : C)
+    → HasFile old said work (holds file) → views.file_left file ≡ Some bytes → ¬ HasFault bytes → NoFileFault views new before now file
     → old.console ≡ Ready console → NoConsoleFault views new console
-    → (status ≡ NoMemory) ⊎ ((config : Config) × SetsUp bytes config × Finishes views new console config command status)
+    → (status ≡ NoMemory) ⊎ ((config : Config) × SetsUp bytes config × Finishes views new console config work status)
 
 -- a farm file that breaks a rule is refused
 abbrev pub RefusesFile : {F C N T I : Type 0} → Views F C N T I → Lendings F C N T I → Lendings F C N T I → ℕ → ℕ → Option Command → Status → Type 0
 RefusesFile {F} views old new before now said status =
-    (command : Command) (file : F) (bytes : List ℕ)
-    → HasFile old said command (holds file) → views.file_left file ≡ Some bytes → HasFault bytes → NoFileFault views new before now file
+    (work : Work) (file : F) (bytes : List ℕ)
+    → HasFile old said work (holds file) → views.file_left file ≡ Some bytes → HasFault bytes → NoFileFault views new before now file
     → (status ≡ NoMemory) ⊎ (status ≡ FarmFile)
 
 -- a farm file that is not there cannot be opened
 abbrev pub MissesFile : {F C N T I : Type 0} → Lendings F C N T I → Option Command → Status → Type 0
-MissesFile old said status = (command : Command) → HasFile old said command refuses → (status ≡ NoMemory) ⊎ (status ≡ Opening)
+MissesFile old said status = (work : Work) → HasFile old said work refuses → (status ≡ NoMemory) ⊎ (status ≡ Opening)
 
 -- words without a reading are told so
 abbrev pub TellsUsage : Option Command → Status → Type 0

@@ -1,21 +1,13 @@
 -- What `expand` does: scopes come one a line, and all that they give goes out one a line (the Taskcluster reference, "Roles").
-use Rattle.std.specs.Prelude.{◌≡◌, ℕ, ◌+◌, ◌<◌, ◌≤◌, ◌⊎◌, List, length, IfSome}
-use Rattle.std.specs.Io.KnownBytes.{IsAtEnd}
-use Rattle.causes.specs.Causes.{Rose}
-use Rattle.http_wire.specs.Whole.{piece_size, LosesWithin}
+use Rattle.std.specs.Prelude.{◌≡◌, ℕ, ◌<◌, ◌≤◌, ◌⊎◌, List, length}
 use Rattle.scope_lines.specs.Lines.{lines_text, SaysScopes, RefusesLines}
 use Rattle.scope_lines.specs.declared.lines.LineFault.TheVariants.{BadLine}
 use Rattle.role_expand.specs.Roles.{RoleData}
 use Rattle.role_expand.specs.Closures.{IsClosure, HasMoreDerivable}
 use Rattle.farm_cli.specs.declared.status.Status.{Status}
-use Rattle.farm_cli.specs.declared.status.Status.TheVariants.{Input, Read, NoMemory}
+use Rattle.farm_cli.specs.declared.status.Status.TheVariants.{Input, NoMemory}
 use Rattle.http_wire.specs.Calls.{LinkState}
-use Rattle.farm_cli.specs.declared.expanding.TheConstants.{LONGEST_INPUT}
-use Rattle.farm_cli.specs.Writing.{SameWrites, WritesText}
-
--- the greatest number of bytes of an input
-abbrev pub longest_input : ℕ
-longest_input = LONGEST_INPUT
+use Rattle.farm_cli.specs.Inputs.{longest_input, Turns}
 
 -- the greatest number of scopes that an input may give
 abbrev pub most_scopes : ℕ
@@ -44,17 +36,9 @@ pub record GivesTooMany (roles : List RoleData) (input : List ℕ) : Type 0 wher
 abbrev pub IsBadInput : List RoleData → List ℕ → Type 0
 IsBadInput roles input = (longest_input < length input) ⊎ (((line : ℕ) × RefusesLines input (BadLine line)) ⊎ GivesTooMany roles input)
 
--- no more was read than one piece past the greatest length
-abbrev pub ReadsEnough : LinkState → LinkState → Type 0
-ReadsEnough before after = LosesWithin (longest_input + piece_size) before.left after.left
-
 -- What `expand` did with a console, by the status that it ended with: it read all that was to be read and wrote the expansion, or refused what it read.
 abbrev pub Expands : List RoleData → LinkState → LinkState → Status → Type 0
-Expands roles before after Input = IfSome before.left (IsBadInput roles) × (after.read_faults ≡ before.read_faults) × SameWrites before after × ReadsEnough before after
-Expands roles before after Read = Rose before.read_faults after.read_faults × SameWrites before after × ReadsEnough before after
-Expands roles before after NoMemory = (after.read_faults ≡ before.read_faults) × SameWrites before after × ReadsEnough before after
-Expands roles before after status =
-    (text : List ℕ) × IfSome before.left (λ input. IsExpansion roles input text) × IsAtEnd after.left × (after.read_faults ≡ before.read_faults) × WritesText before after text status
+Expands roles before after status = Turns (IsExpansion roles) (IsBadInput roles) before after status
 
 -- why an input that was read is not expanded; want of memory is free
 abbrev pub InputRefused : List RoleData → List ℕ → Status → Type 0

@@ -4,12 +4,14 @@ pub mod Expanding
 pub mod FarmFile
 pub mod Home
 pub mod House
+pub mod Inputs
 pub mod MemoryHouse
 pub mod Notes
 pub mod Reasons
 pub mod Run
 pub mod Runs
 pub mod Serving
+pub mod Signing
 pub mod Status
 pub mod Views
 pub mod Writing

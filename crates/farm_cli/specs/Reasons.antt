@@ -1,9 +1,11 @@
 -- Why a run ended with its status.
-use Rattle.std.specs.Prelude.{◌≡◌, ℕ, ◌⊎◌, List, Option, Some, None, IfSome}
+use Rattle.std.specs.Prelude.{◌≡◌, ℕ, ◌≤◌, ◌⊎◌, List, length, Option, Some, None, IfSome}
 use Rattle.causes.specs.Causes.{Rose}
-use Rattle.command_line.specs.Words.{farm_of}
 use Rattle.command_line.specs.declared.command.Command.{Command}
-use Rattle.command_line.specs.declared.command.Command.TheVariants.{Answer, Expand, Check}
+use Rattle.command_line.specs.declared.command.Command.TheVariants.{OverFarm, Sign}
+use Rattle.command_line.specs.declared.command.Work.{Work}
+use Rattle.command_line.specs.declared.command.Work.TheVariants.{Answer, Expand, Check}
+use Rattle.command_line.specs.declared.signing.Signing.{Signing}
 use Rattle.farm_machine.specs.declared.config.Config.{Config}
 use Rattle.http_wire.specs.declared.message.Message.{Message}
 use Rattle.farm_server.specs.Served.{EndsAs}
@@ -14,16 +16,19 @@ use Rattle.farm_cli.specs.declared.status.Status.TheVariants.{Done, Usage, FarmF
 use Rattle.farm_cli.specs.Expanding.{IsExpansion, IsBadInput}
 use Rattle.farm_cli.specs.FarmFile.{SetsUp, HasFault}
 use Rattle.farm_cli.specs.House.{WasLent, WasOpened, Lendings}
+use Rattle.farm_cli.specs.Inputs.{longest_input}
 use Rattle.farm_cli.specs.Serving.{status_of}
+use Rattle.farm_cli.specs.Signing.{IsTooLong}
 use Rattle.farm_cli.specs.Views.{Views}
 
 -- the farm file that the words name was opened and came back
 pub record FileLent {F C N T I : Type 0} (old new : Lendings F C N T I) (said : Option Command) : Type 0 where
-  pub command : Command
-  pub asked : said ≡ Some command
+  pub farm : List ℕ
+  pub work : Work
+  pub asked : said ≡ Some (OverFarm farm work)
   pub opened : F
   pub closed : F
-  pub file : WasOpened old.file new.file (farm_of command) opened closed
+  pub file : WasOpened old.file new.file farm opened closed
 
 -- the farm file breaks a rule, and no read of it failed
 pub record FileHasFault {F C N T I : Type 0} (views : Views F C N T I) (old new : Lendings F C N T I) (said : Option Command) : Type 0 where
@@ -36,13 +41,13 @@ pub record FileFailed {F C N T I : Type 0} (views : Views F C N T I) (old new : 
   pub lent : FileLent old new said
   pub rose : Rose (views.file_faults lent.opened) (views.file_faults lent.closed)
 
--- the farm file sets a farm up, no read of it failed, and this is so of that farm and of the command
-pub record FileTaken {F C N T I : Type 0} (views : Views F C N T I) (old new : Lendings F C N T I) (said : Option Command) (IsSo : Config → Command → Type 0) : Type 0 where
+-- the farm file sets a farm up, no read of it failed, and this is so of that farm and of the work
+pub record FileTaken {F C N T I : Type 0} (views : Views F C N T I) (old new : Lendings F C N T I) (said : Option Command) (IsSo : Config → Work → Type 0) : Type 0 where
   pub lent : FileLent old new said
   pub config : Config
   pub sets_up : IfSome (views.file_left lent.opened) (λ bytes. SetsUp bytes config)
   pub reads_kept : views.file_faults lent.closed ≡ views.file_faults lent.opened
-  pub is_so : IsSo config lent.command
+  pub is_so : IsSo config lent.work
 
 -- the console was lent and came back, this count of its faults rose, and the other is as it was
 pub record ConsoleFailed {F C N T I : Type 0} (faults others : C → ℕ) (old new : Lendings F C N T I) : Type 0 where
@@ -68,35 +73,63 @@ pub record EndsWith (bytes : List ℕ) (status : Status) : Type 0 where
   pub calls_for : status_of served ≡ status
   pub ends : EndsAs REQUESTS bytes messages served
 
--- a command is done: the messages of `answer` end well, the input of `expand` has an expansion
-abbrev pub IsDone : {F C N T I : Type 0} → Views F C N T I → Lendings F C N T I → Lendings F C N T I → Config → Command → Type 0
-IsDone views old new config (Answer farm) = ConsoleHeld views old new (λ bytes. EndsWith bytes Done)
-IsDone views old new config (Expand farm) = ConsoleHeld views old new (λ input. (text : List ℕ) × IsExpansion config.roles input text)
-IsDone views old new config (Check farm) = ConsoleHeld views old new (λ bytes. Unit {0})
+-- a request was to be signed, no farm file was asked for, and this is so of what was to be signed
+pub record SigningTaken {F C N T I : Type 0} (old new : Lendings F C N T I) (said : Option Command) (IsSo : Signing → Type 0) : Type 0 where
+  pub signing : Signing
+  pub asked : said ≡ Some (Sign signing)
+  pub file : new.file ≡ old.file
+  pub is_so : IsSo signing
+
+-- work over a farm is done: the messages of `answer` end well, the input of `expand` has an expansion
+abbrev pub IsDone : {F C N T I : Type 0} → Views F C N T I → Lendings F C N T I → Lendings F C N T I → Config → Work → Type 0
+IsDone views old new config Answer = ConsoleHeld views old new (λ bytes. EndsWith bytes Done)
+IsDone views old new config Expand = ConsoleHeld views old new (λ input. (text : List ℕ) × IsExpansion config.roles input text)
+IsDone views old new config Check = ConsoleHeld views old new (λ bytes. Unit {0})
+
+-- a request is signed: its body, if it has a content type, is not too long
+abbrev pub IsSigningDone : {F C N T I : Type 0} → Views F C N T I → Lendings F C N T I → Lendings F C N T I → Option (List ℕ) → Type 0
+IsSigningDone views old new None = ConsoleHeld views old new (λ bytes. Unit {0})
+IsSigningDone views old new (Some content_type) = ConsoleHeld views old new (λ body. length body ≤ longest_input)
+
+-- the body of a request is refused
+abbrev pub IsSigningRefused : {F C N T I : Type 0} → Views F C N T I → Lendings F C N T I → Lendings F C N T I → Option (List ℕ) → Type 0
+IsSigningRefused views old new None = ⊥
+IsSigningRefused views old new (Some content_type) = ConsoleHeld views old new IsTooLong
+
+-- reads of the console failed: that of a request's body
+abbrev pub IsSigningUnread : {F C N T I : Type 0} → Views F C N T I → Lendings F C N T I → Lendings F C N T I → Option (List ℕ) → Type 0
+IsSigningUnread views old new None = ⊥
+IsSigningUnread views old new (Some content_type) = ConsoleFailed views.console_read_faults views.console_write_faults old new
 
 -- an input was refused: that of `expand`
-abbrev pub IsRefused : {F C N T I : Type 0} → Views F C N T I → Lendings F C N T I → Lendings F C N T I → Config → Command → Type 0
-IsRefused views old new config (Answer farm) = ⊥
-IsRefused views old new config (Expand farm) = ConsoleHeld views old new (IsBadInput config.roles)
-IsRefused views old new config (Check farm) = ⊥
+abbrev pub IsRefused : {F C N T I : Type 0} → Views F C N T I → Lendings F C N T I → Lendings F C N T I → Config → Work → Type 0
+IsRefused views old new config Answer = ⊥
+IsRefused views old new config Expand = ConsoleHeld views old new (IsBadInput config.roles)
+IsRefused views old new config Check = ⊥
 
 -- a connection ended inside a message or by what is no request: that of `answer`
-abbrev pub IsCut : {F C N T I : Type 0} → Views F C N T I → Lendings F C N T I → Lendings F C N T I → Config → Command → Type 0
-IsCut views old new config (Answer farm) = ConsoleHeld views old new (λ bytes. EndsWith bytes Wire)
-IsCut views old new config (Expand farm) = ⊥
-IsCut views old new config (Check farm) = ⊥
+abbrev pub IsCut : {F C N T I : Type 0} → Views F C N T I → Lendings F C N T I → Lendings F C N T I → Config → Work → Type 0
+IsCut views old new config Answer = ConsoleHeld views old new (λ bytes. EndsWith bytes Wire)
+IsCut views old new config Expand = ⊥
+IsCut views old new config Check = ⊥
 
 -- Each status comes only where this is so, and of several causes the one with the least number stands. Want of memory alone is free.
 abbrev pub HasReason : {F C N T I : Type 0} → Views F C N T I → Lendings F C N T I → Lendings F C N T I → ℕ → ℕ → Option Command → Status → Type 0
-HasReason views old new before now said Done = (now ≡ before) × FileTaken views old new said (IsDone views old new)
+HasReason views old new before now said Done =
+    (now ≡ before) × (FileTaken views old new said (IsDone views old new)
+    ⊎ SigningTaken old new said (λ signing. IsSigningDone views old new signing.content_type))
 HasReason views old new before now said Usage = said ≡ None
 HasReason views old new before now said FarmFile = (now ≡ before) × FileHasFault views old new said
-HasReason views old new before now said Input = (now ≡ before) × FileTaken views old new said (IsRefused views old new)
+HasReason views old new before now said Input =
+    (now ≡ before) × (FileTaken views old new said (IsRefused views old new)
+    ⊎ SigningTaken old new said (λ signing. IsSigningRefused views old new signing.content_type))
 HasReason views old new before now said Opening = Rose before now
 HasReason views old new before now said Read =
     (now ≡ before) × (FileFailed views old new said
-    ⊎ FileTaken views old new said (λ config command. ConsoleFailed views.console_read_faults views.console_write_faults old new))
+    ⊎ (FileTaken views old new said (λ config work. ConsoleFailed views.console_read_faults views.console_write_faults old new)
+    ⊎ SigningTaken old new said (λ signing. IsSigningUnread views old new signing.content_type)))
 HasReason views old new before now said Write =
-    (now ≡ before) × FileTaken views old new said (λ config command. ConsoleFailed views.console_write_faults views.console_read_faults old new)
+    (now ≡ before) × (FileTaken views old new said (λ config work. ConsoleFailed views.console_write_faults views.console_read_faults old new)
+    ⊎ SigningTaken old new said (λ signing. ConsoleFailed views.console_write_faults views.console_read_faults old new))
 HasReason views old new before now said NoMemory = Unit {0}
 HasReason views old new before now said Wire = (now ≡ before) × FileTaken views old new said (IsCut views old new)

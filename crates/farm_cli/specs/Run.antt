@@ -1,9 +1,11 @@
 -- What a run did with what its house lent it.
 use Rattle.std.specs.Prelude.{◌≡◌, ℕ, ◌+◌, ◌⊎◌, List, Option, Some, None, IfSome, Err}
 use Rattle.causes.specs.Causes.{Rose}
-use Rattle.command_line.specs.Words.{farm_of}
 use Rattle.command_line.specs.declared.command.Command.{Command}
-use Rattle.command_line.specs.declared.command.Command.TheVariants.{Answer, Expand, Check}
+use Rattle.command_line.specs.declared.command.Command.TheVariants.{OverFarm, Sign}
+use Rattle.command_line.specs.declared.command.Work.{Work}
+use Rattle.command_line.specs.declared.command.Work.TheVariants.{Answer, Expand, Check}
+use Rattle.command_line.specs.declared.signing.Signing.{Signing}
 use Rattle.farm_files.specs.declared.reading.TheConstants.{LONGEST_FILE}
 use Rattle.farm_machine.specs.declared.config.Config.{Config}
 use Rattle.http_wire.specs.Whole.{piece_size, LosesWithin}
@@ -14,6 +16,7 @@ use Rattle.farm_cli.specs.Expanding.{Expands}
 use Rattle.farm_cli.specs.FarmFile.{SetsUp, FileRefused}
 use Rattle.farm_cli.specs.House.{WasLent, CanOpenAmong, WasOpened, Lendings}
 use Rattle.farm_cli.specs.Serving.{Conversed}
+use Rattle.farm_cli.specs.Signing.{Signs}
 use Rattle.http_wire.specs.Calls.{LinkState}
 use Rattle.farm_cli.specs.Views.{Views, talk_of}
 
@@ -32,16 +35,16 @@ pub record UsedConsole {F C N T I : Type 0} (views : Views F C N T I) (old new :
   pub draws : new.draws ≡ old.draws
   pub did : Did (talk_of views given) (talk_of views back)
 
--- a command was obeyed over a farm that was set up so
-abbrev pub Obeyed : {F C N T I : Type 0} → Views F C N T I → Lendings F C N T I → Lendings F C N T I → Config → Command → Status → Type 0
-Obeyed views old new config (Answer farm) status = Conversed views old new config status
-Obeyed views old new config (Expand farm) status = UsedConsole views old new (λ before after. Expands config.roles before after status)
-Obeyed views old new config (Check farm) status = UsedConsole views old new (λ before after. Checks config before after status)
+-- work was done over a farm that was set up so
+abbrev pub Obeyed : {F C N T I : Type 0} → Views F C N T I → Lendings F C N T I → Lendings F C N T I → Config → Work → Status → Type 0
+Obeyed views old new config Answer status = Conversed views old new config status
+Obeyed views old new config Expand status = UsedConsole views old new (λ before after. Expands config.roles before after status)
+Obeyed views old new config Check status = UsedConsole views old new (λ before after. Checks config before after status)
 
--- A farm file was opened, read, and came back: no read of it failed, and it sets a farm up, over which the command was obeyed; or it was not taken.
-abbrev pub RanOverFile : {F C N T I : Type 0} → Views F C N T I → Lendings F C N T I → Lendings F C N T I → Command → F → F → Status → Type 0
-RanOverFile views old new command opened closed status =
-    ((config : Config) × IfSome (views.file_left opened) (λ bytes. SetsUp bytes config) × (views.file_faults closed ≡ views.file_faults opened) × Obeyed views old new config command status)
+-- A farm file was opened, read, and came back: no read of it failed, and it sets a farm up, over which the work was done; or it was not taken.
+abbrev pub RanOverFile : {F C N T I : Type 0} → Views F C N T I → Lendings F C N T I → Lendings F C N T I → Work → F → F → Status → Type 0
+RanOverFile views old new work opened closed status =
+    ((config : Config) × IfSome (views.file_left opened) (λ bytes. SetsUp bytes config) × (views.file_faults closed ≡ views.file_faults opened) × Obeyed views old new config work status)
     ⊎ (FileRefused (views.file_left opened) (views.file_faults opened) (views.file_faults closed) status × LeavesConsole old new)
 
 -- the opening of the farm file was refused, and nothing else was asked for
@@ -53,17 +56,24 @@ pub record WasRefused {F C N T I : Type 0} (old new : Lendings F C N T I) (befor
   pub others : LeavesConsole old new
 
 -- the farm file was opened, and came back after a run over it; no more was read of it than one piece past its greatest length
-pub record RanOver {F C N T I : Type 0} (views : Views F C N T I) (old new : Lendings F C N T I) (before now : ℕ) (command : Command) (status : Status) : Type 0 where
+pub record RanOver {F C N T I : Type 0} (views : Views F C N T I) (old new : Lendings F C N T I) (before now : ℕ) (farm : List ℕ) (work : Work) (status : Status) : Type 0 where
   pub openings : now ≡ before
   pub opened : F
   pub closed : F
-  pub file : WasOpened old.file new.file (farm_of command) opened closed
+  pub file : WasOpened old.file new.file farm opened closed
   pub lost : LosesWithin (LONGEST_FILE + piece_size) (views.file_left opened) (views.file_left closed)
-  pub ran : RanOverFile views old new command opened closed status
+  pub ran : RanOverFile views old new work opened closed status
+
+-- a request was signed, and no farm file was asked for
+pub record RanSigning {F C N T I : Type 0} (views : Views F C N T I) (old new : Lendings F C N T I) (before now : ℕ) (signing : Signing) (status : Status) : Type 0 where
+  pub openings : now ≡ before
+  pub file : new.file ≡ old.file
+  pub used : UsedConsole views old new (λ before after. Signs signing before after status)
 
 -- a command was run
 abbrev pub RanCommand : {F C N T I : Type 0} → Views F C N T I → Lendings F C N T I → Lendings F C N T I → ℕ → ℕ → Command → Status → Type 0
-RanCommand views old new before now command status = WasRefused old new before now (farm_of command) status ⊎ RanOver views old new before now command status
+RanCommand views old new before now (OverFarm farm work) status = WasRefused old new before now farm status ⊎ RanOver views old new before now farm work status
+RanCommand views old new before now (Sign signing) status = RanSigning views old new before now signing status
 
 -- the words were refused: they have no reading, or memory ran out; and nothing was asked for
 pub record WordsRefused {F C N T I : Type 0} (old new : Lendings F C N T I) (before now : ℕ) (said : Option Command) (status : Status) : Type 0 where

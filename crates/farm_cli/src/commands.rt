@@ -1,40 +1,37 @@
-//! The commands, over a farm that is set up.
+//! The commands, over what a house lends.
 ghost use Rattle.std.specs.Prelude.{◌≡◌};
 ghost use Rattle.farm_cli.specs.Checking.{Checks};
 ghost use Rattle.farm_cli.specs.Expanding.{Expands};
 ghost use Rattle.farm_cli.specs.Run.{Obeyed, UsedConsole};
 ghost use Rattle.farm_cli.specs.Serving.{Conversed, status_of as status_from};
+ghost use Rattle.farm_cli.specs.Signing.{Signs};
 ghost use Rattle.farm_cli.specs.Views.{views_of};
 
 use crate::checking::check;
 use crate::ended::Ended;
 use crate::expanding::expand;
 use crate::house::House;
+use crate::signing::sign;
 use crate::status::Status;
-use command_line::Command;
+use command_line::{Signing, Work};
 use farm_core::Bare;
 use farm_desk::Solo;
 use farm_machine::config::Config;
 use farm_server::{NoGate, Served, serve_connection};
 use std::alloc::Global;
 
-/// Obeys a command over a farm that is set up so.
-pub(crate) fn obey<H: House>(
-    alloc: Global,
-    command: &Command,
-    config: Config,
-    house: &mut H,
-) -> Ended
+/// Does work over a farm that is set up so.
+pub(crate) fn obey<H: House>(alloc: Global, work: Work, config: Config, house: &mut H) -> Ended
     ensures obeyed { let views = views_of H.File.Source H.Console.Link H.Notes.Sink H.Time.Clock H.Ids.Draws in
-        Obeyed views (H.lends house.old) (H.lends house.new) config command.now result.status }
+        Obeyed views (H.lends house.old) (H.lends house.new) config work result.status }
     ensures file { (H.lends house.new).file ≡ (H.lends house.old).file }
     ensures notes { (H.lends house.new).notes ≡ (H.lends house.old).notes }
     ensures refusals { H.refusals house.new ≡ H.refusals house.old }
 {
-    match command {
-        Command::Answer { .. } => Ended::plain(converse(alloc, config, house)),
-        Command::Expand { .. } => expand_over(alloc, &config, house),
-        Command::Check { .. } => check_over(alloc, &config, house),
+    match work {
+        Work::Answer => Ended::plain(converse(alloc, config, house)),
+        Work::Expand => expand_over(alloc, &config, house),
+        Work::Check => check_over(alloc, &config, house),
     }
 }
 
@@ -102,6 +99,20 @@ fn check_over<H: House>(alloc: Global, config: &Config, house: &mut H) -> Ended
 {
     let mut console = house.console();
     let ended = check(alloc, config, &mut console);
+    house.back_console(console);
+    ended
+}
+
+/// Signs a request, over the console.
+pub(crate) fn sign_over<H: House>(alloc: Global, signing: &Signing, house: &mut H) -> Ended
+    ensures used { let views = views_of H.File.Source H.Console.Link H.Notes.Sink H.Time.Clock H.Ids.Draws in
+        UsedConsole views (H.lends house.old) (H.lends house.new) (λ before after. Signs signing.now before after result.status) }
+    ensures file { (H.lends house.new).file ≡ (H.lends house.old).file }
+    ensures notes { (H.lends house.new).notes ≡ (H.lends house.old).notes }
+    ensures refusals { H.refusals house.new ≡ H.refusals house.old }
+{
+    let mut console = house.console();
+    let ended = sign(alloc, signing, &mut console);
     house.back_console(console);
     ended
 }

@@ -1,17 +1,16 @@
 //! All that the roles of a farm give to the scopes of an input.
 ghost use Rattle.std.specs.Prelude.{◌≡◌, ◌≤◌, length, MatchResult};
-ghost use Rattle.farm_cli.specs.Expanding.{longest_input, IsExpansion, InputRefused, Expands};
+ghost use Rattle.farm_cli.specs.Expanding.{IsExpansion, InputRefused, Expands};
+ghost use Rattle.farm_cli.specs.Inputs.{longest_input};
 
 use crate::ended::Ended;
+use crate::inputs::LONGEST_INPUT;
 use crate::status::Status;
 use crate::writing::write_text;
 use http_wire::{Link, ReadAllFault, read_all};
 use role_expand::{ExpandFault, RoleSet};
 use scope_lines::{LineFault, read_scopes, write_scopes};
 use std::alloc::Global;
-
-/// The greatest number of bytes of an input.
-const LONGEST_INPUT: usize = 1_048_576;
 
 /// Reads scopes from the console, one a line, and writes all that they give, rising, one a line.
 pub(crate) fn expand<L: Link>(alloc: Global, roles: &RoleSet, console: &mut L) -> Ended

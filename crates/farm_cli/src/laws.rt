@@ -2,7 +2,7 @@
 ghost use Rattle.std.specs.Prelude.{◌≡◌, ℕ, List};
 ghost use Rattle.role_expand.specs.Roles.{RoleData};
 ghost use Rattle.farm_cli.specs.Expanding.{IsExpansion, IsBadInput};
-ghost use Rattle.farm_cli.specs.declared.expanding.TheConstants.{LONGEST_INPUT};
+ghost use Rattle.farm_cli.specs.declared.inputs.TheConstants.{LONGEST_INPUT};
 
 /// An input has at most one expansion, and one that has an expansion is refused by no rule.
 pub fn an_input_is_answered_in_one_way()

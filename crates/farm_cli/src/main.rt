@@ -8,10 +8,12 @@ mod expanding;
 mod farm_file;
 mod host_house;
 mod house;
+mod inputs;
 mod laws;
 mod lending;
 mod memory_house;
 mod run;
+mod signing;
 mod status;
 #[cfg(test)]
 mod tests;

@@ -3,6 +3,7 @@ ghost use Rattle.std.specs.Prelude.{◌≡◌, ◌+◌, ◌≤◌, map, string_b
 ghost use Rattle.farm_files.specs.declared.reading.TheConstants.{LONGEST_FILE};
 ghost use Rattle.http_wire.specs.Whole.{piece_size, LosesWithin};
 ghost use Rattle.command_line.specs.Words.{reading};
+ghost use Rattle.command_line.specs.declared.command.Command.TheVariants.{OverFarm};
 ghost use Rattle.farm_cli.specs.Home.{AllHome};
 ghost use Rattle.farm_cli.specs.House.{after_closing};
 ghost use Rattle.farm_cli.specs.Notes.{TellsStatus};
@@ -10,18 +11,19 @@ ghost use Rattle.farm_cli.specs.Run.{Ran, RanCommand, RanOverFile};
 ghost use Rattle.farm_cli.specs.Runs.{Runs};
 ghost use Rattle.farm_cli.specs.Views.{views_of};
 
-use crate::commands::obey;
+use crate::commands::{obey, sign_over};
 use crate::ended::Ended;
 use crate::farm_file::read_config;
 use crate::house::House;
 use crate::status::Status;
 use crate::writing::write_line;
 use causes::Failed;
-use command_line::{Command, WordsFault, read_words};
+use command_line::{Command, WordsFault, Work, read_words};
 use std::alloc::Global;
 
 /// Runs what the words ask for, over what the house lends: `answer FARM` serves one connection on the console over a farm that begins
-/// without tasks, `expand FARM` writes all that the console's scopes give, `check FARM` counts what the farm file has. All that was
+/// without tasks, `expand FARM` writes all that the console's scopes give, `check FARM` counts what the farm file has, and `sign` writes
+/// the header that signs a request. All that was
 /// asked for is given back, and the notes are told a line where the status is not `Done`.
 ///
 /// The history that `answer` leads through is legal, so the laws of `farm_machine::law` hold of it: a call is denied exactly where its
@@ -58,32 +60,45 @@ fn perform<H: House>(alloc: Global, words: &[String], house: &mut H) -> Ended
     }
 }
 
-/// Runs a command, where its farm file can be opened.
+/// Runs a command.
 fn run_command<H: House>(alloc: Global, command: &Command, house: &mut H) -> Ended
     ensures ran { let views = views_of H.File.Source H.Console.Link H.Notes.Sink H.Time.Clock H.Ids.Draws in
         RanCommand views (H.lends house.old) (H.lends house.new) (H.refusals house.old) (H.refusals house.new) command.now result.status }
     ensures notes { (H.lends house.new).notes ≡ (H.lends house.old).notes }
     ensures later { H.refusals house.old ≤ H.refusals house.new }
 {
-    match house.farm_file(command.farm()) {
-        Ok(file) => run_over_file(alloc, command, file, house),
+    match command {
+        Command::OverFarm { farm, work } => run_over_farm(alloc, farm.as_str(), *work, house),
+        Command::Sign { signing } => sign_over(alloc, signing, house),
+    }
+}
+
+/// Does work over a farm, where its file can be opened.
+fn run_over_farm<H: House>(alloc: Global, farm: &str, work: Work, house: &mut H) -> Ended
+    ensures ran { let views = views_of H.File.Source H.Console.Link H.Notes.Sink H.Time.Clock H.Ids.Draws in
+        RanCommand views (H.lends house.old) (H.lends house.new) (H.refusals house.old) (H.refusals house.new) (OverFarm farm.now work) result.status }
+    ensures notes { (H.lends house.new).notes ≡ (H.lends house.old).notes }
+    ensures later { H.refusals house.old ≤ H.refusals house.new }
+{
+    match house.farm_file(farm) {
+        Ok(file) => run_over_file(alloc, work, file, house),
         Err(Failed) => Ended::plain(Status::Opening),
     }
 }
 
-/// Runs a command over a farm file, which is given back before the command begins.
-fn run_over_file<H: House>(alloc: Global, command: &Command, file: H::File, house: &mut H) -> Ended
+/// Does work over a farm file, which is given back before the work begins.
+fn run_over_file<H: House>(alloc: Global, work: Work, file: H::File, house: &mut H) -> Ended
     ensures ran { let views = views_of H.File.Source H.Console.Link H.Notes.Sink H.Time.Clock H.Ids.Draws in
         (closed : H.File) × ((H.lends house.new).file ≡ after_closing (H.lends house.old).file closed)
         × LosesWithin (LONGEST_FILE + piece_size) (H.File.left file) (H.File.left closed)
-        × RanOverFile views (H.lends house.old) (H.lends house.new) command.now file closed result.status }
+        × RanOverFile views (H.lends house.old) (H.lends house.new) work file closed result.status }
     ensures notes { (H.lends house.new).notes ≡ (H.lends house.old).notes }
     ensures refusals { H.refusals house.new ≡ H.refusals house.old }
 {
     let (file, config) = read_config(alloc, file);
     house.back_farm_file(file);
     match config {
-        Ok(config) => obey(alloc, command, config, house),
+        Ok(config) => obey(alloc, work, config, house),
         Err(ended) => ended,
     }
 }

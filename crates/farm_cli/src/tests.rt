@@ -204,9 +204,110 @@ fn roles_are_counted(rt: HostRuntime) -> Result<(), Fail> {
     Ok(())
 }
 
+/// The words of `sign` for Hawk's own example, without an ext.
+const SIGN: [&str; 17] = [
+    "sign",
+    "--id",
+    "dh37fgj492je",
+    "--token",
+    "werxhqb98rpaxn39848xrunpaw3489ruxnpa98w4rxn",
+    "--method",
+    "GET",
+    "--target",
+    "/resource/1?b=1&a=2",
+    "--host",
+    "example.com",
+    "--port",
+    "8000",
+    "--ts",
+    "1353832234",
+    "--nonce",
+    "j4h3g2",
+];
+
+/// What `sign` makes of this method, these words more and this input.
+fn signed(
+    alloc: Global,
+    method: &'static str,
+    more: &[&str],
+    input: &[u8],
+) -> Result<Outcome, AllocError> {
+    let mut example = SIGN;
+    example[6] = method;
+    let mut words = Vec::from_slice(alloc, &example)?;
+    words.extend_from_slice(more)?;
+    let case = Case {
+        words: words.as_slice(),
+        ..Case::over(input)
+    };
+    outcome_of(alloc, &case)
+}
+
+/// The expected lines are of Hawk's documentation ("Protocol Example", "Payload Validation"), but for the last, which Python's hmac made.
+#[test]
+fn requests_are_signed(rt: HostRuntime) -> Result<(), Fail> {
+    let rows: [(&str, &[&str], &[u8], &[u8]); 3] = [
+        (
+            "GET",
+            &["--ext", "some-app-ext-data"],
+            PING,
+            b"Hawk id=\"dh37fgj492je\", ts=\"1353832234\", nonce=\"j4h3g2\", ext=\"some-app-ext-data\", mac=\"6R4rV5iE+NPoym+WwjeHzjAGXUtLNIxmo1vpMofpLAE=\"\n",
+        ),
+        (
+            "post",
+            &["--ext=some-app-ext-data", "--type=text/plain"],
+            b"Thank you for flying Hawk",
+            b"Hawk id=\"dh37fgj492je\", ts=\"1353832234\", nonce=\"j4h3g2\", hash=\"Yi9LfIIFRtBEPt74PVmbTF/xVAwPn7ub15ePICfgnuY=\", ext=\"some-app-ext-data\", mac=\"aSe1DERmZuRl3pI36/9BdZmnErTw3sNzOOAUlfeKjVw=\"\n",
+        ),
+        (
+            "GET",
+            &["--ext", ""],
+            b"",
+            b"Hawk id=\"dh37fgj492je\", ts=\"1353832234\", nonce=\"j4h3g2\", mac=\"nfp3t5BVkMvjhU3PrD0ftTp7NcVpETEX2HEi/Fo4S2g=\"\n",
+        ),
+    ];
+    for (method, more, input, output) in rows {
+        let done = signed(rt.alloc(), method, more, input)?;
+        assert_eq!(rt; done.status.code(), 0);
+        assert_eq!(rt; done.output.as_slice(), output);
+        assert_eq!(rt; done.notes.len(), 0);
+    }
+    Ok(())
+}
+
+#[test]
+fn a_body_that_is_too_long_is_not_signed(rt: HostRuntime) -> Result<(), Fail> {
+    let alloc = rt.alloc();
+    let body = vec![in alloc; b'a'; 1_048_577]?;
+    let longest = signed(
+        alloc,
+        "POST",
+        ["--type", "text/plain"].as_slice(),
+        &body[1..],
+    )?;
+    assert_eq!(rt; longest.status.code(), 0);
+    let refused = signed(
+        alloc,
+        "POST",
+        ["--type", "text/plain"].as_slice(),
+        body.as_slice(),
+    )?;
+    assert_eq!(rt; refused.status.code(), 3);
+    assert_eq!(rt; refused.output.len(), 0);
+    let unread = signed(alloc, "GET", &[], body.as_slice())?;
+    assert_eq!(rt; unread.status.code(), 0);
+    Ok(())
+}
+
 #[test]
 fn untaken_words(rt: HostRuntime) -> Result<(), Fail> {
-    let rows: [&[&str]; 4] = [&[], &["answer"], &["answer", "a", "b"], &["--help"]];
+    let rows: [&[&str]; 5] = [
+        &[],
+        &["answer"],
+        &["answer", "a", "b"],
+        &["--help"],
+        &SIGN[..15],
+    ];
     for words in rows {
         let case = Case {
             words,

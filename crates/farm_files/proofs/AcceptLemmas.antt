@@ -9,16 +9,16 @@ use Rattle.std.proofs.lemmas.Slice.Eq.{bytes_eq-Decides}
 use Rattle.scope_sets.specs.Scopes.{IsPrintable, HasHandedInForm}
 use Rattle.role_expand.specs.Roles.{RoleData, HasHoleForm, HasIdForm, HasRoleForm}
 use Rattle.role_expand.specs.Cycles.{IsCycle, IsAccepted}
-use Rattle.toml.specs.Data.{Data, string, integer, float, boolean, datetime, array, table, get_member}
+use Rattle.toml.specs.Data.{Data, get_member}
 use Rattle.farm_machine.specs.declared.config.Config.{Config}
 use Rattle.farm_files.specs.declared.fault.Table.TheVariants.{Role}
 use Rattle.farm_files.specs.declared.fault.Rule.{Rule}
 use Rattle.farm_files.specs.declared.fault.Rule.TheVariants.{ParameterCycle}
 use Rattle.farm_files.specs.Faults.{fault_at}
-use Rattle.farm_files.specs.Values.{list_of}
-use Rattle.farm_files.specs.Rows.{RowAtBreaks, RowsBreak, RoleBreaks, LiesOnCycle, role_of, roles_in}
+use Rattle.farm_files.specs.Roles.{RoleBreaks, LiesOnCycle, role_rows, roles_in}
+use Rattle.farm_files.specs.Rows.{RowAtBreaks, rows_in, says_of}
 use Rattle.farm_files.specs.Farms.{Says}
-use Rattle.farm_files.proofs.FarmLemmas.{row_form, row_apart, role_at}
+use Rattle.farm_files.proofs.FarmLemmas.{row_form, row_apart, rows_sound, said_at}
 
 -- ---- what cannot fail holds, for the form of a role
 
@@ -66,50 +66,24 @@ stable_role longest role never = record {
 
 -- ---- the roles of sound rows
 
-module _ (xs : List Data) (sound : (row : ℕ) (rule : Rule) → ¬ RowAtBreaks xs row rule) where
-  list_formed : All (HasRoleForm 4096) (map role_of xs)
+module _ (xs : List Data) (sound : (row : ℕ) (rule : Rule) → ¬ RowAtBreaks role_rows xs row rule) where
+  list_formed : All (HasRoleForm 4096) (map (says_of role_rows) xs)
   list_formed k d lt =
-      let at = role_at xs k (get_or (map role_of xs) k d) (slice_get-get_or (map role_of xs) k d lt) in
-      stable_role 4096 (get_or (map role_of xs) k d)
-      (λ no. row_form (map role_of (take k xs)) k at.0 (λ rule b. sound k rule (at.0, at.1, b)) (λ form. no (subst (λ (r : RoleData). HasRoleForm 4096 r) at.2 form.form)))
+      let at = said_at role_rows xs k (get_or (map (says_of role_rows) xs) k d) (slice_get-get_or (map (says_of role_rows) xs) k d lt) in
+      stable_role 4096 (get_or (map (says_of role_rows) xs) k d)
+      (λ no. row_form role_rows (map (says_of role_rows) (take k xs)) k at.0 (λ rule b. sound k rule (at.0, at.1, b)) (λ form. no (subst (λ (r : RoleData). HasRoleForm 4096 r) at.2 form.form.form)))
 
-  list_distinct : AllPairs (λ p q. p.id ≢ q.id) (map role_of xs)
+  list_distinct : AllPairs (λ p q. p.id ≢ q.id) (map (says_of role_rows) xs)
   list_distinct i j d lt within same =
-      let first = get_or (map role_of xs) i d in
-      let at = role_at xs j (get_or (map role_of xs) j d) (slice_get-get_or (map role_of xs) j d within) in
-      let at_i : slice_get (map role_of xs) i ≡ Some first = slice_get-get_or (map role_of xs) i d (omega arith) in
-      let long : i < length (map role_of (take j xs)) = omega (arith, length-map (take j xs) role_of, length-map xs role_of, length-take {A = Data}) in
-      let here : get_or (map role_of (take j xs)) i first ≡ first =
-      ap (λ (rs : List RoleData). get_or rs i first) (sym (take-map role_of j xs))
-      ∙ get_or-take j (map role_of xs) i first lt
-      ∙ get_or_from_slice_get (map role_of xs) i first first at_i in
-      row_apart (map role_of (take j xs)) j at.0 (λ rule b. sound j rule (at.0, at.1, b)) (i, first, long, here, same ∙ ap (λ (r : RoleData). r.id) (sym at.2))
-
-none_formed : All (HasRoleForm 4096) []
-none_formed k d lt = absurd (omega arith)
-
-none_distinct : AllPairs (λ (p q : RoleData). p.id ≢ q.id) []
-none_distinct i j d lt within = absurd (omega arith)
-
-formed : (o : Option Data) → ((row : ℕ) (rule : Rule) → ¬ RowsBreak o row rule) → All (HasRoleForm 4096) (roles_in o)
-formed None sound = none_formed
-formed (Some (array ds)) sound = list_formed (list_of ds) sound
-formed (Some (string s)) sound = none_formed
-formed (Some (integer z)) sound = none_formed
-formed (Some (float x)) sound = none_formed
-formed (Some (boolean b)) sound = none_formed
-formed (Some (datetime t)) sound = none_formed
-formed (Some (table ms)) sound = none_formed
-
-distinct : (o : Option Data) → ((row : ℕ) (rule : Rule) → ¬ RowsBreak o row rule) → AllPairs (λ p q. p.id ≢ q.id) (roles_in o)
-distinct None sound = none_distinct
-distinct (Some (array ds)) sound = list_distinct (list_of ds) sound
-distinct (Some (string s)) sound = none_distinct
-distinct (Some (integer z)) sound = none_distinct
-distinct (Some (float x)) sound = none_distinct
-distinct (Some (boolean b)) sound = none_distinct
-distinct (Some (datetime t)) sound = none_distinct
-distinct (Some (table ms)) sound = none_distinct
+      let first = get_or (map (says_of role_rows) xs) i d in
+      let at = said_at role_rows xs j (get_or (map (says_of role_rows) xs) j d) (slice_get-get_or (map (says_of role_rows) xs) j d within) in
+      let at_i : slice_get (map (says_of role_rows) xs) i ≡ Some first = slice_get-get_or (map (says_of role_rows) xs) i d (omega arith) in
+      let long : i < length (map (says_of role_rows) (take j xs)) = omega (arith, length-map (take j xs) (says_of role_rows), length-map xs (says_of role_rows), length-take {A = Data}) in
+      let here : get_or (map (says_of role_rows) (take j xs)) i first ≡ first =
+      ap (λ (rs : List RoleData). get_or rs i first) (sym (take-map (says_of role_rows) j xs))
+      ∙ get_or-take j (map (says_of role_rows) xs) i first lt
+      ∙ get_or_from_slice_get (map (says_of role_rows) xs) i first first at_i in
+      row_apart role_rows (map (says_of role_rows) (take j xs)) j at.0 (λ rule b. sound j rule (at.0, at.1, b)) (i, first, long, here, same ∙ ap (λ (r : RoleData). r.id) (sym at.2))
 
 no_cycle : (roles : List RoleData) → ((row : ℕ) → ¬ LiesOnCycle roles row) → (cycle : List ℕ) → ¬ IsCycle roles cycle
 no_cycle roles none [] cycle = cycle
@@ -117,8 +91,8 @@ no_cycle roles none (i ∷ rest) cycle = none i (rest, cycle)
 
 accepted_in : (o : Option Data) → ((row : ℕ) (rule : Rule) → ¬ RoleBreaks o row rule) → IsAccepted 4096 (roles_in o)
 accepted_in o sound = record {
-  forms = formed o (λ row rule b. sound row rule (inl b));
-  apart = distinct o (λ row rule b. sound row rule (inl b));
+  forms = list_formed (rows_in o) (rows_sound role_rows o (λ row rule b. sound row rule (inl b)));
+  apart = list_distinct (rows_in o) (rows_sound role_rows o (λ row rule b. sound row rule (inl b)));
   acyclic = no_cycle (roles_in o) (λ row lies. sound row ParameterCycle (inr (refl, lies)));
 }
 

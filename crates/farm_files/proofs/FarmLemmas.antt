@@ -9,13 +9,16 @@ use Rattle.role_expand.specs.Refusals.{IsFirstBadRole, IsFirstRepeat}
 use Rattle.toml.specs.Parse.{parse_document}
 use Rattle.toml.specs.Data.{Data, string, integer, float, boolean, datetime, array, table, Members, get_member}
 use Rattle.farm_files.specs.declared.fault.Table.{Table}
-use Rattle.farm_files.specs.declared.fault.Table.TheVariants.{File, Farm, Role}
+use Rattle.farm_files.specs.declared.fault.Table.TheVariants.{File, Farm, Role, Client}
 use Rattle.farm_files.specs.declared.fault.Rule.{Rule}
 use Rattle.farm_files.specs.declared.fault.Rule.TheVariants.{NotToml, UnknownKey, MissingKey, WrongKind, OutOfForm, RepeatedId, ParameterCycle, TooLong}
 use Rattle.farm_files.specs.declared.fault.Fault.{Fault}
 use Rattle.farm_files.specs.Faults.{rule_number, fault_at, turn, IsBefore, IsFirst, IsLeastRule}
 use Rattle.farm_files.specs.Values.{has_only, list_of}
-use Rattle.farm_files.specs.Rows.{HasRowForm, RowBreaks, RowAtBreaks, RowsBreak, LiesOnCycle, role_of, roles_in}
+use Rattle.farm_files.specs.Clients.{AreClients, client_rows, clients_in}
+use Rattle.farm_files.specs.Roles.{LiesOnCycle, role_rows, roles_in}
+use Rattle.farm_files.specs.Rows.{Kind, HasRowForm, RowBreaks, RowAtBreaks, RowsBreak, rows_in, says_of}
+use Rattle.farm_files.proofs.ClientLemmas.{clients_one}
 use Rattle.farm_files.specs.Files.{table_names, FarmBreaks, farm_in, TablesBreak, IsToml, BytesBreak, Breaks}
 use Rattle.farm_files.specs.Parts.{IsFirstRow, IsFirstOnCycle, RefusesRows, RefusesCycle}
 use Rattle.farm_files.specs.declared.fault.FileFault.{FileFault}
@@ -33,6 +36,16 @@ role_turn RepeatedId = omega arith
 role_turn ParameterCycle = omega arith
 role_turn TooLong = omega arith
 
+role_turn_below : (r : Rule) → turn Role r ≤ 5
+role_turn_below NotToml = omega arith
+role_turn_below UnknownKey = omega arith
+role_turn_below MissingKey = omega arith
+role_turn_below WrongKind = omega arith
+role_turn_below OutOfForm = omega arith
+role_turn_below RepeatedId = omega arith
+role_turn_below ParameterCycle = omega arith
+role_turn_below TooLong = omega arith
+
 row_turn : (r : Rule) → (r ≡ ParameterCycle → ⊥) → turn Role r ≡ 4
 row_turn NotToml h = refl
 row_turn UnknownKey h = refl
@@ -48,27 +61,27 @@ later : (f g : Fault) → turn g.table g.rule < turn f.table f.rule → IsBefore
 later f g lt (inl h) = absurd (omega arith)
 later f g lt (inr h) = absurd (omega (arith, h.0))
 
-row_no_cycle : (es : List RoleData) (i : ℕ) (d : Data) → RowBreaks es i d ParameterCycle → ⊥
-row_no_cycle es i (string s) h = h
-row_no_cycle es i (integer z) h = h
-row_no_cycle es i (float x) h = h
-row_no_cycle es i (boolean b) h = h
-row_no_cycle es i (datetime t) h = h
-row_no_cycle es i (array ds) h = h
-row_no_cycle es i (table ms) h = h
+row_no_cycle : {X : Type 0} (kind : Kind X) (es : List X) (i : ℕ) (d : Data) → RowBreaks kind es i d ParameterCycle → ⊥
+row_no_cycle kind es i (string s) h = h
+row_no_cycle kind es i (integer z) h = h
+row_no_cycle kind es i (float x) h = h
+row_no_cycle kind es i (boolean b) h = h
+row_no_cycle kind es i (datetime t) h = h
+row_no_cycle kind es i (array ds) h = h
+row_no_cycle kind es i (table ms) h = h
 
 wrong_cycle : WrongKind ≡ ParameterCycle → ⊥
 wrong_cycle e = absurd cc
 
-rows_no_cycle : (o : Option Data) (row : ℕ) → RowsBreak o row ParameterCycle → ⊥
-rows_no_cycle None row h = h
-rows_no_cycle (Some (string s)) row h = wrong_cycle (sym h.1)
-rows_no_cycle (Some (integer z)) row h = wrong_cycle (sym h.1)
-rows_no_cycle (Some (float x)) row h = wrong_cycle (sym h.1)
-rows_no_cycle (Some (boolean b)) row h = wrong_cycle (sym h.1)
-rows_no_cycle (Some (datetime t)) row h = wrong_cycle (sym h.1)
-rows_no_cycle (Some (array ds)) row h = row_no_cycle _ row h.0 h.2
-rows_no_cycle (Some (table ms)) row h = wrong_cycle (sym h.1)
+rows_no_cycle : {X : Type 0} (kind : Kind X) (o : Option Data) (row : ℕ) → RowsBreak kind o row ParameterCycle → ⊥
+rows_no_cycle kind None row h = h
+rows_no_cycle kind (Some (string s)) row h = wrong_cycle (sym h.1)
+rows_no_cycle kind (Some (integer z)) row h = wrong_cycle (sym h.1)
+rows_no_cycle kind (Some (float x)) row h = wrong_cycle (sym h.1)
+rows_no_cycle kind (Some (boolean b)) row h = wrong_cycle (sym h.1)
+rows_no_cycle kind (Some (datetime t)) row h = wrong_cycle (sym h.1)
+rows_no_cycle kind (Some (array ds)) row h = row_no_cycle kind _ row h.0 h.2
+rows_no_cycle kind (Some (table ms)) row h = wrong_cycle (sym h.1)
 
 -- no rule of the file as a whole
 file_sound : (top : Members) (row : ℕ) (r : Rule) → has_only table_names top ≡ true → TablesBreak top File row r → ⊥
@@ -95,6 +108,7 @@ unknown_before top File row RepeatedId b h = h
 unknown_before top File row ParameterCycle b h = h
 unknown_before top File row TooLong b h = h
 unknown_before top Farm row r b h = later (fault_at Farm row r) (fault_at File 0 UnknownKey) (omega arith) b
+unknown_before top Client row r b h = later (fault_at Client row r) (fault_at File 0 UnknownKey) (omega arith) b
 unknown_before top Role row r b h = later (fault_at Role row r) (fault_at File 0 UnknownKey) (omega (arith, role_turn r)) b
 
 pub first_unknown : (top : Members) → has_only table_names top ≡ false → IsFirst (λ g. TablesBreak top g.table g.row g.rule) (fault_at File 0 UnknownKey)
@@ -106,6 +120,7 @@ farm_before top rule only least File row r b h = file_sound top row r only h
 farm_before top rule only least Farm row r (inl lt) h = absurd (omega arith)
 farm_before top rule only least Farm row r (inr (e, inl lt)) h = absurd (omega arith)
 farm_before top rule only least Farm row r (inr (e, inr k)) h = least.least r k.1 h.1
+farm_before top rule only least Client row r b h = later (fault_at Client row r) (fault_at Farm 0 rule) (omega arith) b
 farm_before top rule only least Role row r b h = later (fault_at Role row r) (fault_at Farm 0 rule) (omega (arith, role_turn r)) b
 
 pub first_farm : (top : Members) (rule : Rule) → has_only table_names top ≡ true → IsLeastRule (FarmBreaks (farm_in top)) rule
@@ -113,31 +128,33 @@ pub first_farm : (top : Members) (rule : Rule) → has_only table_names top ≡ 
 first_farm top rule only least = record { breaks = (refl, least.breaks); first = λ g b x. farm_before top rule only least g.table g.row g.rule b x }
 
 module _ (top : Members) (only : has_only table_names top ≡ true) (farm : (rule : Rule) → ¬ FarmBreaks (farm_in top) rule) where
-  role_before : (f : Fault) → IsFirstRow (RowsBreak (get_member (codes "role") top)) f
+  role_before : (f : Fault) → IsFirstRow Role (RowsBreak role_rows (get_member (codes "role") top)) f
       → (t : Table) (row : ℕ) (r : Rule) → IsBefore (fault_at t row r) (fault_at Role f.row f.rule) → TablesBreak top t row r → ⊥
   role_before f first File row r b h = file_sound top row r only h
   role_before f first Farm row r b h = farm r h.1
+  role_before f first Client row r b h = later (fault_at Client row r) (fault_at Role f.row f.rule) (omega (arith, role_turn_below f.rule)) b
   role_before f first Role row r b (inr k) =
-      let mine : turn Role f.rule ≡ 4 = row_turn f.rule (λ e. rows_no_cycle (get_member (codes "role") top) f.row (subst (λ (x : Rule). RowsBreak (get_member (codes "role") top) f.row x) e first.breaks)) in
+      let mine : turn Role f.rule ≡ 4 = row_turn f.rule (λ e. rows_no_cycle role_rows (get_member (codes "role") top) f.row (subst (λ (x : Rule). RowsBreak role_rows (get_member (codes "role") top) f.row x) e first.breaks)) in
       later (fault_at Role row r) (fault_at Role f.row f.rule) (omega (arith, mine, ap (turn Role) k.0)) b
   role_before f first Role row r (inl lt) (inl h) =
-      let mine : turn Role f.rule ≡ 4 = row_turn f.rule (λ e. rows_no_cycle (get_member (codes "role") top) f.row (subst (λ (x : Rule). RowsBreak (get_member (codes "role") top) f.row x) e first.breaks)) in
+      let mine : turn Role f.rule ≡ 4 = row_turn f.rule (λ e. rows_no_cycle role_rows (get_member (codes "role") top) f.row (subst (λ (x : Rule). RowsBreak role_rows (get_member (codes "role") top) f.row x) e first.breaks)) in
       absurd (omega (arith, mine, role_turn r))
   role_before f first Role row r (inr (e, inl lt)) (inl h) = first.earlier row r lt h
   role_before f first Role row r (inr (e, inr k)) (inl h) =
-      first.least r k.1 (subst (λ (n : ℕ). RowsBreak (get_member (codes "role") top) n r) k.0 h)
+      first.least r k.1 (subst (λ (n : ℕ). RowsBreak role_rows (get_member (codes "role") top) n r) k.0 h)
 
-  pub first_role : (f : Fault) → IsFirstRow (RowsBreak (get_member (codes "role") top)) f → IsFirst (λ g. TablesBreak top g.table g.row g.rule) f
+  pub first_role : (f : Fault) → IsFirstRow Role (RowsBreak role_rows (get_member (codes "role") top)) f → IsFirst (λ g. TablesBreak top g.table g.row g.rule) f
   first_role f first =
-      let is : fault_at Role f.row f.rule ≡ f = ap (λ (t : Table). fault_at t f.row f.rule) (sym first.role) in
+      let is : fault_at Role f.row f.rule ≡ f = ap (λ (t : Table). fault_at t f.row f.rule) (sym first.table_is) in
       subst (λ (x : Fault). IsFirst (λ g. TablesBreak top g.table g.row g.rule) x) is
       record { breaks = inl first.breaks; first = λ g b x. role_before f first g.table g.row g.rule b x }
 
-  module _ (rows : (row : ℕ) (rule : Rule) → ¬ RowsBreak (get_member (codes "role") top) row rule) where
+  module _ (rows : (row : ℕ) (rule : Rule) → ¬ RowsBreak role_rows (get_member (codes "role") top) row rule) where
     cycle_before : (f : Fault) → IsFirstOnCycle (roles_in (get_member (codes "role") top)) f
         → (t : Table) (row : ℕ) (r : Rule) → IsBefore (fault_at t row r) (fault_at Role f.row ParameterCycle) → TablesBreak top t row r → ⊥
     cycle_before f first File row r b h = file_sound top row r only h
     cycle_before f first Farm row r b h = farm r h.1
+    cycle_before f first Client row r b h = later (fault_at Client row r) (fault_at Role f.row ParameterCycle) (omega arith) b
     cycle_before f first Role row r b (inl h) = rows row r h
     cycle_before f first Role row r (inl lt) (inr k) = absurd (omega (arith, ap (turn Role) k.0))
     cycle_before f first Role row r (inr (e, inl lt)) (inr k) = first.earlier row lt k.1
@@ -149,15 +166,38 @@ module _ (top : Members) (only : has_only table_names top ≡ true) (farm : (rul
         subst (λ (x : Fault). IsFirst (λ g. TablesBreak top g.table g.row g.rule) x) (sym first.is)
         record { breaks = inr (refl, first.lies); first = λ g b x. cycle_before f first g.table g.row g.rule b x }
 
-    sound_at : ((row : ℕ) → ¬ LiesOnCycle (roles_in (get_member (codes "role") top)) row) → (t : Table) (row : ℕ) (r : Rule) → TablesBreak top t row r → ⊥
-    sound_at acyclic File row r h = file_sound top row r only h
-    sound_at acyclic Farm row r h = farm r h.1
-    sound_at acyclic Role row r (inl h) = rows row r h
-    sound_at acyclic Role row r (inr k) = acyclic row k.1
+    module _ (acyclic : (row : ℕ) → ¬ LiesOnCycle (roles_in (get_member (codes "role") top)) row) where
+      client_before : (f : Fault) → IsFirstRow Client (RowsBreak client_rows (get_member (codes "client") top)) f
+          → (t : Table) (row : ℕ) (r : Rule) → IsBefore (fault_at t row r) (fault_at Client f.row f.rule) → TablesBreak top t row r → ⊥
+      client_before f first File row r b h = file_sound top row r only h
+      client_before f first Farm row r b h = farm r h.1
+      client_before f first Role row r b (inl h) = rows row r h
+      client_before f first Role row r b (inr k) = acyclic row k.1
+      client_before f first Client row r (inl lt) h = absurd (omega arith)
+      client_before f first Client row r (inr (e, inl lt)) h = first.earlier row r lt h
+      client_before f first Client row r (inr (e, inr k)) h =
+          first.least r k.1 (subst (λ (n : ℕ). RowsBreak client_rows (get_member (codes "client") top) n r) k.0 h)
 
-    pub tables_sound : (roles : List RoleData) → roles ≡ roles_in (get_member (codes "role") top) → ((row : ℕ) → ¬ LiesOnCycle roles row) → (f : Fault) → ¬ TablesBreak top f.table f.row f.rule
-    tables_sound roles same acyclic f =
-        sound_at (subst (λ (rs : List RoleData). (row : ℕ) → ¬ LiesOnCycle rs row) same acyclic) f.table f.row f.rule
+      pub first_client : (f : Fault) → IsFirstRow Client (RowsBreak client_rows (get_member (codes "client") top)) f → IsFirst (λ g. TablesBreak top g.table g.row g.rule) f
+      first_client f first =
+          let is : fault_at Client f.row f.rule ≡ f = ap (λ (t : Table). fault_at t f.row f.rule) (sym first.table_is) in
+          subst (λ (x : Fault). IsFirst (λ g. TablesBreak top g.table g.row g.rule) x) is
+          record { breaks = first.breaks; first = λ g b x. client_before f first g.table g.row g.rule b x }
+
+      sound_at : ((row : ℕ) (rule : Rule) → ¬ RowsBreak client_rows (get_member (codes "client") top) row rule) → (t : Table) (row : ℕ) (r : Rule) → TablesBreak top t row r → ⊥
+      sound_at clients File row r h = file_sound top row r only h
+      sound_at clients Farm row r h = farm r h.1
+      sound_at clients Role row r (inl h) = rows row r h
+      sound_at clients Role row r (inr k) = acyclic row k.1
+      sound_at clients Client row r h = clients row r h
+
+    acyclic_in : (roles : List RoleData) → roles ≡ roles_in (get_member (codes "role") top) → ((row : ℕ) → ¬ LiesOnCycle roles row)
+        → (row : ℕ) → ¬ LiesOnCycle (roles_in (get_member (codes "role") top)) row
+    acyclic_in roles same acyclic = subst (λ (rs : List RoleData). (row : ℕ) → ¬ LiesOnCycle rs row) same acyclic
+
+    pub tables_sound : (roles : List RoleData) → roles ≡ roles_in (get_member (codes "role") top) → ((row : ℕ) → ¬ LiesOnCycle roles row)
+        → ((row : ℕ) (rule : Rule) → ¬ RowsBreak client_rows (get_member (codes "client") top) row rule) → (f : Fault) → ¬ TablesBreak top f.table f.row f.rule
+    tables_sound roles same acyclic clients f = sound_at (acyclic_in roles same acyclic) clients f.table f.row f.rule
 
 -- ---- the bytes
 
@@ -204,6 +244,7 @@ turn_zero File ParameterCycle e = absurd (omega arith)
 turn_zero File TooLong e = refl
 turn_zero Farm r e = absurd (omega arith)
 turn_zero Role r e = absurd (omega (arith, role_turn r))
+turn_zero Client r e = absurd (omega arith)
 
 none_before_long : (g : Fault) → IsBefore g (fault_at File 0 TooLong) → ⊥
 none_before_long g (inl lt) = absurd (omega arith)
@@ -220,6 +261,7 @@ toml_before longest bytes le File row NotToml (inr (e, inl lt)) h = absurd (omeg
 toml_before longest bytes le File row NotToml (inr (e, inr k)) h = absurd (omega (arith, k.1))
 toml_before longest bytes le Farm row NotToml b h = absurd (let e : Farm ≡ File = h.0 in cc)
 toml_before longest bytes le Role row NotToml b h = absurd (let e : Role ≡ File = h.0 in cc)
+toml_before longest bytes le Client row NotToml b h = absurd (let e : Client ≡ File = h.0 in cc)
 toml_before longest bytes le t row UnknownKey b h = h.2
 toml_before longest bytes le t row MissingKey b h = h.2
 toml_before longest bytes le t row WrongKind b h = h.2
@@ -234,98 +276,96 @@ first_not_toml longest bytes le never = record {
   first = λ g b x. elim x [ inl k ↦ toml_before longest bytes le g.table g.row g.rule b k | inr k ↦ never k.0 k.1 ];
 }
 
--- ---- what sound rows rule out of their roles
+-- ---- what sound rows rule out of what they say
 
-pub row_form : (es : List RoleData) (i : ℕ) (d : Data) → ((rule : Rule) → ¬ RowBreaks es i d rule) → ¬ (¬ HasRowForm i (role_of d))
-row_form es i (table ms) sound never = sound OutOfForm never
-row_form es i (string s) sound never = sound WrongKind tt
-row_form es i (integer z) sound never = sound WrongKind tt
-row_form es i (float x) sound never = sound WrongKind tt
-row_form es i (boolean b) sound never = sound WrongKind tt
-row_form es i (datetime t) sound never = sound WrongKind tt
-row_form es i (array ds) sound never = sound WrongKind tt
+pub row_form : {X : Type 0} (kind : Kind X) (es : List X) (i : ℕ) (d : Data) → ((rule : Rule) → ¬ RowBreaks kind es i d rule) → ¬ (¬ HasRowForm kind i (says_of kind d))
+row_form kind es i (table ms) sound never = sound OutOfForm never
+row_form kind es i (string s) sound never = sound WrongKind tt
+row_form kind es i (integer z) sound never = sound WrongKind tt
+row_form kind es i (float x) sound never = sound WrongKind tt
+row_form kind es i (boolean b) sound never = sound WrongKind tt
+row_form kind es i (datetime t) sound never = sound WrongKind tt
+row_form kind es i (array ds) sound never = sound WrongKind tt
 
-pub row_apart : (es : List RoleData) (i : ℕ) (d : Data) → ((rule : Rule) → ¬ RowBreaks es i d rule) → ¬ Any (λ role. role.id ≡ (role_of d).id) es
-row_apart es i (table ms) sound found = sound RepeatedId found
-row_apart es i (string s) sound found = sound WrongKind tt
-row_apart es i (integer z) sound found = sound WrongKind tt
-row_apart es i (float x) sound found = sound WrongKind tt
-row_apart es i (boolean b) sound found = sound WrongKind tt
-row_apart es i (datetime t) sound found = sound WrongKind tt
-row_apart es i (array ds) sound found = sound WrongKind tt
+pub row_apart : {X : Type 0} (kind : Kind X) (es : List X) (i : ℕ) (d : Data) → ((rule : Rule) → ¬ RowBreaks kind es i d rule) → ¬ Any (λ e. kind.id_of e ≡ kind.id_of (says_of kind d)) es
+row_apart kind es i (table ms) sound found = sound RepeatedId found
+row_apart kind es i (string s) sound found = sound WrongKind tt
+row_apart kind es i (integer z) sound found = sound WrongKind tt
+row_apart kind es i (float x) sound found = sound WrongKind tt
+row_apart kind es i (boolean b) sound found = sound WrongKind tt
+row_apart kind es i (datetime t) sound found = sound WrongKind tt
+row_apart kind es i (array ds) sound found = sound WrongKind tt
 
-mapped : (o : Option Data) (r : RoleData) → option_map role_of o ≡ Some r → (d : Data) × (o ≡ Some d) × (role_of d ≡ r)
-mapped None r e = absurd cc
-mapped (Some d) r e = (d, refl, cc)
+module _ {X : Type 0} (kind : Kind X) where
+  mapped : (o : Option Data) (x : X) → option_map (says_of kind) o ≡ Some x → (d : Data) × (o ≡ Some d) × (says_of kind d ≡ x)
+  mapped None x e = absurd cc
+  mapped (Some d) x e = (d, refl, cc)
 
-pub role_at : (xs : List Data) (i : ℕ) (r : RoleData) → slice_get (map role_of xs) i ≡ Some r → (d : Data) × (slice_get xs i ≡ Some d) × (role_of d ≡ r)
-role_at xs i r e = mapped (slice_get xs i) r (sym (slice_get-map role_of xs i) ∙ e)
+  pub said_at : (xs : List Data) (i : ℕ) (x : X) → slice_get (map (says_of kind) xs) i ≡ Some x → (d : Data) × (slice_get xs i ≡ Some d) × (says_of kind d ≡ x)
+  said_at xs i x e = mapped (slice_get xs i) x (sym (slice_get-map (says_of kind) xs i) ∙ e)
 
-list_forms : (xs : List Data) → ((row : ℕ) (rule : Rule) → ¬ RowAtBreaks xs row rule) → (place : ℕ) → ¬ IsFirstBadRole 4096 (map role_of xs) place
+  -- no two sound rows have one id
+  pub no_repeat : (xs : List Data) → ((row : ℕ) (rule : Rule) → ¬ RowAtBreaks kind xs row rule) → (i j : ℕ) (x y : X) → i < j
+      → slice_get (map (says_of kind) xs) i ≡ Some x → slice_get (map (says_of kind) xs) j ≡ Some y → kind.id_of x ≡ kind.id_of y → ⊥
+  no_repeat xs sound i j x y lt at_i at_j same =
+      let at = said_at xs j y at_j in
+      let within : j < length xs = slice_get_within xs j at.0 at.1 in
+      let long : i < length (map (says_of kind) (take j xs)) = omega (arith, length-map (take j xs) (says_of kind), length-take {A = Data}) in
+      let here : get_or (map (says_of kind) (take j xs)) i x ≡ x =
+      ap (λ (rs : List X). get_or rs i x) (sym (take-map (says_of kind) j xs))
+      ∙ get_or-take j (map (says_of kind) xs) i x lt
+      ∙ get_or_from_slice_get (map (says_of kind) xs) i x x at_i in
+      row_apart kind (map (says_of kind) (take j xs)) j at.0 (λ rule b. sound j rule (at.0, at.1, b)) (i, x, long, here, same ∙ ap kind.id_of (sym at.2))
+
+  no_row : (row : ℕ) (rule : Rule) → ¬ RowAtBreaks kind [] row rule
+  no_row row rule b = absurd (let e : None ≡ Some b.0 = b.1 in cc)
+
+  -- the rows of a sound table are sound
+  pub rows_sound : (o : Option Data) → ((row : ℕ) (rule : Rule) → ¬ RowsBreak kind o row rule) → (row : ℕ) (rule : Rule) → ¬ RowAtBreaks kind (rows_in o) row rule
+  rows_sound None sound = no_row
+  rows_sound (Some (array ds)) sound = sound
+  rows_sound (Some (string s)) sound = no_row
+  rows_sound (Some (integer z)) sound = no_row
+  rows_sound (Some (float x)) sound = no_row
+  rows_sound (Some (boolean b)) sound = no_row
+  rows_sound (Some (datetime t)) sound = no_row
+  rows_sound (Some (table ms)) sound = no_row
+
+list_forms : (xs : List Data) → ((row : ℕ) (rule : Rule) → ¬ RowAtBreaks role_rows xs row rule) → (place : ℕ) → ¬ IsFirstBadRole 4096 (map (says_of role_rows) xs) place
 list_forms xs sound place bad =
-    let at = role_at xs place bad.role bad.at in
-    row_form (map role_of (take place xs)) place at.0 (λ rule b. sound place rule (at.0, at.1, b))
-    (λ form. bad.bad (subst (λ (r : RoleData). HasRoleForm 4096 r) at.2 form.form))
+    let at = said_at role_rows xs place bad.role bad.at in
+    row_form role_rows (map (says_of role_rows) (take place xs)) place at.0 (λ rule b. sound place rule (at.0, at.1, b))
+    (λ form. bad.bad (subst (λ (r : RoleData). HasRoleForm 4096 r) at.2 form.form.form))
 
-list_apart : (xs : List Data) → ((row : ℕ) (rule : Rule) → ¬ RowAtBreaks xs row rule) → (i j : ℕ) → ¬ IsFirstRepeat (map role_of xs) i j
-list_apart xs sound i j again =
-    let at = role_at xs j again.second again.at_j in
-    let within : j < length xs = slice_get_within xs j at.0 at.1 in
-    let lt : i < j = again.earlier in
-    let long : i < length (map role_of (take j xs)) = omega (arith, length-map (take j xs) role_of, length-take {A = Data}) in
-    let here : get_or (map role_of (take j xs)) i again.first ≡ again.first =
-    ap (λ (rs : List RoleData). get_or rs i again.first) (sym (take-map role_of j xs))
-    ∙ get_or-take j (map role_of xs) i again.first lt
-    ∙ get_or_from_slice_get (map role_of xs) i again.first again.first again.at_i in
-    row_apart (map role_of (take j xs)) j at.0 (λ rule b. sound j rule (at.0, at.1, b)) (i, again.first, long, here, again.same ∙ ap (λ (r : RoleData). r.id) (sym at.2))
+pub forms : (o : Option Data) (roles : List RoleData) → roles ≡ roles_in o → ((row : ℕ) (rule : Rule) → ¬ RowsBreak role_rows o row rule) → (place : ℕ) → ¬ IsFirstBadRole 4096 roles place
+forms o roles same sound = subst (λ (rs : List RoleData). (place : ℕ) → ¬ IsFirstBadRole 4096 rs place) (sym same) (list_forms (rows_in o) (rows_sound role_rows o sound))
 
-no_roles_forms : (place : ℕ) → ¬ IsFirstBadRole 4096 [] place
-no_roles_forms place bad = absurd (let e : None ≡ Some bad.role = bad.at in cc)
-
-no_roles_apart : (i j : ℕ) → ¬ IsFirstRepeat [] i j
-no_roles_apart i j again = absurd (let e : None ≡ Some again.first = again.at_i in cc)
-
-forms_in : (o : Option Data) → ((row : ℕ) (rule : Rule) → ¬ RowsBreak o row rule) → (place : ℕ) → ¬ IsFirstBadRole 4096 (roles_in o) place
-forms_in None sound = no_roles_forms
-forms_in (Some (array ds)) sound = list_forms (list_of ds) sound
-forms_in (Some (string s)) sound = no_roles_forms
-forms_in (Some (integer z)) sound = no_roles_forms
-forms_in (Some (float x)) sound = no_roles_forms
-forms_in (Some (boolean b)) sound = no_roles_forms
-forms_in (Some (datetime t)) sound = no_roles_forms
-forms_in (Some (table ms)) sound = no_roles_forms
-
-apart_in : (o : Option Data) → ((row : ℕ) (rule : Rule) → ¬ RowsBreak o row rule) → (i j : ℕ) → ¬ IsFirstRepeat (roles_in o) i j
-apart_in None sound = no_roles_apart
-apart_in (Some (array ds)) sound = list_apart (list_of ds) sound
-apart_in (Some (string s)) sound = no_roles_apart
-apart_in (Some (integer z)) sound = no_roles_apart
-apart_in (Some (float x)) sound = no_roles_apart
-apart_in (Some (boolean b)) sound = no_roles_apart
-apart_in (Some (datetime t)) sound = no_roles_apart
-apart_in (Some (table ms)) sound = no_roles_apart
-
-pub forms : (o : Option Data) (roles : List RoleData) → roles ≡ roles_in o → ((row : ℕ) (rule : Rule) → ¬ RowsBreak o row rule) → (place : ℕ) → ¬ IsFirstBadRole 4096 roles place
-forms o roles same sound = subst (λ (rs : List RoleData). (place : ℕ) → ¬ IsFirstBadRole 4096 rs place) (sym same) (forms_in o sound)
-
-pub apart : (o : Option Data) (roles : List RoleData) → roles ≡ roles_in o → ((row : ℕ) (rule : Rule) → ¬ RowsBreak o row rule) → (i j : ℕ) → ¬ IsFirstRepeat roles i j
-apart o roles same sound = subst (λ (rs : List RoleData). (i j : ℕ) → ¬ IsFirstRepeat rs i j) (sym same) (apart_in o sound)
+pub apart : (o : Option Data) (roles : List RoleData) → roles ≡ roles_in o → ((row : ℕ) (rule : Rule) → ¬ RowsBreak role_rows o row rule) → (i j : ℕ) → ¬ IsFirstRepeat roles i j
+apart o roles same sound =
+    subst (λ (rs : List RoleData). (i j : ℕ) → ¬ IsFirstRepeat rs i j) (sym same)
+    (λ i j again. no_repeat role_rows (rows_in o) (rows_sound role_rows o sound) i j again.first again.second again.earlier again.at_i again.at_j again.same)
 
 -- ---- results
 
 pub refuses_rows : (top : Members) → has_only table_names top ≡ true → ((rule : Rule) → ¬ FarmBreaks (farm_in top) rule) → (e : FileFault)
-    → RefusesRows (RowsBreak (get_member (codes "role") top)) e → RefusesTables top e
+    → RefusesRows Role (RowsBreak role_rows (get_member (codes "role") top)) e → RefusesTables top e
 refuses_rows top only farm (faults.Fault f) h = first_role top only farm f h
 refuses_rows top only farm faults.NoMemory h = tt
 
-pub refuses_cycle : (top : Members) → has_only table_names top ≡ true → ((rule : Rule) → ¬ FarmBreaks (farm_in top) rule) → ((row : ℕ) (rule : Rule) → ¬ RowsBreak (get_member (codes "role") top) row rule)
+pub refuses_cycle : (top : Members) → has_only table_names top ≡ true → ((rule : Rule) → ¬ FarmBreaks (farm_in top) rule) → ((row : ℕ) (rule : Rule) → ¬ RowsBreak role_rows (get_member (codes "role") top) row rule)
     → (roles : List RoleData) → roles ≡ roles_in (get_member (codes "role") top) → (e : FileFault) → RefusesCycle roles e → RefusesTables top e
 refuses_cycle top only farm rows roles same (faults.Fault f) h = first_cycle top only farm rows roles f same h
 refuses_cycle top only farm rows roles same faults.NoMemory h = tt
 
+pub refuses_clients : (top : Members) → has_only table_names top ≡ true → ((rule : Rule) → ¬ FarmBreaks (farm_in top) rule) → ((row : ℕ) (rule : Rule) → ¬ RowsBreak role_rows (get_member (codes "role") top) row rule)
+    → (roles : List RoleData) → roles ≡ roles_in (get_member (codes "role") top) → ((row : ℕ) → ¬ LiesOnCycle roles row) → (e : FileFault)
+    → RefusesRows Client (RowsBreak client_rows (get_member (codes "client") top)) e → RefusesTables top e
+refuses_clients top only farm rows roles same acyclic (faults.Fault f) h = first_client top only farm rows (acyclic_in top only farm rows roles same acyclic) f h
+refuses_clients top only farm rows roles same acyclic faults.NoMemory h = tt
+
 pub says_farm : (longest : ℕ) (bytes : List ℕ) (top : Members) → length bytes ≤ longest → IsToml bytes top → (r : Result Config FileFault)
     → MatchResult r (SaysTables top) (RefusesTables top) → MatchResult r (Says longest bytes) (Refuses longest bytes)
-says_farm longest bytes top le toml (Ok config) h = record { sound = sound_of_tables longest bytes top le toml h.sound; top = top; toml = toml; said = h.said }
+says_farm longest bytes top le toml (Ok config) h = record { sound = sound_of_tables longest bytes top le toml h.sound; top = top; toml = toml; said = h.said; clients = h.clients }
 says_farm longest bytes top le toml (Err (faults.Fault f)) h = first_of_tables longest bytes top f le toml h
 says_farm longest bytes top le toml (Err faults.NoMemory) h = tt
 
@@ -351,7 +391,7 @@ rule_at-number ParameterCycle = refl
 rule_at-number TooLong = refl
 
 table_at : ℕ → Table
-table_at n = if nat_lt n 3 then File else (if nat_lt n 4 then Farm else Role)
+table_at n = if nat_lt n 3 then File else (if nat_lt n 4 then Farm else (if nat_lt n 6 then Role else Client))
 
 table_at-turn : (t : Table) (r : Rule) → table_at (turn t r) ≡ t
 unfolding table_at
@@ -372,6 +412,7 @@ table_at-turn Role OutOfForm = refl
 table_at-turn Role RepeatedId = refl
 table_at-turn Role ParameterCycle = refl
 table_at-turn Role TooLong = refl
+table_at-turn Client r = refl
 
 level : (m n : ℕ) → ¬ (m < n) → ¬ (n < m) → m ≡ n
 level m n a b =
@@ -397,4 +438,7 @@ pub first_one : (P : Fault → Type 0) (f g : Fault) → IsFirst P f → IsFirst
 first_one P f g p q = neither f g (λ before. q.first f before p.breaks) (λ before. p.first g before q.breaks)
 
 pub says_one : (longest : ℕ) (bytes : List ℕ) (a b : Config) → Says longest bytes a → Says longest bytes b → a ≡ b
-says_one longest bytes a b p q = p.said ∙ ap farm_of (toml_one bytes p.top q.top p.toml q.toml) ∙ sym q.said
+says_one longest bytes a b p q =
+    let tops = toml_one bytes p.top q.top p.toml q.toml in
+    let same = clients_one _ a.clients b.clients (subst (λ (top : Members). AreClients (clients_in (get_member (codes "client") top)) a.clients) tops p.clients) q.clients in
+    p.said ∙ ap (λ (top : Members). farm_of top a.clients) tops ∙ ap (farm_of q.top) same ∙ sym q.said

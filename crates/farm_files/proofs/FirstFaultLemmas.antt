@@ -1,7 +1,14 @@
 -- What breaks a rule breaks a first one, so that each file says a configuration or has a first fault.
-use Rattle.std.proofs.Common.{ℕ, zero, suc, ◌<◌, ◌≤◌, inl, inr, List, refl, arith}
+use Rattle.std.proofs.Common.{ℕ, zero, suc, ◌<◌, ◌≤◌, inl, inr, List, map, take, refl, subst, arith}
+use Rattle.std.specs.Prelude.{codes}
+use Rattle.farm_text.specs.DateTime.{IsDateTime}
+use Rattle.toml.specs.Data.{get_member}
+use Rattle.farm_files.specs.Clients.{ClientText, client_rows, clients_in}
+use Rattle.farm_files.specs.Rows.{rows_in, says_of}
+use Rattle.farm_files.proofs.ClientLemmas.{some_clients}
+use Rattle.farm_files.proofs.FarmLemmas.{row_form, rows_sound, said_at}
 use Rattle.farm_machine.specs.declared.config.Config.{Config}
-use Rattle.farm_files.specs.declared.fault.Table.TheVariants.{File}
+use Rattle.farm_files.specs.declared.fault.Table.TheVariants.{File, Client}
 use Rattle.farm_files.specs.declared.fault.Rule.TheVariants.{NotToml}
 use Rattle.farm_files.specs.declared.fault.Fault.{Fault}
 use Rattle.farm_files.specs.Faults.{rule_number, fault_at, turn, IsBefore, IsFirst}
@@ -40,4 +47,16 @@ none_first Breaks none = each_fault (λ f. ¬ Breaks f) (λ f before breaks. non
 pub says_or_breaks : (longest : ℕ) (bytes : List ℕ) → ((config : Config) → ¬ Says longest bytes config) → ((f : Fault) → ¬ IsFirst (Breaks longest bytes) f) → ⊥
 says_or_breaks longest bytes unsaid none =
     let sound = none_first (Breaks longest bytes) none in
-    sound (fault_at File 0 NotToml) (inl (refl, refl, λ top toml. unsaid (farm_of top) record { sound = sound; top = top; toml = toml; said = refl }))
+    sound (fault_at File 0 NotToml) (inl (
+      refl,
+      refl,
+      λ top toml.
+          let rows = get_member (codes "client") top in
+          let rows_are = rows_sound client_rows rows (λ row rule b. sound (fault_at Client row rule) (inr (top, toml, b))) in
+          some_clients (clients_in rows)
+          (λ k t at no.
+          let said = said_at client_rows (rows_in rows) k t at in
+          row_form client_rows (map (says_of client_rows) (take k (rows_in rows))) k said.0 (λ rule b. rows_are k rule (said.0, said.1, b))
+          (λ form. no (subst (λ (x : ClientText). (m : ℕ) × IsDateTime m x.expires) said.2 form.form.moment)))
+          (λ cs are. unsaid (farm_of top cs) record { sound = sound; top = top; toml = toml; said = refl; clients = are }),
+    ))

@@ -1,4 +1,4 @@
--- The rows of `[[role]]`, beside the values and the roles that stand for them.
+-- Rows, beside the values that stand for them.
 use Rattle.std.proofs.Common.{◌≡◌, ℕ, ◌+◌, ◌<◌, Bool, true, false, cond, ◌||◌, List, [], ◌∷◌, ◌++◌, length, get_or, take, map, Option, Some, None, Result, Ok, Err, Bor, String, Global, refl, sym, ap, ◌∙◌, subst, arith, inl, inr}
 use Rattle.std.specs.Prelude.{All, Any, MatchResult, codes, is_some, slice_get}
 use Rattle.std.specs.List.{list_all, list_any, filter_map}
@@ -21,12 +21,13 @@ use Rattle.farm_files.specs.declared.fault.Rule.{Rule}
 use Rattle.farm_files.specs.declared.fault.Rule.TheVariants.{NotToml, UnknownKey, MissingKey, WrongKind, OutOfForm, RepeatedId, ParameterCycle, TooLong}
 use Rattle.farm_files.specs.declared.fault.RowFault.{RowFault}
 use Rattle.farm_files.specs.declared.fault.RowFault.TheVariants as rows
-use Rattle.farm_files.specs.declared.fault.Table.TheVariants as tables
+use Rattle.farm_files.specs.declared.fault.Table.{Table}
 use Rattle.farm_files.specs.Earlier.{AreIdsOf}
 use Rattle.farm_files.specs.Faults.{rule_number, fault_at}
 use Rattle.farm_files.specs.Values.{has_only, is_text, are_texts, passes, text_or, texts_in}
-use Rattle.farm_files.specs.Rows.{role_keys, HasRoleKeys, HasRoleKinds, role_in, role_of, RowBreaks, RowAtBreaks, RowsBreak}
-use Rattle.farm_files.specs.Parts.{role_by, AreRoleValues, RefusesValues, HasRole, RefusesKeys, IsFirstRow}
+use Rattle.farm_files.specs.Roles.{role_keys, role_rows, HasRoleKeys, HasRoleKinds, role_in}
+use Rattle.farm_files.specs.Rows.{Kind, says_of, RowBreaks, RowAtBreaks, RowsBreak}
+use Rattle.farm_files.specs.Parts.{role_by, AreRoleValues, RefusesValues, HasRow, RefusesKeys, IsFirstRow}
 use Rattle.farm_files.proofs.ValueLemmas.{list_of-items}
 
 pub not_printable : (texts : List (Bor (List ℕ))) (i : ℕ) (d : Bor (List ℕ)) (s : List ℕ) → i < length texts → s ≡ (get_or texts i d).now → ¬ All IsPrintable s
@@ -67,14 +68,10 @@ module _ (ms : Members) (id scopes : Data) (only : has_only role_keys ms ≡ tru
       ap (λ a. made a (Some scopes)) e1 ∙ ap (made (get_member (codes "id") ms)) e2
 
   pub keys_from_values : (r : Result Role RowFault) → MatchResult r (λ role. AreRoleValues id scopes × (role_data role ≡ role_by id scopes)) (RefusesValues id scopes)
-      → MatchResult r (λ role. HasRole ms × (role_data role ≡ role_in ms)) (RefusesKeys ms)
+      → MatchResult r (λ role. HasRow role_rows ms × All (All IsPrintable) (role_in ms).scopes × (role_data role ≡ role_in ms)) (RefusesKeys role_rows ms)
   keys_from_values (Ok role) h = (
-    record {
-      only = only;
-      keys = keys;
-      kinds = kinds h.0.id_kind h.0.scopes_kind;
-      printable = subst (λ o. All (All IsPrintable) (texts_in o)) e2 h.0.printable;
-    },
+    record { only = only; keys = keys; kinds = kinds h.0.id_kind h.0.scopes_kind },
+    subst (λ o. All (All IsPrintable) (texts_in o)) e2 h.0.printable,
     h.1 ∙ role_is,
   )
   keys_from_values (Err (rows.Breaks NotToml)) h = absurd h
@@ -83,13 +80,13 @@ module _ (ms : Members) (id scopes : Data) (only : has_only role_keys ms ≡ tru
   keys_from_values (Err (rows.Breaks WrongKind)) h =
       (only, keys, λ k. h (ap (passes is_text) e1 ∙ k.id, ap (passes are_texts) e2 ∙ k.scopes))
   keys_from_values (Err (rows.Breaks OutOfForm)) h =
-      (only, keys, kinds h.0 h.1, λ p. h.2 (subst (λ o. All (All IsPrintable) (texts_in o)) (sym e2) p))
+      (record { only = only; keys = keys; kinds = kinds h.0 h.1 }, λ form. h.2 (subst (λ o. All (All IsPrintable) (texts_in o)) (sym e2) form.printable))
   keys_from_values (Err (rows.Breaks RepeatedId)) h = absurd h
   keys_from_values (Err (rows.Breaks ParameterCycle)) h = absurd h
   keys_from_values (Err (rows.Breaks TooLong)) h = absurd h
   keys_from_values (Err rows.NoMemory) h = tt
 
--- ---- an id among roles
+-- ---- an id among others
 
 same_truth : (a b : Bool) → (a ≡ true → b ≡ true) → (b ≡ true → a ≡ true) → a ≡ b
 same_truth true b f g = sym (f refl)
@@ -109,71 +106,77 @@ ids_with false true had has e h = absurd cc
 ids_with false false true false e h = absurd cc
 ids_with false false false true e h = absurd cc
 
-pub has_id-true : (roles : List RoleData) (id : List ℕ) → true ≡ list_any (λ role. bytes_eq id role.id) roles → Any (λ role. role.id ≡ id) roles
-has_id-true roles id h =
-    let a = Any-from_list_any (λ role. bytes_eq id role.id) roles (sym h) in
-    (a.0, a.1, a.2, a.3, sym ((bytes_eq-Decides id a.1.id).0 a.4))
-
-pub has_id-false : (roles : List RoleData) (id : List ℕ) → false ≡ list_any (λ role. bytes_eq id role.id) roles → ¬ Any (λ role. role.id ≡ id) roles
-has_id-false roles id h a =
-    false≢true (h ∙ list_any-from_Any (λ role. bytes_eq id role.id) roles (a.0, a.1, a.2, a.3, (bytes_eq-Decides id a.1.id).1 (sym a.4)))
-
--- the ids of roles behind which one more stands
-pub ids_more : (roles : List RoleData) (role : RoleData) (ids more : BTreeSet (String Global)) → AreIdsOf roles ids
-    → ((id : List ℕ) → contains_text more id ≡ cond (bytes_eq role.id id) true (contains_text ids id)) → AreIdsOf (roles ++ role ∷ []) more
-ids_more roles role ids more are puts id =
-    puts id ∙ ids_with (bytes_eq role.id id) (bytes_eq id role.id) (contains_text ids id) (list_any (λ r. bytes_eq id r.id) roles) (bytes_eq-swap role.id id) (are id)
-    ∙ sym (list_any-append (λ r. bytes_eq id r.id) roles (role ∷ []))
+-- these ids, and behind them one more
+pub ids_more : (used : List (List ℕ)) (id : List ℕ) (ids more : BTreeSet (String Global)) → AreIdsOf used ids
+    → ((other : List ℕ) → contains_text more other ≡ cond (bytes_eq id other) true (contains_text ids other)) → AreIdsOf (used ++ id ∷ []) more
+ids_more used id ids more are puts other =
+    puts other ∙ ids_with (bytes_eq id other) (bytes_eq other id) (contains_text ids other) (list_any (λ o. bytes_eq other o) used) (bytes_eq-swap id other) (are other)
+    ∙ sym (list_any-append (λ o. bytes_eq other o) used (id ∷ []))
 
 -- ---- a row at its place
 
 pub at_place : (vs : List Value) (i : ℕ) (v : Value) → i < length vs → v ≡ get_or vs i v → slice_get (map view vs) i ≡ Some (view v)
 at_place vs i v lt at = rw (slice_get-map view vs i, slice_get_read vs (length vs) i v refl lt at) refl
 
-pub earlier_is : (vs : List Value) (i : ℕ) (es : List RoleData) → es ≡ map role_of (map view (take i vs)) → es ≡ map role_of (take i (map view vs))
-earlier_is vs i es h = h ∙ ap (map role_of) (sym (take-map view i vs))
+pub earlier_is : {X : Type 0} (kind : Kind X) (vs : List Value) (i : ℕ) → map (says_of kind) (map view (take i vs)) ≡ map (says_of kind) (take i (map view vs))
+earlier_is kind vs i = ap (map (says_of kind)) (sym (take-map view i vs))
 
 some_is : (a b : Data) → Some a ≡ Some b → a ≡ b
 some_is a b e = cc
 
-pub row_sound : (ds : List Data) (i : ℕ) (es : List RoleData) (d : Data) → slice_get ds i ≡ Some d → es ≡ map role_of (take i ds) → ((rule : Rule) → ¬ RowBreaks es i d rule)
-    → (rule : Rule) → ¬ RowAtBreaks ds i rule
-row_sound ds i es d at before sound rule b =
+pub row_sound_at : {X : Type 0} (kind : Kind X) (ds : List Data) (i : ℕ) (es : List X) (d : Data) → slice_get ds i ≡ Some d → es ≡ map (says_of kind) (take i ds) → ((rule : Rule) → ¬ RowBreaks kind es i d rule)
+    → (rule : Rule) → ¬ RowAtBreaks kind ds i rule
+row_sound_at kind ds i es d at before sound rule b =
     let same : b.0 ≡ d = some_is b.0 d (sym b.1 ∙ at) in
-    sound rule (subst (λ x. RowBreaks es i x rule) same (subst (λ x. RowBreaks x i b.0 rule) (sym before) b.2))
+    sound rule (subst (λ x. RowBreaks kind es i x rule) same (subst (λ x. RowBreaks kind x i b.0 rule) (sym before) b.2))
 
-pub row_breaks : (ds : List Data) (i : ℕ) (es : List RoleData) (d : Data) (rule : Rule) → slice_get ds i ≡ Some d → es ≡ map role_of (take i ds) → RowBreaks es i d rule → RowAtBreaks ds i rule
-row_breaks ds i es d rule at before h = (d, at, subst (λ x. RowBreaks x i d rule) before h)
+pub row_breaks_at : {X : Type 0} (kind : Kind X) (ds : List Data) (i : ℕ) (es : List X) (d : Data) (rule : Rule) → slice_get ds i ≡ Some d → es ≡ map (says_of kind) (take i ds) → RowBreaks kind es i d rule → RowAtBreaks kind ds i rule
+row_breaks_at kind ds i es d rule at before h = (d, at, subst (λ x. RowBreaks kind x i d rule) before h)
 
-pub row_unbroken : (ds : List Data) (i : ℕ) (es : List RoleData) (d : Data) (rule : Rule) → slice_get ds i ≡ Some d → es ≡ map role_of (take i ds) → ¬ RowBreaks es i d rule → ¬ RowAtBreaks ds i rule
-row_unbroken ds i es d rule at before never b =
+pub row_unbroken_at : {X : Type 0} (kind : Kind X) (ds : List Data) (i : ℕ) (es : List X) (d : Data) (rule : Rule) → slice_get ds i ≡ Some d → es ≡ map (says_of kind) (take i ds) → ¬ RowBreaks kind es i d rule → ¬ RowAtBreaks kind ds i rule
+row_unbroken_at kind ds i es d rule at before never b =
     let same : b.0 ≡ d = some_is b.0 d (sym b.1 ∙ at) in
-    never (subst (λ x. RowBreaks es i x rule) same (subst (λ x. RowBreaks x i b.0 rule) (sym before) b.2))
+    never (subst (λ x. RowBreaks kind es i x rule) same (subst (λ x. RowBreaks kind x i b.0 rule) (sym before) b.2))
 
-pub rows_more : (ds : List Data) (i : ℕ) → ((j : ℕ) (rule : Rule) → j < i → ¬ RowAtBreaks ds j rule) → ((rule : Rule) → ¬ RowAtBreaks ds i rule)
-    → (j : ℕ) (rule : Rule) → j < i + 1 → ¬ RowAtBreaks ds j rule
-rows_more ds i before here j rule lt =
+pub rows_more : {X : Type 0} (kind : Kind X) (ds : List Data) (i : ℕ) → ((j : ℕ) (rule : Rule) → j < i → ¬ RowAtBreaks kind ds j rule) → ((rule : Rule) → ¬ RowAtBreaks kind ds i rule)
+    → (j : ℕ) (rule : Rule) → j < i + 1 → ¬ RowAtBreaks kind ds j rule
+rows_more kind ds i before here j rule lt =
     elim (cases_lt j i) [
       | inl below ↦ before j rule below
-      | inr above ↦ let e : i ≡ j = omega arith in subst (λ k. ¬ RowAtBreaks ds k rule) e (here rule)
+      | inr above ↦ let e : i ≡ j = omega arith in subst (λ k. ¬ RowAtBreaks kind ds k rule) e (here rule)
     ]
 
-pub row_within : (es : List RoleData) (i : ℕ) (d : Data) → ((rule : Rule) → ¬ RowBreaks es i d rule) → i < 10000
-row_within es i (table ms) sound =
+pub row_within : {X : Type 0} (kind : Kind X) (es : List X) (i : ℕ) (d : Data) → ((rule : Rule) → ¬ RowBreaks kind es i d rule) → i < 10000
+row_within kind es i (table ms) sound =
     elim (cases_lt i 10000) [ inl lt ↦ lt | inr le ↦ absurd (sound OutOfForm (λ form. absurd (omega (arith, form.within)))) ]
-row_within es i (string s) sound = absurd (sound WrongKind tt)
-row_within es i (integer z) sound = absurd (sound WrongKind tt)
-row_within es i (float x) sound = absurd (sound WrongKind tt)
-row_within es i (boolean b) sound = absurd (sound WrongKind tt)
-row_within es i (datetime t) sound = absurd (sound WrongKind tt)
-row_within es i (array ds) sound = absurd (sound WrongKind tt)
+row_within kind es i (string s) sound = absurd (sound WrongKind tt)
+row_within kind es i (integer z) sound = absurd (sound WrongKind tt)
+row_within kind es i (float x) sound = absurd (sound WrongKind tt)
+row_within kind es i (boolean b) sound = absurd (sound WrongKind tt)
+row_within kind es i (datetime t) sound = absurd (sound WrongKind tt)
+row_within kind es i (array ds) sound = absurd (sound WrongKind tt)
+
+-- what rows say, and behind them one more
+pub said_more : {X : Type 0} (kind : Kind X) (vs : List Value) (i : ℕ) (v : Value) → i < length vs → v ≡ get_or vs i v
+    → map (says_of kind) (map view (take (i + 1) vs)) ≡ map (says_of kind) (map view (take i vs)) ++ says_of kind (view v) ∷ []
+said_more kind vs i v lt at =
+    let b : map view (take (i + 1) vs) ≡ map view (take i vs) ++ view v ∷ [] = map_more view vs i v lt ∙ ap (λ w. map view (take i vs) ++ view w ∷ []) (sym at) in
+    ap (map (says_of kind)) b ∙ map_push (says_of kind) (map view (take i vs)) (view v)
 
 pub roles_more : (vs : List Value) (i : ℕ) (v : Value) (so_far more : List RoleData) (role : RoleData) → i < length vs → v ≡ get_or vs i v → more ≡ so_far ++ role ∷ []
-    → so_far ≡ map role_of (map view (take i vs)) → role ≡ role_of (view v) → more ≡ map role_of (map view (take (i + 1) vs))
+    → so_far ≡ map (says_of role_rows) (map view (take i vs)) → role ≡ says_of role_rows (view v) → more ≡ map (says_of role_rows) (map view (take (i + 1) vs))
 roles_more vs i v so_far more role lt at pushed are is =
-    let b : map view (take (i + 1) vs) ≡ map view (take i vs) ++ view v ∷ [] = map_more view vs i v lt ∙ ap (λ w. map view (take i vs) ++ view w ∷ []) (sym at) in
-    let c : map role_of (map view (take (i + 1) vs)) ≡ map role_of (map view (take i vs)) ++ role_of (view v) ∷ [] = ap (map role_of) b ∙ map_push role_of (map view (take i vs)) (view v) in
-    pushed ∙ ap (λ t. t ++ role ∷ []) are ∙ ap (λ r. map role_of (map view (take i vs)) ++ r ∷ []) is ∙ sym c
+    pushed ∙ ap (λ t. t ++ role ∷ []) are ∙ ap (λ r. map (says_of role_rows) (map view (take i vs)) ++ r ∷ []) is ∙ sym (said_more role_rows vs i v lt at)
+
+-- the ids of rows, and behind them one more
+pub said_ids_more : {X : Type 0} (kind : Kind X) (vs : List Value) (i : ℕ) (v : Value) (id : List ℕ) (ids more : BTreeSet (String Global)) → i < length vs → v ≡ get_or vs i v
+    → id ≡ kind.id_of (says_of kind (view v)) → AreIdsOf (map kind.id_of (map (says_of kind) (map view (take i vs)))) ids
+    → ((used : List (List ℕ)) → AreIdsOf used ids → AreIdsOf (used ++ id ∷ []) more) → AreIdsOf (map kind.id_of (map (says_of kind) (map view (take (i + 1) vs)))) more
+said_ids_more kind vs i v id ids more lt at is are adds =
+    let said = map (says_of kind) (map view (take i vs)) in
+    let all : map kind.id_of (map (says_of kind) (map view (take (i + 1) vs))) ≡ map kind.id_of said ++ id ∷ [] =
+    ap (map kind.id_of) (said_more kind vs i v lt at) ∙ map_push kind.id_of said (says_of kind (view v)) ∙ ap (λ x. map kind.id_of said ++ x ∷ []) (sym is) in
+    subst (λ used. AreIdsOf used more) (sym all) (adds (map kind.id_of said) are)
 
 -- ---- cycles
 
@@ -197,24 +200,24 @@ printable_more texts i d s lt is here before =
     subst (λ (xs : List (List ℕ)). All (All IsPrintable) xs) (sym (map_more (λ t. t.now) texts i d lt))
     (All-push (All IsPrintable) (map (λ t. t.now) (take i texts)) ((get_or texts i d).now) before (subst (λ (x : List ℕ). All IsPrintable x) is here))
 
--- ---- `[[role]]` as a value
+-- ---- a table as a value
 
-pub rows_none : (o : Option Data) → None ≡ o → (row : ℕ) (rule : Rule) → ¬ RowsBreak o row rule
-rows_none o e = subst (λ (x : Option Data). (row : ℕ) (rule : Rule) → ¬ RowsBreak x row rule) e (λ row rule b. b)
+pub rows_none : {X : Type 0} (kind : Kind X) (o : Option Data) → None ≡ o → (row : ℕ) (rule : Rule) → ¬ RowsBreak kind o row rule
+rows_none kind o e = subst (λ (x : Option Data). (row : ℕ) (rule : Rule) → ¬ RowsBreak kind x row rule) e (λ row rule b. b)
 
-one_row : (P : ℕ → Rule → Type 0) → P 0 WrongKind → ((row : ℕ) (rule : Rule) → P row rule → rule ≡ WrongKind) → IsFirstRow P (fault_at tables.Role 0 WrongKind)
-one_row P h only = record {
-  role = refl;
+one_row : (t : Table) (P : ℕ → Rule → Type 0) → P 0 WrongKind → ((row : ℕ) (rule : Rule) → P row rule → rule ≡ WrongKind) → IsFirstRow t P (fault_at t 0 WrongKind)
+one_row t P h only = record {
+  table_is = refl;
   breaks = h;
   earlier = λ row rule lt. absurd (omega arith);
   least = λ rule lt b. absurd (omega (arith, ap rule_number (only 0 rule b)));
 }
 
-pub no_array : (d : Data) → None ≡ as_array d → IsFirstRow (RowsBreak (Some d)) (fault_at tables.Role 0 WrongKind)
-no_array (string s) e = one_row (RowsBreak (Some (string s))) (refl, refl) (λ row rule b. b.1)
-no_array (integer z) e = one_row (RowsBreak (Some (integer z))) (refl, refl) (λ row rule b. b.1)
-no_array (float x) e = one_row (RowsBreak (Some (float x))) (refl, refl) (λ row rule b. b.1)
-no_array (boolean b) e = one_row (RowsBreak (Some (boolean b))) (refl, refl) (λ row rule b. b.1)
-no_array (datetime t) e = one_row (RowsBreak (Some (datetime t))) (refl, refl) (λ row rule b. b.1)
-no_array (array ds) e = absurd cc
-no_array (table ms) e = one_row (RowsBreak (Some (table ms))) (refl, refl) (λ row rule b. b.1)
+pub no_array : {X : Type 0} (kind : Kind X) (named : Table) (d : Data) → None ≡ as_array d → IsFirstRow named (RowsBreak kind (Some d)) (fault_at named 0 WrongKind)
+no_array kind named (string s) e = one_row named (RowsBreak kind (Some (string s))) (refl, refl) (λ row rule b. b.1)
+no_array kind named (integer z) e = one_row named (RowsBreak kind (Some (integer z))) (refl, refl) (λ row rule b. b.1)
+no_array kind named (float x) e = one_row named (RowsBreak kind (Some (float x))) (refl, refl) (λ row rule b. b.1)
+no_array kind named (boolean b) e = one_row named (RowsBreak kind (Some (boolean b))) (refl, refl) (λ row rule b. b.1)
+no_array kind named (datetime t) e = one_row named (RowsBreak kind (Some (datetime t))) (refl, refl) (λ row rule b. b.1)
+no_array kind named (array ds) e = absurd cc
+no_array kind named (table ms) e = one_row named (RowsBreak kind (Some (table ms))) (refl, refl) (λ row rule b. b.1)

@@ -1,8 +1,12 @@
 -- The least rule of those that a table or a row breaks.
-use Rattle.std.proofs.Common.{◌≡◌, ℕ, ◌<◌, true, false, List, Some, None, sym, ◌∙◌, arith, refl}
+use Rattle.std.proofs.Common.{◌≡◌, ℕ, ◌<◌, Bool, true, false, ◌||◌, List, [], ◌∷◌, map, Some, None, String, Global, sym, ap, ◌∙◌, subst, arith, refl}
 use Rattle.std.specs.Prelude.{Any}
+use Rattle.std.specs.BTreeSet.{BTreeSet}
+use Rattle.std.specs.List.{list_any}
+use Rattle.std.specs.Str.{bytes_eq}
+use Rattle.std.proofs.lemmas.List.Folds.{Any-from_list_any, list_any-from_Any}
+use Rattle.std.proofs.lemmas.Slice.Eq.{bytes_eq-Decides}
 use Rattle.std.proofs.lemmas.Bool.{false≢true}
-use Rattle.role_expand.specs.Roles.{RoleData}
 use Rattle.toml.specs.Data.{Data, string, integer, float, boolean, datetime, array, table, Members, as_table}
 use Rattle.farm_files.specs.declared.fault.Rule.{Rule}
 use Rattle.farm_files.specs.declared.fault.Rule.TheVariants.{NotToml, UnknownKey, MissingKey, WrongKind, OutOfForm, RepeatedId, ParameterCycle, TooLong}
@@ -12,8 +16,9 @@ use Rattle.farm_files.specs.declared.settings.Settings.{Settings}
 use Rattle.farm_files.specs.Faults.{rule_number, IsLeastRule, RefusesRow}
 use Rattle.farm_files.specs.Values.{has_only}
 use Rattle.farm_files.specs.Files.{farm_keys, FarmBreaks, HasFarmKinds, HasFarmForms}
-use Rattle.farm_files.specs.Rows.{role_keys, HasRoleKeys, HasRoleKinds, HasRowForm, role_in, RowBreaks}
-use Rattle.farm_files.specs.Parts.{HasRole, RefusesKeys}
+use Rattle.farm_files.specs.Rows.{Kind, HasRowForm, RowBreaks}
+use Rattle.farm_files.specs.Parts.{HasRow, RefusesKeys, IsSoundRow, RefusesRowBehind}
+use Rattle.farm_files.specs.Earlier.{AreIdsOf}
 
 -- none below a number, from each rule
 below : (P : Rule → Type 0) (n : ℕ) → (1 < n → ¬ P NotToml) → (2 < n → ¬ P UnknownKey) → (3 < n → ¬ P MissingKey) → (4 < n → ¬ P WrongKind)
@@ -45,14 +50,14 @@ farm_no_table (datetime t) e = kind_only (FarmBreaks (datetime t)) tt (λ x. x) 
 farm_no_table (array ds) e = kind_only (FarmBreaks (array ds)) tt (λ x. x) (λ x. x) (λ x. x)
 farm_no_table (table ms) e = absurd cc
 
-pub row_no_table : (es : List RoleData) (i : ℕ) (d : Data) → None ≡ as_table d → IsLeastRule (RowBreaks es i d) WrongKind
-row_no_table es i (string s) e = kind_only (RowBreaks es i (string s)) tt (λ x. x) (λ x. x) (λ x. x)
-row_no_table es i (integer z) e = kind_only (RowBreaks es i (integer z)) tt (λ x. x) (λ x. x) (λ x. x)
-row_no_table es i (float x) e = kind_only (RowBreaks es i (float x)) tt (λ x. x) (λ x. x) (λ x. x)
-row_no_table es i (boolean b) e = kind_only (RowBreaks es i (boolean b)) tt (λ x. x) (λ x. x) (λ x. x)
-row_no_table es i (datetime t) e = kind_only (RowBreaks es i (datetime t)) tt (λ x. x) (λ x. x) (λ x. x)
-row_no_table es i (array ds) e = kind_only (RowBreaks es i (array ds)) tt (λ x. x) (λ x. x) (λ x. x)
-row_no_table es i (table ms) e = absurd cc
+pub row_no_table : {X : Type 0} (kind : Kind X) (es : List X) (i : ℕ) (d : Data) → None ≡ as_table d → IsLeastRule (RowBreaks kind es i d) WrongKind
+row_no_table kind es i (string s) e = kind_only (RowBreaks kind es i (string s)) tt (λ x. x) (λ x. x) (λ x. x)
+row_no_table kind es i (integer z) e = kind_only (RowBreaks kind es i (integer z)) tt (λ x. x) (λ x. x) (λ x. x)
+row_no_table kind es i (float x) e = kind_only (RowBreaks kind es i (float x)) tt (λ x. x) (λ x. x) (λ x. x)
+row_no_table kind es i (boolean b) e = kind_only (RowBreaks kind es i (boolean b)) tt (λ x. x) (λ x. x) (λ x. x)
+row_no_table kind es i (datetime t) e = kind_only (RowBreaks kind es i (datetime t)) tt (λ x. x) (λ x. x) (λ x. x)
+row_no_table kind es i (array ds) e = kind_only (RowBreaks kind es i (array ds)) tt (λ x. x) (λ x. x) (λ x. x)
+row_no_table kind es i (table ms) e = absurd cc
 
 pub table_is : (d : Data) (ms : Members) → Some ms ≡ as_table d → d ≡ table ms
 table_is (string s) ms e = absurd cc
@@ -102,64 +107,102 @@ farm_sound ms only kinds forms RepeatedId = λ x. x
 farm_sound ms only kinds forms ParameterCycle = λ x. x
 farm_sound ms only kinds forms TooLong = λ x. x
 
--- ---- a row of `[[role]]`
+-- ---- a row
 
-role_unknown : (es : List RoleData) (i : ℕ) (ms : Members) → has_only role_keys ms ≡ false → IsLeastRule (RowBreaks es i (table ms)) UnknownKey
-role_unknown es i ms h = record {
+row_unknown : {X : Type 0} (kind : Kind X) (es : List X) (i : ℕ) (ms : Members) → has_only kind.keys ms ≡ false → IsLeastRule (RowBreaks kind es i (table ms)) UnknownKey
+row_unknown kind es i ms h = record {
   breaks = h;
-  least = below (RowBreaks es i (table ms)) 2 (λ lt x. x) (λ lt. absurd (omega arith)) (λ lt. absurd (omega arith)) (λ lt. absurd (omega arith))
+  least = below (RowBreaks kind es i (table ms)) 2 (λ lt x. x) (λ lt. absurd (omega arith)) (λ lt. absurd (omega arith)) (λ lt. absurd (omega arith))
       (λ lt. absurd (omega arith)) (λ lt. absurd (omega arith)) (λ lt. absurd (omega arith)) (λ lt. absurd (omega arith));
 }
 
-role_missing : (es : List RoleData) (i : ℕ) (ms : Members) → has_only role_keys ms ≡ true → ¬ HasRoleKeys ms → IsLeastRule (RowBreaks es i (table ms)) MissingKey
-role_missing es i ms only h = record {
+row_missing : {X : Type 0} (kind : Kind X) (es : List X) (i : ℕ) (ms : Members) → has_only kind.keys ms ≡ true → ¬ kind.HasKeys ms → IsLeastRule (RowBreaks kind es i (table ms)) MissingKey
+row_missing kind es i ms only h = record {
   breaks = h;
-  least = below (RowBreaks es i (table ms)) 3 (λ lt x. x) (λ lt x. false≢true (sym x ∙ only)) (λ lt. absurd (omega arith)) (λ lt. absurd (omega arith))
+  least = below (RowBreaks kind es i (table ms)) 3 (λ lt x. x) (λ lt x. false≢true (sym x ∙ only)) (λ lt. absurd (omega arith)) (λ lt. absurd (omega arith))
       (λ lt. absurd (omega arith)) (λ lt. absurd (omega arith)) (λ lt. absurd (omega arith)) (λ lt. absurd (omega arith));
 }
 
-role_kind : (es : List RoleData) (i : ℕ) (ms : Members) → has_only role_keys ms ≡ true → HasRoleKeys ms → ¬ HasRoleKinds ms → IsLeastRule (RowBreaks es i (table ms)) WrongKind
-role_kind es i ms only keys h = record {
+row_wrong : {X : Type 0} (kind : Kind X) (es : List X) (i : ℕ) (ms : Members) → has_only kind.keys ms ≡ true → kind.HasKeys ms → ¬ kind.HasKinds ms → IsLeastRule (RowBreaks kind es i (table ms)) WrongKind
+row_wrong kind es i ms only keys h = record {
   breaks = h;
-  least = below (RowBreaks es i (table ms)) 4 (λ lt x. x) (λ lt x. false≢true (sym x ∙ only)) (λ lt x. x keys) (λ lt. absurd (omega arith))
+  least = below (RowBreaks kind es i (table ms)) 4 (λ lt x. x) (λ lt x. false≢true (sym x ∙ only)) (λ lt x. x keys) (λ lt. absurd (omega arith))
       (λ lt. absurd (omega arith)) (λ lt. absurd (omega arith)) (λ lt. absurd (omega arith)) (λ lt. absurd (omega arith));
 }
 
-pub role_form : (es : List RoleData) (i : ℕ) (ms : Members) → has_only role_keys ms ≡ true → HasRoleKeys ms → HasRoleKinds ms → ¬ HasRowForm i (role_in ms)
-    → IsLeastRule (RowBreaks es i (table ms)) OutOfForm
-role_form es i ms only keys kinds h = record {
+pub row_form : {X : Type 0} (kind : Kind X) (es : List X) (i : ℕ) (ms : Members) → has_only kind.keys ms ≡ true → kind.HasKeys ms → kind.HasKinds ms → ¬ HasRowForm kind i (kind.says ms)
+    → IsLeastRule (RowBreaks kind es i (table ms)) OutOfForm
+row_form kind es i ms only keys kinds h = record {
   breaks = h;
-  least = below (RowBreaks es i (table ms)) 5 (λ lt x. x) (λ lt x. false≢true (sym x ∙ only)) (λ lt x. x keys) (λ lt x. x kinds)
+  least = below (RowBreaks kind es i (table ms)) 5 (λ lt x. x) (λ lt x. false≢true (sym x ∙ only)) (λ lt x. x keys) (λ lt x. x kinds)
       (λ lt. absurd (omega arith)) (λ lt. absurd (omega arith)) (λ lt. absurd (omega arith)) (λ lt. absurd (omega arith));
 }
 
-pub role_repeated : (es : List RoleData) (i : ℕ) (ms : Members) → HasRole ms → HasRowForm i (role_in ms) → Any (λ role. role.id ≡ (role_in ms).id) es
-    → IsLeastRule (RowBreaks es i (table ms)) RepeatedId
-role_repeated es i ms has form h = record {
+pub row_repeated : {X : Type 0} (kind : Kind X) (es : List X) (i : ℕ) (ms : Members) → HasRow kind ms → HasRowForm kind i (kind.says ms) → Any (λ other. kind.id_of other ≡ kind.id_of (kind.says ms)) es
+    → IsLeastRule (RowBreaks kind es i (table ms)) RepeatedId
+row_repeated kind es i ms has form h = record {
   breaks = h;
-  least = below (RowBreaks es i (table ms)) 6 (λ lt x. x) (λ lt x. false≢true (sym x ∙ has.only)) (λ lt x. x has.keys) (λ lt x. x has.kinds)
+  least = below (RowBreaks kind es i (table ms)) 6 (λ lt x. x) (λ lt x. false≢true (sym x ∙ has.only)) (λ lt x. x has.keys) (λ lt x. x has.kinds)
       (λ lt x. x form) (λ lt. absurd (omega arith)) (λ lt. absurd (omega arith)) (λ lt. absurd (omega arith));
 }
 
-pub role_sound : (es : List RoleData) (i : ℕ) (ms : Members) → HasRole ms → HasRowForm i (role_in ms) → ¬ Any (λ role. role.id ≡ (role_in ms).id) es
-    → (rule : Rule) → ¬ RowBreaks es i (table ms) rule
-role_sound es i ms has form apart NotToml = λ x. x
-role_sound es i ms has form apart UnknownKey = λ x. false≢true (sym x ∙ has.only)
-role_sound es i ms has form apart MissingKey = λ x. x has.keys
-role_sound es i ms has form apart WrongKind = λ x. x has.kinds
-role_sound es i ms has form apart OutOfForm = λ x. x form
-role_sound es i ms has form apart RepeatedId = apart
-role_sound es i ms has form apart ParameterCycle = λ x. x
-role_sound es i ms has form apart TooLong = λ x. x
+pub row_sound : {X : Type 0} (kind : Kind X) (es : List X) (i : ℕ) (ms : Members) → HasRow kind ms → HasRowForm kind i (kind.says ms) → ¬ Any (λ other. kind.id_of other ≡ kind.id_of (kind.says ms)) es
+    → (rule : Rule) → ¬ RowBreaks kind es i (table ms) rule
+row_sound kind es i ms has form apart NotToml = λ x. x
+row_sound kind es i ms has form apart UnknownKey = λ x. false≢true (sym x ∙ has.only)
+row_sound kind es i ms has form apart MissingKey = λ x. x has.keys
+row_sound kind es i ms has form apart WrongKind = λ x. x has.kinds
+row_sound kind es i ms has form apart OutOfForm = λ x. x form
+row_sound kind es i ms has form apart RepeatedId = apart
+row_sound kind es i ms has form apart ParameterCycle = λ x. x
+row_sound kind es i ms has form apart TooLong = λ x. x
 
 -- what the keys of a row refuse, the row refuses
-pub refuses_row : (es : List RoleData) (i : ℕ) (ms : Members) (e : RowFault) → RefusesKeys ms e → RefusesRow (RowBreaks es i (table ms)) e
-refuses_row es i ms (rows.Breaks NotToml) h = absurd h
-refuses_row es i ms (rows.Breaks UnknownKey) h = role_unknown es i ms h
-refuses_row es i ms (rows.Breaks MissingKey) h = role_missing es i ms h.0 h.1
-refuses_row es i ms (rows.Breaks WrongKind) h = role_kind es i ms h.0 h.1 h.2
-refuses_row es i ms (rows.Breaks OutOfForm) h = role_form es i ms h.0 h.1 h.2 (λ form. h.3 form.printable)
-refuses_row es i ms (rows.Breaks RepeatedId) h = absurd h
-refuses_row es i ms (rows.Breaks ParameterCycle) h = absurd h
-refuses_row es i ms (rows.Breaks TooLong) h = absurd h
-refuses_row es i ms rows.NoMemory h = tt
+pub refuses_row : {X : Type 0} (kind : Kind X) (es : List X) (i : ℕ) (ms : Members) (e : RowFault) → RefusesKeys kind ms e → RefusesRow (RowBreaks kind es i (table ms)) e
+refuses_row kind es i ms (rows.Breaks NotToml) h = absurd h
+refuses_row kind es i ms (rows.Breaks UnknownKey) h = row_unknown kind es i ms h
+refuses_row kind es i ms (rows.Breaks MissingKey) h = row_missing kind es i ms h.0 h.1
+refuses_row kind es i ms (rows.Breaks WrongKind) h = row_wrong kind es i ms h.0 h.1 h.2
+refuses_row kind es i ms (rows.Breaks OutOfForm) h = row_form kind es i ms h.0.only h.0.keys h.0.kinds (λ form. h.1 form.form)
+refuses_row kind es i ms (rows.Breaks RepeatedId) h = absurd h
+refuses_row kind es i ms (rows.Breaks ParameterCycle) h = absurd h
+refuses_row kind es i ms (rows.Breaks TooLong) h = absurd h
+refuses_row kind es i ms rows.NoMemory h = tt
+
+-- ---- a row behind rows with these ids
+
+pub table_refused : {X : Type 0} (kind : Kind X) (ids : BTreeSet (String Global)) (i : ℕ) (d : Data) → None ≡ as_table d → RefusesRowBehind kind ids i d (rows.Breaks WrongKind)
+table_refused kind ids i d e = λ es are. row_no_table kind es i d e
+
+pub keys_refused : {X : Type 0} (kind : Kind X) (ids : BTreeSet (String Global)) (i : ℕ) (d : Data) (ms : Members) (fault : RowFault) → Some ms ≡ as_table d → RefusesKeys kind ms fault
+    → RefusesRowBehind kind ids i d fault
+keys_refused kind ids i d ms fault is h = λ es are. subst (λ x. RefusesRow (RowBreaks kind es i x) fault) (sym (table_is d ms is)) (refuses_row kind es i ms fault h)
+
+pub form_refused : {X : Type 0} (kind : Kind X) (ids : BTreeSet (String Global)) (i : ℕ) (d : Data) (ms : Members) → Some ms ≡ as_table d → HasRow kind ms → ¬ HasRowForm kind i (kind.says ms)
+    → RefusesRowBehind kind ids i d (rows.Breaks OutOfForm)
+form_refused kind ids i d ms is has off = λ es are.
+    subst (λ x. IsLeastRule (RowBreaks kind es i x) OutOfForm) (sym (table_is d ms is)) (row_form kind es i ms has.only has.keys has.kinds off)
+
+any_map : {X : Type 0} (p : List ℕ → Bool) (f : X → List ℕ) (xs : List X) → list_any p (map f xs) ≡ list_any (λ x. p (f x)) xs
+any_map p f [] = refl
+any_map p f (x ∷ xs) = ap (λ (b : Bool). p (f x) || b) (any_map p f xs)
+
+module _ {X : Type 0} (kind : Kind X) (ids : BTreeSet (String Global)) (i : ℕ) (d : Data) (ms : Members) (is : Some ms ≡ as_table d) (has : HasRow kind ms) (form : HasRowForm kind i (kind.says ms)) (b : Bool) where
+  looked : (es : List X) → AreIdsOf (map kind.id_of es) ids → ((used : List (List ℕ)) → AreIdsOf used ids → b ≡ list_any (λ other. bytes_eq (kind.id_of (kind.says ms)) other) used)
+      → b ≡ list_any (λ e. bytes_eq (kind.id_of (kind.says ms)) (kind.id_of e)) es
+  looked es are found = found (map kind.id_of es) are ∙ any_map (λ other. bytes_eq (kind.id_of (kind.says ms)) other) kind.id_of es
+
+  pub id_refused : b ≡ true → ((used : List (List ℕ)) → AreIdsOf used ids → b ≡ list_any (λ other. bytes_eq (kind.id_of (kind.says ms)) other) used)
+      → RefusesRowBehind kind ids i d (rows.Breaks RepeatedId)
+  id_refused there found = λ es are.
+      let a = Any-from_list_any (λ e. bytes_eq (kind.id_of (kind.says ms)) (kind.id_of e)) es (sym (looked es are found) ∙ there) in
+      subst (λ x. IsLeastRule (RowBreaks kind es i x) RepeatedId) (sym (table_is d ms is))
+      (row_repeated kind es i ms has form (a.0, a.1, a.2, a.3, sym ((bytes_eq-Decides (kind.id_of (kind.says ms)) (kind.id_of a.1)).0 a.4)))
+
+  pub row_taken : b ≡ false → ((used : List (List ℕ)) → AreIdsOf used ids → b ≡ list_any (λ other. bytes_eq (kind.id_of (kind.says ms)) other) used)
+      → IsSoundRow kind ids i d
+  row_taken absent found = λ es are.
+      subst (λ x. (rule : Rule) → ¬ RowBreaks kind es i x rule) (sym (table_is d ms is))
+      (row_sound kind es i ms has form
+      (λ a. false≢true (sym absent ∙ (looked es are found ∙ list_any-from_Any (λ e. bytes_eq (kind.id_of (kind.says ms)) (kind.id_of e)) es
+      (a.0, a.1, a.2, a.3, (bytes_eq-Decides (kind.id_of (kind.says ms)) (kind.id_of a.1)).1 (sym a.4))))))

@@ -1,7 +1,7 @@
 -- The rules of a farm file, and which of two faults is told first.
 use Rattle.std.specs.Prelude.{◌≡◌, ℕ, ◌<◌, ◌⊎◌}
 use Rattle.farm_files.specs.declared.fault.Table.{Table}
-use Rattle.farm_files.specs.declared.fault.Table.TheVariants.{File, Farm, Role}
+use Rattle.farm_files.specs.declared.fault.Table.TheVariants.{File, Farm, Role, Client}
 use Rattle.farm_files.specs.declared.fault.Rule.{Rule}
 use Rattle.farm_files.specs.declared.fault.Rule.TheVariants.{NotToml, UnknownKey, MissingKey, WrongKind, OutOfForm, RepeatedId, ParameterCycle, TooLong}
 use Rattle.farm_files.specs.declared.fault.Fault.{Fault}
@@ -23,7 +23,7 @@ rule_number TooLong = 9
 abbrev pub fault_at : Table → ℕ → Rule → Fault
 fault_at table row rule = record { table = table; row = row; rule = rule }
 
--- the order in which a file is judged: its length, that it is TOML, its tables, `[farm]`, the rows of `[[role]]`, and the roles together
+-- the order in which a file is judged: its length, that it is TOML, its tables, `[farm]`, the rows of `[[role]]`, the roles together, and the rows of `[[client]]`
 abbrev pub turn : Table → Rule → ℕ
 turn File TooLong = 0
 turn File NotToml = 1
@@ -31,6 +31,7 @@ turn File _ = 2
 turn Farm _ = 3
 turn Role ParameterCycle = 5
 turn Role _ = 4
+turn Client _ = 6
 
 -- the first is told before the second: its turn comes before, or its row in one turn, or its rule's number in one row
 abbrev pub IsBefore : Fault → Fault → Type 0

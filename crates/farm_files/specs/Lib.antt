@@ -2,6 +2,8 @@ pub mod Earlier
 pub mod Faults
 pub mod Values
 pub mod Rows
+pub mod Roles
+pub mod Clients
 pub mod Files
 pub mod Parts
 pub mod Farms

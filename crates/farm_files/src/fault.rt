@@ -14,6 +14,8 @@ pub enum Table {
     Farm,
     /// `[[role]]`.
     Role,
+    /// `[[client]]`.
+    Client,
 }
 
 /// The rules that a farm file keeps.
@@ -25,7 +27,7 @@ pub enum Rule {
     UnknownKey,
     /// No key is missing that has no default.
     MissingKey,
-    /// Each value is of its kind: a table, a list, a text, a whole number.
+    /// Each value is of its kind: a table, a list, a text, a whole number, true or false.
     WrongKind,
     /// Each value is of its form or in its range, and there are no more rows than a table may have.
     OutOfForm,
@@ -84,6 +86,7 @@ impl fmt::Display for Fault {
             Table::File => f.write_str("the file")?,
             Table::Farm => f.write_str("farm")?,
             Table::Role => write!(f, "role {}", self.row)?,
+            Table::Client => write!(f, "client {}", self.row)?,
         }
         write!(f, ": {} (rule {})", self.rule.words(), self.rule.number())
     }

@@ -7,7 +7,7 @@ ghost use Rattle.farm_files.specs.Faults.{IsFirst};
 ghost use Rattle.farm_files.specs.Files.{Breaks};
 ghost use Rattle.farm_files.specs.Farms.{Says};
 ghost use Rattle.farm_files.specs.declared.reading.TheConstants.{LONGEST_FILE};
-ghost use Rattle.farm_files.specs.declared.roles.TheConstants.{MOST_ROLES};
+ghost use Rattle.farm_files.specs.declared.rows.TheConstants.{MOST_ROWS};
 ghost use Rattle.farm_files.specs.declared.settings.TheConstants.{LONGEST_HOST};
 ghost use Rattle.farm_files.specs.declared.fault.Fault.{Fault as AnyFault};
 
@@ -30,10 +30,10 @@ pub fn the_roles_of_a_file_are_accepted()
         → Says longest bytes config → IsAccepted LONGEST_SCOPE config.roles }
 {}
 
-/// The limits of a farm file: its greatest number of bytes, of rows of `[[role]]`, and of bytes of a host. What the contracts say of
+/// The limits of a farm file: its greatest number of bytes, of rows of a table, and of bytes of a host. What the contracts say of
 /// the constants, they say of these numbers.
 pub fn the_limits()
     ensures file { LONGEST_FILE ≡ 4194304 }
-    ensures roles { MOST_ROLES ≡ 10000 }
+    ensures rows { MOST_ROWS ≡ 10000 }
     ensures host { LONGEST_HOST ≡ 255 }
 {}

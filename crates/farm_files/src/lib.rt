@@ -1,6 +1,6 @@
 //! The farm file: what a build farm is configured by, in TOML, read whole as a `Config` or refused by the first rule that it breaks.
 //!
-//! A farm file has an optional table `[farm]` and any number of tables `[[role]]`:
+//! A farm file has an optional table `[farm]` and any number of tables `[[role]]` and `[[client]]`:
 //!
 //! ```toml
 //! [farm]
@@ -12,22 +12,32 @@
 //! [[role]]                 # at most 10,000 of them
 //! id = "anonymous"         # 1 to 4096 printable ASCII bytes
 //! scopes = ["queue:*"]     # each at most 4096 printable ASCII bytes, not ending with `**`
+//!
+//! [[client]]               # at most 10,000 of them
+//! id = "worker/1"          # 1 to 128 of [A-Za-z0-9!@/:.+|_-]
+//! token = ".."             # 22 to 66 of [A-Za-z0-9_-]
+//! scopes = ["queue:*"]     # each as of a role
+//! expires = "2030-01-01T00:00:00Z"    # a date and time with an offset, from 1970 to 9998
+//! disabled = false
 //! ```
 //!
-//! The values shown of `[farm]` are those of a key that is left out.
+//! The values shown of `[farm]`, and of `disabled`, are those of a key that is left out.
 #![tactic(auto)]
 
+mod clients;
 mod earlier;
 mod fault;
 pub mod laws;
 mod reading;
 mod roles;
+mod rows;
+mod scopes;
 mod settings;
 mod values;
 
 pub use fault::{Fault, FileFault, Rule, Table};
 pub use reading::{LONGEST_FILE, read_farm};
-pub use roles::MOST_ROLES;
+pub use rows::MOST_ROWS;
 pub use settings::LONGEST_HOST;
 
 #[cfg(test)]

@@ -1,16 +1,16 @@
 //! The farm file as a whole.
-ghost use Rattle.std.specs.Prelude.{◌≡◌, [], IfOk, MatchResult};
+ghost use Rattle.std.specs.Prelude.{◌≡◌, MatchResult};
 ghost use Rattle.toml.specs.View.{table_view};
 ghost use Rattle.farm_files.specs.Farms.{Says, Refuses, SaysTables, RefusesTables};
 
+use crate::clients::{client_book, read_clients};
 use crate::fault::{FileFault, RowFault, Rule, Table};
 use crate::roles::{read_roles, role_set};
 use crate::settings::{Settings, read_settings};
 use crate::values::has_only;
 use farm_machine::config::Config;
 use farm_machine::grants::Grants;
-use hawk_auth::ClientBook;
-use std::alloc::{AllocError, Global};
+use std::alloc::Global;
 
 /// The greatest number of bytes of a farm file.
 pub const LONGEST_FILE: usize = 4_194_304;
@@ -20,8 +20,8 @@ pub const LONGEST_FILE: usize = 4_194_304;
 /// # Errors
 ///
 /// The first rule that the file breaks, in this order: that it is too long, that it is not TOML, a table that is not known, then what
-/// is wrong with `[farm]`, then the rows of `[[role]]` from row 0, and last a cycle of roles' parameters, at the first role that lies
-/// on one. Of the rules that one row breaks the least is told. Or want of memory.
+/// is wrong with `[farm]`, then the rows of `[[role]]` from row 0, a cycle of roles' parameters, at the first role that lies on one,
+/// and the rows of `[[client]]` from row 0. Of the rules that one row breaks the least is told. Or want of memory.
 pub fn read_farm(alloc: Global, bytes: &[u8]) -> Result<Config, FileFault>
     ensures { MatchResult result (Says LONGEST_FILE bytes.now) (Refuses LONGEST_FILE bytes.now) }
 {
@@ -42,7 +42,7 @@ pub fn read_farm(alloc: Global, bytes: &[u8]) -> Result<Config, FileFault>
 fn read_tables(alloc: Global, top: &toml::Table) -> Result<Config, FileFault>
     ensures { MatchResult result (SaysTables (table_view top.now)) (RefusesTables (table_view top.now)) }
 {
-    if !has_only(top, ["farm", "role"].as_slice()) {
+    if !has_only(top, ["farm", "role", "client"].as_slice()) {
         return Err(FileFault::at(Table::File, 0, Rule::UnknownKey));
     }
     let settings = match read_settings(alloc, top) {
@@ -52,6 +52,7 @@ fn read_tables(alloc: Global, top: &toml::Table) -> Result<Config, FileFault>
     };
     let roles = read_roles(alloc, top)?;
     let roles = role_set(alloc, roles)?;
+    let clients = read_clients(alloc, top)?;
     let Settings {
         host,
         port,
@@ -64,16 +65,6 @@ fn read_tables(alloc: Global, top: &toml::Table) -> Result<Config, FileFault>
         claim_timeout,
         max_tasks,
         roles: Grants::new(alloc, roles)?,
-        clients: no_clients(alloc)?,
+        clients: client_book(alloc, clients)?,
     })
-}
-
-/// A book without clients, until farm files have them.
-fn no_clients(alloc: Global) -> Result<ClientBook, AllocError>
-    ensures { IfOk result (λ clients. clients ≡ []) }
-{
-    match ClientBook::build(alloc, Vec::new(alloc)) {
-        Ok(clients) => Ok(clients),
-        Err(_) => Err(AllocError),
-    }
 }

@@ -1,10 +1,10 @@
 //! The values at the keys of a table.
-ghost use Rattle.std.specs.Prelude.{◌≡◌, ◌≤◌, true, false, map, MatchResult};
+ghost use Rattle.std.specs.Prelude.{◌≡◌, ◌≤◌, true, false, is_some, map, MatchResult};
 ghost use Rattle.std.specs.List.{list_any};
 ghost use Rattle.std.specs.Str.{bytes_eq};
 ghost use Rattle.toml.specs.Data.{get_member};
 ghost use Rattle.toml.specs.View.{table_view};
-ghost use Rattle.farm_files.specs.Values.{has_only, is_text, is_whole, passes, text_or, whole_or, IsUpTo, natural};
+ghost use Rattle.farm_files.specs.Values.{has_only, is_text, is_truth, is_whole, passes, text_or, truth_or, whole_or, IsUpTo, natural};
 
 use crate::fault::Rule;
 use toml::{Table, Value};
@@ -40,6 +40,32 @@ pub(crate) fn text_or<'a>(table: &'a Table, key: &str, default: &'a str) -> Resu
             Some(text) => Ok(text),
             None => Err(Rule::WrongKind),
         },
+    }
+}
+
+/// True or false at a key, or the default where there is no such key. Another value is of the wrong kind.
+pub(crate) fn truth_or(table: &Table, key: &str, default: bool) -> Result<bool, Rule>
+    ensures { MatchResult result
+        (λ truth. (passes is_truth (get_member key.now (table_view table.now)) ≡ true)
+        × (truth ≡ truth_or default (get_member key.now (table_view table.now))))
+        (λ rule. (rule ≡ Rule.WrongKind) × (passes is_truth (get_member key.now (table_view table.now)) ≡ false)) }
+{
+    match table.get(key) {
+        None => Ok(default),
+        Some(value) => match value.as_bool() {
+            Some(truth) => Ok(truth),
+            None => Err(Rule::WrongKind),
+        },
+    }
+}
+
+/// Whether a table has a key.
+pub(crate) fn has_key(table: &Table, key: &str) -> bool
+    ensures { result ≡ is_some (get_member key.now (table_view table.now)) }
+{
+    match table.get(key) {
+        Some(_) => true,
+        None => false,
     }
 }
 

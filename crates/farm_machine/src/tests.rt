@@ -123,6 +123,14 @@ fn ask(
 /// An authorization, what is called, the status of the reply, and its body.
 type Row = (&'static [u8], &'static str, u16, &'static str);
 
+/// A bad parameter is told before bad credentials, and before too many scopes.
+const PARAMETER: Row = (
+    b"x",
+    "parameter",
+    400,
+    r#"{"code":"InputError","details":{"name":"taskId","rule":22},"message":"the request breaks a rule"}"#,
+);
+
 const ROWS: [Row; 7] = [
     (b"", "ping", 200, "{\"alive\":true}"),
     (
@@ -137,12 +145,7 @@ const ROWS: [Row; 7] = [
         404,
         r#"{"code":"ResourceNotFound","details":{"kind":"route","name":"/a\"b"},"message":"nothing has that name"}"#,
     ),
-    (
-        b"x",
-        "parameter",
-        400,
-        r#"{"code":"InputError","details":{"name":"taskId","rule":22},"message":"the request breaks a rule"}"#,
-    ),
+    PARAMETER,
     (
         b"x",
         "body",
@@ -182,7 +185,7 @@ const TOO_MANY: [Row; 2] = [
         403,
         r#"{"code":"ExpansionLimit","details":{"limit":10000},"message":"too many scopes are derivable"}"#,
     ),
-    ROWS[3],
+    PARAMETER,
 ];
 
 #[test]

@@ -38,7 +38,7 @@ struct Signed<'a> {
 }
 
 /// A ping that is let in.
-const fn ping(id: &str) -> Signed<'_> {
+fn ping(id: &str) -> Signed<'_> {
     Signed {
         at: CREATED,
         id,
@@ -52,7 +52,7 @@ const fn ping(id: &str) -> Signed<'_> {
 }
 
 /// A ping that is refused.
-const fn refused<'a>(id: &'a str, reply: &'a str) -> Signed<'a> {
+fn refused<'a>(id: &'a str, reply: &'a str) -> Signed<'a> {
     Signed {
         status: "401 Unauthorized",
         reply,
@@ -153,6 +153,32 @@ fn is_answered(alloc: Global, desk: &mut Solo<Bare>, call: &Signed) -> Result<bo
     Ok(written.as_slice() == wanted.as_str().as_bytes())
 }
 
+/// The MAC of a status of the first task.
+const STATUS_MAC: &str = "hDam0VJ1lyBJE65jiq2mfJEzPUeJDbsRbaGUe66d3gs=";
+
+/// The MAC of a ping with the ext `some-app-ext-data`.
+const BAD_EXT_MAC: &str = "ZtLk8cG8z3r5Ne5FgR58ikk8grxxfKUyZL0XYC1paDk=";
+
+/// The ext `{"authorizedScopes":["*"]}` in base64, and the MAC of a ping with it.
+const ALL_SCOPES: &str = r#", ext="eyJhdXRob3JpemVkU2NvcGVzIjpbIioiXX0=""#;
+
+const ALL_SCOPES_MAC: &str = "oo5G0ru6JYtmVZ1s0ikUysreEC9x4tgk/4wsaYjpm8Y=";
+
+const UNKNOWN: &str =
+    r#"{"code":"AuthenticationFailed","details":{"reason":"UnknownClient"},"message":"the caller is not who it says"}"#;
+
+const DISABLED: &str =
+    r#"{"code":"AuthenticationFailed","details":{"reason":"Disabled"},"message":"the caller is not who it says"}"#;
+
+const EXPIRED: &str =
+    r#"{"code":"AuthenticationFailed","details":{"reason":"Expired"},"message":"the caller is not who it says"}"#;
+
+const FORGED: &str =
+    r#"{"code":"AuthenticationFailed","details":{"reason":"BadMac"},"message":"the caller is not who it says"}"#;
+
+const BAD_EXT: &str =
+    r#"{"code":"AuthenticationFailed","details":{"reason":"BadExt"},"message":"the caller is not who it says"}"#;
+
 const NOT_THE_BODY: &str =
     r#"{"code":"AuthenticationFailed","details":{"reason":"BadHash"},"message":"the caller is not who it says"}"#;
 
@@ -168,86 +194,98 @@ const LIMIT: &str =
 const LACKS: &str =
     r#"{"code":"InsufficientScopes","details":{"missing":"queue:status:AAAAAAAAQACAAAAAAAAAAA"},"message":"scopes are missing"}"#;
 
-const MAKES: Signed<'static> = Signed {
-    request: FIRST_TASK,
-    more: HASH,
-    mac: CREATE_MAC,
-    body: "}",
-    reply: "{\"status\":@}",
-    ..ping("maker")
-};
+/// The createTask of the first task, signed with its hash.
+fn makes() -> Signed<'static> {
+    Signed {
+        request: FIRST_TASK,
+        more: HASH,
+        mac: CREATE_MAC,
+        body: "}",
+        reply: "{\"status\":@}",
+        ..ping("maker")
+    }
+}
 
-/// The calls in the order in which they come. The last moment does not fall, so the last call is as late as the one before.
-const CALLS: [Signed<'static>; 14] = [
-    MAKES,
+/// A body that is not the one which was signed.
+fn another_body() -> Signed<'static> {
     Signed {
         body: ",\"payload\":{\"a\":1}}",
         status: "401 Unauthorized",
         reply: NOT_THE_BODY,
-        ..MAKES
-    },
-    refused(
-        "nobody",
-        r#"{"code":"AuthenticationFailed","details":{"reason":"UnknownClient"},"message":"the caller is not who it says"}"#,
-    ),
-    refused(
-        "off",
-        r#"{"code":"AuthenticationFailed","details":{"reason":"Disabled"},"message":"the caller is not who it says"}"#,
-    ),
-    refused(
-        "old",
-        r#"{"code":"AuthenticationFailed","details":{"reason":"Expired"},"message":"the caller is not who it says"}"#,
-    ),
+        ..makes()
+    }
+}
+
+/// A ping of the client with the scope `a` alone, refused, with this ext and this MAC.
+fn refused_ext<'a>(more: &'a str, mac: &'a str, reply: &'a str) -> Signed<'a> {
     Signed {
-        mac: CREATE_MAC,
-        ..refused(
-            "limited",
-            r#"{"code":"AuthenticationFailed","details":{"reason":"BadMac"},"message":"the caller is not who it says"}"#,
-        )
-    },
+        more,
+        mac,
+        ..refused("limited", reply)
+    }
+}
+
+/// A ping of that client at this moment.
+fn ping_at(at: u64) -> Signed<'static> {
     Signed {
-        more: r#", ext="some-app-ext-data""#,
-        mac: "ZtLk8cG8z3r5Ne5FgR58ikk8grxxfKUyZL0XYC1paDk=",
-        ..refused(
-            "limited",
-            r#"{"code":"AuthenticationFailed","details":{"reason":"BadExt"},"message":"the caller is not who it says"}"#,
-        )
-    },
-    Signed {
-        more: r#", ext="eyJhdXRob3JpemVkU2NvcGVzIjpbIioiXX0=""#,
-        mac: "oo5G0ru6JYtmVZ1s0ikUysreEC9x4tgk/4wsaYjpm8Y=",
-        ..refused("limited", OVERSTEPS)
-    },
-    Signed {
-        status: "403 Forbidden",
-        reply: LIMIT,
-        ..ping("many")
-    },
-    Signed {
-        request: FIRST_STATUS,
-        mac: "hDam0VJ1lyBJE65jiq2mfJEzPUeJDbsRbaGUe66d3gs=",
-        status: "403 Forbidden",
-        reply: LACKS,
+        at,
         ..ping("limited")
-    },
-    ping("limited"),
+    }
+}
+
+/// A call of a client that is denied.
+fn denied<'a>(id: &'a str, request: &'a str, mac: &'a str, reply: &'a str) -> Signed<'a> {
     Signed {
-        at: CREATED + 900_999,
-        ..ping("limited")
-    },
-    Signed {
-        at: CREATED + 901_000,
-        ..refused("limited", SKEW)
-    },
-    refused("limited", SKEW),
-];
+        request,
+        mac,
+        status: "403 Forbidden",
+        reply,
+        ..ping(id)
+    }
+}
+
+/// The place of the first call that is answered otherwise, or how many there are.
+fn first_other(alloc: Global, calls: &[Signed]) -> Result<usize, Fail> {
+    let mut desk = farm(alloc)?;
+    for (place, call) in calls.iter().enumerate() {
+        if !is_answered(alloc, &mut desk, call)? {
+            return Ok(place);
+        }
+    }
+    Ok(calls.len())
+}
 
 #[test]
 fn clients_are_let_in_by_their_signatures(rt: HostRuntime) -> Result<(), Fail> {
-    let mut desk = farm(rt.alloc())?;
-    for (place, call) in CALLS.iter().enumerate() {
-        let answered = is_answered(rt.alloc(), &mut desk, call)?;
-        assert!(rt; answered, "call {place}");
-    }
+    // The last moment does not fall, so the last ping is as late as the one before.
+    let late = Signed {
+        at: CREATED + 901_000,
+        ..refused("limited", SKEW)
+    };
+    let calls = [
+        makes(),
+        another_body(),
+        denied("many", PING, PING_MAC, LIMIT),
+        denied("limited", FIRST_STATUS, STATUS_MAC, LACKS),
+        ping_at(CREATED),
+        ping_at(CREATED + 900_999),
+        late,
+        refused("limited", SKEW),
+    ];
+    assert_eq!(rt; first_other(rt.alloc(), &calls)?, 8);
+    Ok(())
+}
+
+#[test]
+fn clients_are_refused_for_a_reason(rt: HostRuntime) -> Result<(), Fail> {
+    let calls = [
+        refused("nobody", UNKNOWN),
+        refused("off", DISABLED),
+        refused("old", EXPIRED),
+        refused_ext("", CREATE_MAC, FORGED),
+        refused_ext(r#", ext="some-app-ext-data""#, BAD_EXT_MAC, BAD_EXT),
+        refused_ext(ALL_SCOPES, ALL_SCOPES_MAC, OVERSTEPS),
+    ];
+    assert_eq!(rt; first_other(rt.alloc(), &calls)?, 6);
     Ok(())
 }

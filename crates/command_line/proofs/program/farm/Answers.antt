@@ -16,4 +16,6 @@ returns c =
     c.in_ok-subcommand.ensures.shape c.in_ok-answer.ensures.1 ∙ ap₂ with_subcommand is_bare (ap (λ (a : App). a.top) c.in_ok-answer.ensures.0) in
     let second : app_of c.in_ok-subcommand-2.field-0 ≡ with_subcommand (with_subcommand bare (with_farm (codes "answer")).top) (with_farm (codes "expand")).top =
     c.in_ok-subcommand-2.ensures.shape c.in_ok-expand.ensures.1 ∙ ap₂ with_subcommand first (ap (λ (a : App). a.top) c.in_ok-expand.ensures.0) in
-    IfOk-weaker c.subcommand-3.result _ _ (λ program adds. adds.shape c.in_ok-check.ensures.1 ∙ ap₂ with_subcommand second (ap (λ (a : App). a.top) c.in_ok-check.ensures.0)) c.subcommand-3.ensures
+    let third : app_of c.in_ok-subcommand-3.field-0 ≡ with_subcommand (with_subcommand (with_subcommand bare (with_farm (codes "answer")).top) (with_farm (codes "expand")).top) (with_farm (codes "check")).top =
+    c.in_ok-subcommand-3.ensures.shape c.in_ok-check.ensures.1 ∙ ap₂ with_subcommand second (ap (λ (a : App). a.top) c.in_ok-check.ensures.0) in
+    IfOk-weaker c.subcommand-4.result _ _ (λ program adds. adds.shape c.in_ok-sign.ensures.1 ∙ ap₂ with_subcommand third (ap (λ (a : App). a.top) c.in_ok-sign.ensures.0)) c.subcommand-4.ensures

@@ -3,7 +3,7 @@ use Rattle.std.specs.Prelude.{codes}
 use Rattle.toml.specs.View.{view, table_view}
 use Rattle.toml.proofs.Views.{table_get}
 use Rattle.farm_files.specs.Values.{has_only}
-use Rattle.farm_files.specs.Rows.{role_keys}
+use Rattle.farm_files.specs.Roles.{role_keys}
 use Rattle.farm_files.proofs.RowLemmas.{lacks, keys_from_values}
 use Rattle.farm_files.proofs.roles.read_keys.Goals as goal
 

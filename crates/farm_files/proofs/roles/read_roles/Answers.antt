@@ -9,7 +9,8 @@ use Rattle.farm_files.specs.declared.fault.Table.TheVariants.{Role}
 use Rattle.farm_files.specs.declared.fault.Rule.{Rule}
 use Rattle.farm_files.specs.declared.fault.Rule.TheVariants.{WrongKind}
 use Rattle.farm_files.specs.Faults.{fault_at}
-use Rattle.farm_files.specs.Rows.{RowAtBreaks, RowsBreak, role_of, roles_in}
+use Rattle.farm_files.specs.Roles.{role_rows, roles_in}
+use Rattle.farm_files.specs.Rows.{RowAtBreaks, RowsBreak, says_of}
 use Rattle.farm_files.specs.Parts.{IsFirstRow, RefusesRows}
 use Rattle.farm_files.proofs.ValueLemmas.{list_of-items}
 use Rattle.farm_files.proofs.RowLemmas.{array_is, rows_none, no_array}
@@ -18,13 +19,13 @@ use Rattle.farm_files.proofs.roles.read_roles.Goals as goal
 pub returns-in-None : goal.returns-in-None
 returns-in-None c =
     let e = table_get None (codes "role") c.args.top.now.entries c.in-None.ensures.value in
-    (rows_none (get_member (codes "role") (table_view c.args.top.now)) e, ap roles_data c.new.ensures.items ∙ ap roles_in e, omega (arith, c.new.ensures.len))
+    (rows_none role_rows (get_member (codes "role") (table_view c.args.top.now)) e, ap roles_data c.new.ensures.items ∙ ap roles_in e, omega (arith, c.new.ensures.len))
 
 pub returns-in-Some-as_array : goal.returns-in-Some-as_array
 returns-in-Some-as_array c =
     let vs = c.deref.result.now in
-    let P : Option Data → Type 0 = λ o. MatchResult c.read_rows.result (λ roles. ((row : ℕ) (rule : Rule) → ¬ RowsBreak o row rule) × (roles_data roles.items ≡ roles_in o) × (vec_len roles ≤ 10000)) (RefusesRows (RowsBreak o)) in
-    let Q : List Data → Type 0 = λ xs. MatchResult c.read_rows.result (λ roles. ((row : ℕ) (rule : Rule) → ¬ RowAtBreaks xs row rule) × (roles_data roles.items ≡ map role_of xs) × (vec_len roles ≤ 10000)) (RefusesRows (RowAtBreaks xs)) in
+    let P : Option Data → Type 0 = λ o. MatchResult c.read_rows.result (λ roles. ((row : ℕ) (rule : Rule) → ¬ RowsBreak role_rows o row rule) × (roles_data roles.items ≡ roles_in o) × (vec_len roles ≤ 10000)) (RefusesRows Role (RowsBreak role_rows o)) in
+    let Q : List Data → Type 0 = λ xs. MatchResult c.read_rows.result (λ roles. ((row : ℕ) (rule : Rule) → ¬ RowAtBreaks role_rows xs row rule) × (roles_data roles.items ≡ map (says_of role_rows) xs) × (vec_len roles ≤ 10000)) (RefusesRows Role (RowAtBreaks role_rows xs)) in
     let e : Some (array (items_of (map view vs))) ≡ get_member (codes "role") (table_view c.args.top.now) =
     ap (λ (us : List Value). Some (array (items_of (map view us)))) c.deref.ensures.value
     ∙ ap (λ (d : Data). Some d) (sym (array_is (view c.in-Some.value.now) _ c.in-Some-as_array.ensures))
@@ -34,4 +35,4 @@ returns-in-Some-as_array c =
 pub returns-in-None-as_array : goal.returns-in-None-as_array
 returns-in-None-as_array c =
     let e = table_get (Some c.in-Some.value) (codes "role") c.args.top.now.entries c.in-Some.ensures.value in
-    rw c.at.ensures (subst (λ (o : Option Data). IsFirstRow (RowsBreak o) (fault_at Role 0 WrongKind)) e (no_array (view c.in-Some.value.now) c.in-None-as_array.ensures))
+    rw c.at.ensures (subst (λ (o : Option Data). IsFirstRow Role (RowsBreak role_rows o) (fault_at Role 0 WrongKind)) e (no_array role_rows Role (view c.in-Some.value.now) c.in-None-as_array.ensures))

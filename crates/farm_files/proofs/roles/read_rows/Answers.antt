@@ -1,31 +1,34 @@
-use Rattle.std.proofs.Common.{◌<◌, map, length, ap, ◌∙◌, refl, arith, length-append}
+use Rattle.std.proofs.Common.{◌≡◌, ℕ, ◌+◌, ◌<◌, List, [], ◌∷◌, ◌++◌, map, take, length, sym, ap, ◌∙◌, subst, refl, arith}
 use Rattle.std.proofs.lemmas.List.{length-map, take_all}
 use Rattle.std.proofs.lemmas.Option.{slice_get_within}
+use Rattle.role_expand.specs.Roles.{RoleData}
 use Rattle.toml.specs.View.{view}
 use Rattle.farm_files.specs.declared.fault.Table.TheVariants.{Role}
+use Rattle.farm_files.specs.Earlier.{AreIdsOf}
 use Rattle.farm_files.specs.Faults.{fault_at}
-use Rattle.farm_files.specs.Rows.{RowAtBreaks, role_of}
+use Rattle.farm_files.specs.Roles.{role_rows}
+use Rattle.farm_files.specs.Rows.{Kind, RowAtBreaks, says_of}
 use Rattle.farm_files.specs.Parts.{IsFirstRow}
-use Rattle.farm_files.proofs.RowLemmas.{at_place, earlier_is, row_sound, row_breaks, row_unbroken, rows_more, row_within, roles_more}
+use Rattle.farm_files.proofs.RowLemmas.{at_place, earlier_is, row_sound_at, row_breaks_at, row_unbroken_at, rows_more, row_within, said_ids_more, roles_more}
 use Rattle.farm_files.proofs.roles.read_rows.Goals as goal
 
 pub overflow_cast-row : goal.overflow_cast-row
-overflow_cast-row c = omega (arith, c.loop-row.invariant.2)
+overflow_cast-row c = omega (arith, c.loop-row.invariant.3)
 
 pub returns-in-Err-Breaks : goal.returns-in-Err-Breaks
 returns-in-Err-Breaks c =
     let vs = c.args.rows.now in
     let i = c.loop-row.row in
     let v = c.index-rows-row.result in
-    let es = c.loop-row.earlier in
+    let es = map (says_of role_rows) (take i (map view vs)) in
     let at = at_place vs i v c.loop-row-test.true c.index-rows-row.is in
-    let before = earlier_is vs i es c.loop-row.invariant.0 in
-    let least = rw c.in-Err-Breaks.field-0-is at c.in-Err-Breaks.ensures in
-    let first : IsFirstRow (RowAtBreaks (map view vs)) (fault_at Role i c.in-Err-Breaks.rule) = record {
-      role = refl;
-      breaks = row_breaks (map view vs) i es (view v) c.in-Err-Breaks.rule at before least.breaks;
-      earlier = λ row rule lt. c.loop-row.invariant.1 row rule lt;
-      least = λ rule lt. row_unbroken (map view vs) i es (view v) rule at before (least.least rule lt);
+    let are = subst (λ said. AreIdsOf (map role_rows.id_of said) c.loop-row.ids) (earlier_is role_rows vs i) c.loop-row.invariant.1 in
+    let least = (rw c.in-Err-Breaks.field-0-is at c.in-Err-Breaks.ensures) es are in
+    let first : IsFirstRow Role (RowAtBreaks role_rows (map view vs)) (fault_at Role i c.in-Err-Breaks.rule) = record {
+      table_is = refl;
+      breaks = row_breaks_at role_rows (map view vs) i es (view v) c.in-Err-Breaks.rule at refl least.breaks;
+      earlier = λ row rule lt. c.loop-row.invariant.2 row rule lt;
+      least = λ rule lt. row_unbroken_at role_rows (map view vs) i es (view v) rule at refl (least.least rule lt);
     } in
     rw (c.at.ensures, c.in-Err-Breaks.rule-is) first
 
@@ -34,20 +37,22 @@ loop-row-preserved c =
     let vs = c.args.rows.now in
     let i = c.loop-row.row in
     let v = c.index-rows-row.result in
-    let es = c.loop-row.earlier in
+    let es = map (says_of role_rows) (take i (map view vs)) in
     let at = at_place vs i v c.loop-row-test.true c.index-rows-row.is in
-    let before = earlier_is vs i es c.loop-row.invariant.0 in (
-      roles_more vs i v es _ _ c.loop-row-test.true c.index-rows-row.is c.in_ok-earlier-in-Ok.ensures c.loop-row.invariant.0 c.in-Ok.ensures.1,
-      rows_more (map view vs) i c.loop-row.invariant.1 (row_sound (map view vs) i es (view v) at before c.in-Ok.ensures.0),
-      (let lt : i < 10000 = row_within es i (view v) c.in-Ok.ensures.0 in omega arith),
-      omega (arith, simp length-append at (ap length c.in_ok-earlier-in-Ok.ensures), c.loop-row.invariant.3),
+    let are = subst (λ said. AreIdsOf (map role_rows.id_of said) c.loop-row.ids) (earlier_is role_rows vs i) c.loop-row.invariant.1 in
+    let sound = c.in-Ok.ensures.0 es are in (
+      roles_more vs i v _ _ _ c.loop-row-test.true c.index-rows-row.is c.in_ok-roles-in-Ok.ensures.roles c.loop-row.invariant.0 c.in-Ok.ensures.1,
+      said_ids_more role_rows vs i v c.as_str.result.now _ _ c.loop-row-test.true c.index-rows-row.is (c.as_str.ensures.value ∙ ap (λ (r : RoleData). r.id) c.in-Ok.ensures.1) c.loop-row.invariant.1 c.in_ok-add_id-in-Ok.ensures,
+      rows_more role_rows (map view vs) i c.loop-row.invariant.2 (row_sound_at role_rows (map view vs) i es (view v) at refl sound),
+      (let lt : i < 10000 = row_within role_rows es i (view v) sound in omega arith),
+      omega (arith, c.in_ok-roles-in-Ok.ensures.len, c.loop-row.invariant.4),
     )
 
 pub returns : goal.returns
 returns c =
     let vs = c.args.rows.now in
     let i = c.loop-row.row in (
-      λ row rule b. c.loop-row.invariant.1 row rule (let lt : row < length (map view vs) = slice_get_within (map view vs) row b.0 b.1 in omega (arith, length-map vs view)) b,
-      c.into_roles.ensures.roles ∙ c.loop-row.invariant.0 ∙ ap (λ us. map role_of (map view us)) (take_all i vs c.loop-row-test.false),
-      omega (arith, c.into_roles.ensures.len, c.loop-row.invariant.2, c.loop-row.invariant.3),
+      λ row rule b. c.loop-row.invariant.2 row rule (let lt : row < length (map view vs) = slice_get_within (map view vs) row b.0 b.1 in omega (arith, length-map vs view)) b,
+      c.loop-row.invariant.0 ∙ ap (λ us. map (says_of role_rows) (map view us)) (take_all i vs c.loop-row-test.false),
+      omega (arith, c.loop-row.invariant.3, c.loop-row.invariant.4),
     )
