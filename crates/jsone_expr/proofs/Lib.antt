@@ -1,0 +1,10 @@
+pub mod States
+pub mod Complete
+pub mod Sound
+pub mod Steps
+pub mod Flattening
+pub mod Readings
+pub mod Closing
+pub mod LexLemmas
+pub mod DepthLemmas
+pub mod TextLemmas
