@@ -1,0 +1,6 @@
+pub mod PowerLemmas
+pub mod DigitLemmas
+pub mod TruthLemmas
+pub mod WeightLemmas
+pub mod MemberLemmas
+pub mod SliceLemmas

@@ -1,0 +1,17 @@
+//! What the operators of JSON-e's expressions do to values, and the faults that keep an expression from a value.
+//!
+//! Numbers are whole and have 64 bits with a sign. Texts count by characters.
+#![tactic(auto)]
+
+pub mod builtins;
+pub mod faults;
+pub mod members;
+pub mod numbers;
+pub mod order;
+pub mod places;
+pub mod slices;
+#[cfg(test)]
+mod tests;
+pub mod texts;
+pub mod truth;
+pub mod weights;
