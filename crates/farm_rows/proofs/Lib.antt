@@ -1,6 +1,14 @@
-pub mod AdvanceLemmas
-pub mod DueLemmas
-pub mod IdLemmas
 pub mod RoomLemmas
+pub mod LeastLemmas
+pub mod DueLemmas
+pub mod TurnLemmas
+pub mod AdvanceLemmas
 pub mod SweepLemmas
+pub mod ClaimLemmas
+pub mod FitLemmas
+pub mod PlaceLemmas
 pub mod TableLemmas
+pub mod IdLemmas
+pub mod ChangeLemmas
+pub mod PickLemmas
+pub mod EndLemmas
