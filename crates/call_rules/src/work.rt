@@ -60,8 +60,8 @@ pub fn resolve_scope(alloc: Global, id: SlugId, run: u8) -> Result<Expr, AllocEr
     Ok(Expr::One(scope_of(alloc, "queue:resolve-task:", name.as_str())?))
 }
 
-/// A run as scopes name it.
-fn run_name(alloc: Global, id: SlugId, run: u8) -> Result<String, AllocError>
+/// A run as scopes and answers name it.
+pub fn run_name(alloc: Global, id: SlugId, run: u8) -> Result<String, AllocError>
     ensures name { IfOk result (λ t. string_bytes t ≡ table.run_name id run) }
     ensures printable { IfOk result (λ t. All IsPrintable (string_bytes t)) }
 {

@@ -1,6 +1,6 @@
 -- A change of the tasks that stand: what it leaves, and what the tables keep.
-use Rattle.std.proofs.Common.{◌≡◌, ℕ, ◌+◌, ◌≤◌, Bool, true, false, not, ◌&&◌, List, [], ◌∷◌, length, find, Option, Some, None, refl, ap, sym, ◌∙◌, subst, arith, nat_le}
-use Rattle.std.specs.List.{list_all}
+use Rattle.std.proofs.Common.{◌≡◌, ℕ, ◌+◌, ◌≤◌, Bool, true, false, not, ◌&&◌, List, [], ◌∷◌, map, length, find, bytes_eq, Option, Some, None, refl, ap, sym, ◌∙◌, subst, arith, nat_le}
+use Rattle.std.specs.List.{list_all, IsDistinct}
 use Rattle.std.specs.Option.{option_map_or}
 use Rattle.std.proofs.lemmas.Bool.{leb-true, and_parts}
 use Rattle.farm_text.specs.declared.moment.TheConstants.{LAST_TOLD_MOMENT}
@@ -19,7 +19,9 @@ use Rattle.farm_rows.specs.Changes.{on_row, may_keep, may_be, may_apply, has_id,
 use Rattle.farm_rows.specs.Deeds.{kind_of, change_of, row_of, rows_after, drawn_by}
 use Rattle.farm_rows.specs.Plans.{room_for}
 use Rattle.farm_rows.specs.Sweep.{soonest_of, runs_made, fits, IsKept}
-use Rattle.farm_rows.proofs.DueLemmas.{change-length}
+use Rattle.run_states.proofs.LaterLemmas.{again-later, canceled-later, reclaimed-later, resolved-later}
+use Rattle.farm_rows.proofs.DueLemmas.{change-length, change-ids}
+use Rattle.farm_rows.proofs.IdLemmas.{claimed-ids}
 use Rattle.farm_rows.proofs.FitLemmas.{change-fits, change-made, found-made, again-fits, again-more, finished-fits, canceled-more, claimed-fits, claimed-more, reclaimed-fits, reclaimed-more, resolved-fits, resolved-more, draws-few}
 
 -- the contents of these parts
@@ -110,6 +112,15 @@ made-after contents at number (Resolve r) may =
     let more = found-made (has_id r.id) (resolved r.run reason number at) contents.rows f.row (draws reason (Some f.row)) f.is (resolved-more r.run reason number at f.row f.passes) in
     omega arith
 
+-- each task keeps its id
+ids-after : (at number : ℕ) (deed : Deed) (rows : List Row) → map (λ row. row.id) (rows_after at number deed rows) ≡ map (λ row. row.id) rows
+ids-after at number (Create row) rows = refl
+ids-after at number (Rerun id) rows = change-ids (has_id id) (run_again number at) (again-later number at) rows
+ids-after at number (Cancel id) rows = change-ids (has_id id) (canceled at) (canceled-later at) rows
+ids-after at number (TakesRuns claim) rows = claimed-ids (claim_of at claim) claim.runs rows
+ids-after at number (Reclaim r) rows = change-ids (has_id r.id) (reclaimed r.run r.taken_until) (reclaimed-later r.run r.taken_until) rows
+ids-after at number (Resolve r) rows = change-ids (has_id r.id) (resolved r.run (reason_of r.reason) number at) (resolved-later r.run (reason_of r.reason) number at) rows
+
 -- ---- what the tables keep
 
 pub kept-after : (contents : Contents) (rows new : List Row) (last at next drawn : ℕ) (deed : Deed) (before soonest : Option ℕ) (capacity after : ℕ) → contents_of rows last next ≡ contents → may_apply contents (change_of at deed) ≡ true → IsKept rows last next before capacity
@@ -125,6 +136,7 @@ kept-after contents rows new last at next drawn deed before soonest capacity aft
     record {
       told = lawful.told;
       few = (let h = kept.few in omega arith);
+      own = subst (IsDistinct bytes_eq) (sym (ap (map (λ (row : Row). row.id)) is ∙ ids-after at next deed rows)) kept.own;
       fit = ap (list_all fits) is ∙ fits-after at next deed rows kept.fit;
       drawn = (let h = kept.drawn in omega arith);
       room = subst P (sym len) room;

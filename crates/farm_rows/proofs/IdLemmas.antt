@@ -77,12 +77,12 @@ other-ids id (row ∷ rows) none = by (other-ids id rows) (bytes_eq row.id id) r
   by rest true is = let some : Some row ≡ None = rw is at none in cc
   by rest false is = rw (bytes_eq-other row.id id is) (rest (rw is at none))
 
-created-ids : (rows : List Row) (row : Row) → HaveOwnIds rows → row_with row.id rows ≡ None → HaveOwnIds (rows ++ row ∷ [])
+pub created-ids : (rows : List Row) (row : Row) → HaveOwnIds rows → row_with row.id rows ≡ None → HaveOwnIds (rows ++ row ∷ [])
 created-ids rows row own none =
     rw (map-append (λ (row : Row). row.id) rows (row ∷ [])) (IsDistinct-push nat_list_eq_equiv (map (λ row. row.id) rows) row.id own (other-ids row.id rows none))
 
 -- runs that are claimed, one after the other
-claimed-ids : (claim : RunClaim) (names : List RunName) (rows : List Row) → map (λ row. row.id) (all_claimed claim names rows) ≡ map (λ row. row.id) rows
+pub claimed-ids : (claim : RunClaim) (names : List RunName) (rows : List Row) → map (λ row. row.id) (all_claimed claim names rows) ≡ map (λ row. row.id) rows
 claimed-ids claim [] rows = refl
 claimed-ids claim (name ∷ names) rows =
     claimed-ids claim names (change_row name.id (claimed claim) rows) ∙ change-ids (has_id name.id) (claimed claim) (claimed-later claim) rows

@@ -12,3 +12,4 @@ pub mod IdLemmas
 pub mod ChangeLemmas
 pub mod PickLemmas
 pub mod EndLemmas
+pub mod ShownLemmas

@@ -1,5 +1,5 @@
 -- What the tables keep: a tick, and a task more.
-use Rattle.std.proofs.Common.{◌≡◌, ℕ, ◌≤◌, ◌<◌, ◌+◌, min, max, true, false, ◌&&◌, List, [], ◌∷◌, ◌++◌, length, filter, Option, Some, refl, ap, sym, ◌∙◌, subst, arith, nat_le, append-nil, take, get_or}
+use Rattle.std.proofs.Common.{◌≡◌, ℕ, ◌≤◌, ◌<◌, ◌+◌, min, max, true, false, ◌&&◌, List, [], ◌∷◌, ◌++◌, length, filter, Option, Some, None, refl, ap, sym, ◌∙◌, subst, arith, nat_le, append-nil, take, get_or}
 use Rattle.std.specs.List.{reduce, list_all}
 use Rattle.std.specs.Option.{option_to_list}
 use Rattle.std.proofs.lemmas.Bool.{ltb-true, leb-true}
@@ -13,7 +13,7 @@ use Rattle.farm_text.specs.declared.moment.TheConstants.{LAST_TOLD_MOMENT}
 use Rattle.run_states.specs.Rows.{Row, new_row, scheduled, claim_due, due_moments}
 use Rattle.farm_record.specs.declared.change.Change.{Change}
 use Rattle.farm_record.specs.declared.change.Creation.{Creation}
-use Rattle.farm_rows.specs.Contents.{Contents}
+use Rattle.farm_rows.specs.Contents.{Contents, row_with, HaveOwnIds}
 use Rattle.farm_rows.specs.Due.{all_due_moments, is_due, advance}
 use Rattle.farm_rows.specs.Changes.{creating, may_apply, applied}
 use Rattle.farm_rows.specs.Plans.{room_for, IsPlanOn}
@@ -22,7 +22,7 @@ use Rattle.farm_rows.specs.declared.plan.Deed.TheVariants.{Create}
 use Rattle.farm_rows.specs.Sweep.{claim_ends, first_lost, numbered, all_turns, soonest_of, runs_made, fits, IsKept}
 use Rattle.farm_rows.proofs.AdvanceLemmas.{advance-is}
 use Rattle.farm_rows.proofs.FitLemmas.{fits-of}
-use Rattle.farm_rows.proofs.IdLemmas.{may-create}
+use Rattle.farm_rows.proofs.IdLemmas.{may-create, created-stands, created-ids}
 use Rattle.farm_rows.proofs.RoomLemmas.{room-enough}
 use Rattle.farm_rows.proofs.TurnLemmas.{with_last, idle-first, all-idle, all-last, all-keeps}
 
@@ -79,7 +79,7 @@ pub record Fits (rows : List Row) (at had brought : ℕ) : Type 0 where
   pub few : length rows < 1_000_000
   pub told : at ≤ LAST_TOLD_MOMENT
 
-pub plan-fits : (contents : Contents) (rows : List Row) (at had brought : ℕ) (row : Row) → IsPlanOn contents (planned_of at (Create row) brought) → rows ≡ contents.rows → room_for (length rows) ≤ had → Fits rows at had brought
+pub plan-fits : (contents : Contents) (rows : List Row) (at had brought : ℕ) (row : Row) → IsPlanOn contents (planned_of at (Create row) [] brought) → rows ≡ contents.rows → room_for (length rows) ≤ had → Fits rows at had brought
 plan-fits contents rows at had brought row planned same keeps =
     let creation : Creation = record { id = row.id; definition = row.definition } in
     let may = may-create contents at creation planned.lawful in
@@ -93,9 +93,9 @@ plan-fits contents rows at had brought row planned same keeps =
     record { room = omega arith; kept = omega arith; few = few_rows; told = told }
 
 -- what the tables keep, with one task more
-pub kept-more : (rows new : List Row) (row : Row) (last at next : ℕ) (soonest then : Option ℕ) (had brought capacity : ℕ) → IsKept rows last next soonest had → Fits rows at had brought → new ≡ rows ++ row ∷ [] → fits row ≡ true → length row.runs ≡ 1
+pub kept-more : (rows new : List Row) (row : Row) (last at next : ℕ) (soonest then : Option ℕ) (had brought capacity : ℕ) → IsKept rows last next soonest had → Fits rows at had brought → new ≡ rows ++ row ∷ [] → fits row ≡ true → length row.runs ≡ 1 → row_with row.id rows ≡ None
     → then ≡ reduce min (option_to_list soonest ++ due_moments row) → max had brought ≤ capacity → IsKept new at (next + 1) then capacity
-kept-more rows new row last at next soonest then had brought capacity kept fit_ is row_fits one earlier made =
+kept-more rows new row last at next soonest then had brought capacity kept fit_ is row_fits one unknown earlier made =
     let len : length new ≡ length rows + 1 = ap length is ∙ (length-append rows (row ∷ []) ∙ refl) in
     let P : ℕ → Type 0 = λ n. room_for n ≤ capacity in
     let room : room_for (length rows + 1) ≤ capacity = (let h = fit_.kept in omega arith) in
@@ -103,6 +103,7 @@ kept-more rows new row last at next soonest then had brought capacity kept fit_ 
     record {
       told = fit_.told;
       few = (let h = fit_.few in omega arith);
+      own = subst HaveOwnIds (sym is) (created-ids rows row kept.own unknown);
       fit = ap (list_all fits) is ∙ (list_all-append fits rows (row ∷ []) ∙ (ap (λ b. b && (fits row && true)) kept.fit ∙ ap (λ b. b && true) row_fits));
       drawn = (let h = kept.drawn in omega arith);
       room = subst P (sym len) room;
@@ -121,11 +122,19 @@ planned-fits row planned number at is fresh =
     (ap fits whole ∙ fit_, ap (λ (r : Row). length r.runs) whole)
 
 -- the task of a plan is the new one, scheduled
-pub named : (contents : Contents) (rows : List Row) (last next at room : ℕ) (row : Row) → contents_of rows last next ≡ contents → IsPlanOn contents (planned_of at (Create row) room) → row ≡ scheduled next at (new_row row.id row.definition)
+pub named : (contents : Contents) (rows : List Row) (last next at room : ℕ) (row : Row) → contents_of rows last next ≡ contents → IsPlanOn contents (planned_of at (Create row) [] room) → row ≡ scheduled next at (new_row row.id row.definition)
 named contents rows last next at room row same planned =
-    let here : IsPlanOn (contents_of rows last next) (planned_of at (Create row) room) = rw same planned in
-    let made : Some row ≡ Some (scheduled next at (new_row row.id row.definition)) = here.makes in
+    let here : IsPlanOn (contents_of rows last next) (planned_of at (Create row) [] room) = rw same planned in
+    let creation : Creation = record { id = row.id; definition = row.definition } in
+    let stands = created-stands (contents_of rows last next) at creation here.lawful in
+    let made : row ∷ [] ≡ scheduled next at (new_row row.id row.definition) ∷ [] = here.shows ∙ ap (λ (o : Option Row). option_to_list o ++ []) stands in
     cc
+
+-- no task has its id
+pub planned-unknown : (contents : Contents) (rows : List Row) (last next at room : ℕ) (row : Row) → contents_of rows last next ≡ contents → IsPlanOn contents (planned_of at (Create row) [] room) → row_with row.id rows ≡ None
+planned-unknown contents rows last next at room row same planned =
+    let here : IsPlanOn (contents_of rows last next) (planned_of at (Create row) [] room) = rw same planned in
+    (may-create (contents_of rows last next) at (record { id = row.id; definition = row.definition }) here.lawful).1
 
 -- a task that was planned is created
 pub applied-made : (contents : Contents) (change : Change) (rows new : List Row) (last next at : ℕ) (row planned : Row) → contents_of rows last next ≡ contents → creating at (record { id = planned.id; definition = planned.definition }) ≡ change → new ≡ rows ++ row ∷ [] → row ≡ scheduled next at planned → planned ≡ new_row planned.id planned.definition → contents_of new at (next + 1) ≡ applied contents change

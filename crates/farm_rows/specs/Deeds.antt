@@ -1,5 +1,5 @@
 -- What a plan keeps of its change, and what that makes of the tasks that stand. The contracts of private functions alone speak of these.
-use Rattle.std.specs.Prelude.{ℕ, List, [], length, replicate, Option, Some, None}
+use Rattle.std.specs.Prelude.{ℕ, List, [], ◌∷◌, length, replicate, Option, Some, None}
 use Rattle.run_states.specs.declared.run.Claim.{Claim as RunClaim}
 use Rattle.run_states.specs.Rows.{Row}
 use Rattle.run_states.specs.Moves.{run_again, canceled, reclaimed, resolved}
@@ -31,8 +31,13 @@ abbrev pub row_of : Deed → Option Row
 row_of (deeds.Create row) = Some row
 row_of _ = None
 
-abbrev pub planned_of : ℕ → Deed → ℕ → Planned
-planned_of at deed room = record { change = change_of at deed; row = row_of deed; room = room }
+-- the tasks that it shows: the one that is created, or those of a list
+abbrev pub shown_of : Deed → List Row → List Row
+shown_of (deeds.Create row) rows = row ∷ []
+shown_of _ rows = rows
+
+abbrev pub planned_of : ℕ → Deed → List Row → ℕ → Planned
+planned_of at deed rows room = record { change = change_of at deed; rows = shown_of deed rows; room = room }
 
 -- what becomes of the tasks that stand, where a new run has this number
 abbrev pub rows_after : ℕ → ℕ → Deed → List Row → List Row

@@ -6,7 +6,7 @@ use Rattle.farm_text.specs.declared.moment.TheConstants.{LAST_TOLD_MOMENT}
 use Rattle.run_states.specs.declared.reasons.ReasonResolved.TheVariants.{ClaimExpired}
 use Rattle.run_states.specs.Rows.{Row, is_resolved, exceeded, claim_due, loses_claim}
 use Rattle.run_states.specs.Moves.{expired}
-use Rattle.farm_rows.specs.Contents.{Contents}
+use Rattle.farm_rows.specs.Contents.{Contents, HaveOwnIds}
 use Rattle.farm_rows.specs.Due.{all_due_moments, turns}
 use Rattle.farm_rows.specs.Plans.{room_for}
 
@@ -62,6 +62,7 @@ fits row = nat_le (length row.runs + row.retries_left) 50 && nat_le row.retries_
 pub record IsKept (rows : List Row) (last next : ℕ) (soonest : Option ℕ) (capacity : ℕ) : Type 0 where
   pub told : last ≤ LAST_TOLD_MOMENT
   pub few : length rows ≤ 1_000_000
+  pub own : HaveOwnIds rows
   pub fit : list_all fits rows ≡ true
   pub drawn : next ≤ runs_made rows
   pub room : room_for (length rows) ≤ capacity

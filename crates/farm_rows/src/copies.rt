@@ -1,7 +1,9 @@
 //! The claims of the runs that a worker takes together.
 ghost use Rattle.std.specs.Prelude.{◌≡◌, length, replicate, IfOk};
 ghost use Rattle.farm_rows.specs.Changes.{claim_of};
+ghost use Rattle.farm_rows.specs.Deeds.{claims_of};
 
+use crate::plan::Deed;
 use farm_record::Claim;
 use farm_text::{Moment, Text};
 use run_states::Claim as RunClaim;
@@ -9,7 +11,7 @@ use std::alloc::{AllocError, Global};
 use task_defs::Identifier;
 
 /// A claim for each run, which begins at this moment.
-pub(crate) fn copies(alloc: Global, at: Moment, claim: &Claim) -> Result<Vec<RunClaim>, AllocError>
+fn copies(alloc: Global, at: Moment, claim: &Claim) -> Result<Vec<RunClaim>, AllocError>
     ensures { IfOk result (λ v. v.items ≡ replicate (length claim.now.runs) (claim_of at claim.now)) }
 {
     let count = claim.runs.list().len();
@@ -18,6 +20,17 @@ pub(crate) fn copies(alloc: Global, at: Moment, claim: &Claim) -> Result<Vec<Run
         claims.push(copy(alloc, at, claim)?)?;
     }
     Ok(claims)
+}
+
+/// The claims that a change makes, a copy for each run that is taken.
+pub(crate) fn claims(alloc: Global, at: Moment, deed: &Deed) -> Result<Vec<RunClaim>, AllocError>
+    ensures { IfOk result (λ v. v.items ≡ claims_of at deed.now) }
+{
+    match deed {
+        Deed::Claim(claim) => copies(alloc, at, claim),
+        Deed::Create(_) | Deed::Rerun(_) | Deed::Cancel(_) | Deed::Reclaim(_) | Deed::Resolve(_) =>
+            Ok(Vec::new(alloc)),
+    }
 }
 
 fn copy(alloc: Global, at: Moment, claim: &Claim) -> Result<RunClaim, AllocError>

@@ -12,6 +12,7 @@ mod moves;
 mod picks;
 mod plan;
 mod room;
+mod shown;
 mod sweep;
 mod tables;
 mod work;
@@ -22,6 +23,7 @@ pub use laws::{
     a_task_is_created_once, advances_go_together, an_advance_goes_turn_by_turn,
     nothing_is_due_after_an_advance, tasks_and_runs_stay,
 };
+pub use moves::reason_of;
 pub use plan::TaskPlan;
 pub use tables::{MOST_TASKS, TaskTables};
 

@@ -96,7 +96,7 @@ fn drawn_of(row: &TaskRow, reason: ReasonResolved) -> u64
 }
 
 /// Why a run ends that is reported so.
-fn reason_of(report: Report) -> ReasonResolved
+pub fn reason_of(report: Report) -> ReasonResolved
     ensures { result ≡ reason_of report }
 {
     match report {

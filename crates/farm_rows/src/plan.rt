@@ -1,10 +1,11 @@
 //! A change that may be made and has all its memory.
-ghost use Rattle.std.specs.Prelude.{◌≡◌, option_copied};
+ghost use Rattle.std.specs.Prelude.{◌≡◌};
 
 use farm_record::{Claim, Reclaim, Resolution};
 use farm_text::{Moment, SlugId};
 use run_states::{Claim as RunClaim, TaskRow};
 use std::marker::Model;
+use std::slice;
 
 /// What is changed.
 #[derive(Debug, Drop)]
@@ -23,6 +24,8 @@ pub(crate) enum Deed {
 pub struct TaskPlan {
     pub(crate) at: Moment,
     pub(crate) deed: Deed,
+    /// The tasks that stand and that the change names, as they will be. Their definitions are shared with those that stand.
+    pub(crate) rows: Vec<TaskRow>,
     /// A longer list for the tasks, without any yet, where the tables are full and a task is created; else one without room.
     pub(crate) grown: Vec<TaskRow>,
     /// A claim for each run that is taken.
@@ -40,19 +43,23 @@ impl Model for TaskPlan {
 
     ghost coded = { Prim.hlevel (codes, members_code) };
 
-    ghost view = { λ p. planned_of p.at p.deed (vec_capacity p.grown) };
+    ghost view = { λ p. planned_of p.at p.deed p.rows.items (vec_capacity p.grown) };
 
     ghost invariant = { λ p. (p.grown.items ≡ []) × (p.claims.items ≡ claims_of p.at p.deed) };
 }
 
 impl TaskPlan {
-    /// The task that the change creates, as it will be; none for any other change.
-    pub fn row(&self) -> Option<&TaskRow>
-        ensures { option_copied result ≡ self.now.row }
+    /// The tasks that the change names, as they will be: the one that it creates, or those that stand.
+    pub fn rows(&self) -> &[TaskRow]
+        ensures { result.now ≡ self.now.rows }
     {
         match &self.deed {
-            Deed::Create(row) => Some(row),
-            _ => None,
+            Deed::Create(row) => slice::from_ref(row),
+            Deed::Rerun(_)
+            | Deed::Cancel(_)
+            | Deed::Claim(_)
+            | Deed::Reclaim(_)
+            | Deed::Resolve(_) => &self.rows,
         }
     }
 }

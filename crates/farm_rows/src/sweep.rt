@@ -4,6 +4,7 @@ ghost use Rattle.std.specs.Option.{option_to_list};
 ghost use Rattle.std.specs.List.{reduce, position, list_all};
 ghost use Rattle.run_states.specs.declared.reasons.ReasonResolved.TheVariants.{ClaimExpired};
 ghost use Rattle.run_states.specs.Rows.{claim_due, loses_claim, due_moments};
+ghost use Rattle.farm_rows.specs.Contents.{HaveOwnIds};
 ghost use Rattle.farm_rows.specs.Due.{change_first, draws};
 ghost use Rattle.farm_rows.specs.Sweep.{ends_before, swept, lost, first_lost, numbered, all_turns, soonest_of, runs_made, fits};
 
@@ -20,6 +21,7 @@ pub(crate) fn resolve_due(rows: &mut [TaskRow], first: u64, moment: Moment) -> u
     ensures turns { all_turns (numbered rows.old first) moment ≡ numbered rows.new result }
     ensures fit { list_all fits rows.new ≡ true }
     ensures drawn { result ≤ runs_made rows.new }
+    ensures own { HaveOwnIds rows.old → HaveOwnIds rows.new }
 {
     let mut next = first;
     sweep(rows, moment);

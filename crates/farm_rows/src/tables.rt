@@ -1,24 +1,25 @@
 //! The tables of a farm's tasks.
 ghost use Rattle.std.specs.Prelude.{◌≡◌, ◌<◌, ◌≤◌, [], true, false, Some, None, length, vec_capacity, slice_get, count_by, option_copied, IfOk, MatchOption};
 ghost use Rattle.farm_text.specs.declared.moment.TheConstants.{LAST_TOLD_MOMENT};
-ghost use Rattle.farm_rows.specs.Contents.{no_contents, row_with, counts_of};
+ghost use Rattle.farm_rows.specs.Contents.{no_contents, row_with, counts_of, HaveOwnIds};
 ghost use Rattle.farm_rows.specs.Due.{is_due, advance};
 ghost use Rattle.farm_rows.specs.Picks.{waits_in, picks};
 ghost use Rattle.farm_rows.specs.Changes.{is_alone, creating, may_create, may_be, may_apply, applied};
-ghost use Rattle.farm_rows.specs.Plans.{IsPlanOn};
-ghost use Rattle.farm_rows.specs.Deeds.{change_of, row_of, planned_of, claims_of};
+ghost use Rattle.farm_rows.specs.Plans.{named_rows, IsPlanOn};
+ghost use Rattle.farm_rows.specs.Deeds.{kind_of, change_of, row_of, planned_of, claims_of, rows_after};
 ghost use Rattle.farm_rows.specs.Sweep.{all_turns};
 
 use crate::checks::{is_running, may_cancel, may_keep, may_rerun};
-use crate::copies::copies;
+use crate::copies::claims;
 use crate::counts::RowCounts;
 use crate::moves::row_with;
 use crate::picks::{may_claim, pending, picks};
 use crate::plan::{Deed, TaskPlan};
 use crate::room::{add, grown};
+use crate::shown::shown;
 use crate::sweep::{resolve_due, soonest, soonest_with};
 use crate::work::make;
-use farm_record::{Change, Claim, Creation, Kind, RunName};
+use farm_record::{Change, Creation, Kind, RunName};
 use farm_text::{LAST_TOLD_MOMENT, Moment, SlugId};
 use run_states::{Claim as RunClaim, TaskRow};
 use std::alloc::{AllocError, Global};
@@ -141,7 +142,8 @@ impl TaskTables {
         queue: &TaskQueue,
         most: u8,
     ) -> Result<Vec<RunName>, AllocError>
-        ensures { IfOk result (λ names. names.items ≡ picks most queue.now self.now.rows) }
+        ensures names { IfOk result (λ names. names.items ≡ picks most queue.now self.now.rows) }
+        ensures own { HaveOwnIds self.now.rows }
     {
         picks(alloc, &self.rows, queue, most)
     }
@@ -157,13 +159,27 @@ impl TaskTables {
             return Ok(None);
         }
         let Change { at, kind } = change;
+        self.plan_kind(alloc, at, kind)
+    }
+
+    /// The plan of a change that may be made, by its kind.
+    fn plan_kind(
+        &self,
+        alloc: Global,
+        at: Moment,
+        kind: Kind,
+    ) -> Result<Option<TaskPlan>, AllocError>
+        requires { may_apply self.now (record { at = at; kind = kind }) ≡ true }
+        ensures { IfOk result (λ plan. MatchOption plan (may_apply self.now (record { at = at; kind = kind }) ≡ false)
+            (λ p. (p.change ≡ record { at = at; kind = kind }) × IsPlanOn self.now p)) }
+    {
         match kind {
             Kind::Create(creation) => Ok(Some(self.plan_creation(alloc, at, creation)?)),
-            Kind::Claim(claim) => Ok(Some(plan_claim(alloc, at, claim)?)),
-            Kind::Rerun(id) => Ok(Some(plan_of(alloc, at, Deed::Rerun(id)))),
-            Kind::Cancel(id) => Ok(Some(plan_of(alloc, at, Deed::Cancel(id)))),
-            Kind::Reclaim(reclaim) => Ok(Some(plan_of(alloc, at, Deed::Reclaim(reclaim)))),
-            Kind::Resolve(resolution) => Ok(Some(plan_of(alloc, at, Deed::Resolve(resolution)))),
+            Kind::Claim(claim) => Ok(Some(self.plan_of(alloc, at, Deed::Claim(claim))?)),
+            Kind::Rerun(id) => Ok(Some(self.plan_of(alloc, at, Deed::Rerun(id))?)),
+            Kind::Cancel(id) => Ok(Some(self.plan_of(alloc, at, Deed::Cancel(id))?)),
+            Kind::Reclaim(r) => Ok(Some(self.plan_of(alloc, at, Deed::Reclaim(r))?)),
+            Kind::Resolve(r) => Ok(Some(self.plan_of(alloc, at, Deed::Resolve(r))?)),
             _ => Ok(None),
         }
     }
@@ -185,9 +201,42 @@ impl TaskTables {
         Ok(TaskPlan {
             at,
             deed: Deed::Create(row),
+            rows: Vec::new(alloc),
             grown,
             claims: Vec::new(alloc),
         })
+    }
+
+    /// The plan of a change of tasks that stand, which may be made.
+    fn plan_of(&self, alloc: Global, at: Moment, deed: Deed) -> Result<TaskPlan, AllocError>
+        requires stands { row_of deed ≡ None }
+        requires lawful { may_apply self.now (change_of at deed) ≡ true }
+        ensures change { IfOk result (λ p. p.change ≡ change_of at deed) }
+        ensures plan { IfOk result (λ p. IsPlanOn self.now p) }
+    {
+        let (claims, rows) = self.parts(alloc, at, &deed)?;
+        Ok(TaskPlan {
+            at,
+            deed,
+            rows,
+            grown: Vec::new(alloc),
+            claims,
+        })
+    }
+
+    /// The claims that a change makes, and the tasks that it names, as they will be.
+    fn parts(
+        &self,
+        alloc: Global,
+        at: Moment,
+        deed: &Deed,
+    ) -> Result<(Vec<RunClaim>, Vec<TaskRow>), AllocError>
+        ensures claims { IfOk result (λ p. p.0.items ≡ claims_of at deed.now) }
+        ensures rows { IfOk result (λ p. p.1.items ≡ rows_after at self.now.next deed.now (named_rows (kind_of deed.now) self.now.rows)) }
+    {
+        let claims = claims(alloc, at, deed)?;
+        let rows = shown(alloc, &self.rows, at, self.next, deed)?;
+        Ok((claims, rows))
     }
 
     /// Whether a change may be made.
@@ -234,6 +283,7 @@ impl TaskTables {
         let TaskPlan {
             at,
             deed,
+            rows: _,
             grown,
             claims,
         } = plan;
@@ -246,7 +296,7 @@ impl TaskTables {
     /// Adds a task that is created.
     fn create(&mut self, at: Moment, row: TaskRow, grown: Vec<TaskRow>)
         requires empty { grown.items ≡ [] }
-        requires plan { IsPlanOn self.old (planned_of at (Deed.Create row) (vec_capacity grown)) }
+        requires plan { IsPlanOn self.old (planned_of at (Deed.Create row) [] (vec_capacity grown)) }
         ensures { self.new ≡ applied self.old (change_of at (Deed.Create row)) }
     {
         let soonest = soonest_with(self.soonest, &row);
@@ -268,32 +318,6 @@ impl TaskTables {
         self.next += drawn;
         self.last = at;
     }
-}
-
-/// The plan of a change of the tasks that stand.
-fn plan_of(alloc: Global, at: Moment, deed: Deed) -> TaskPlan
-    requires { claims_of at deed ≡ [] }
-    ensures { result ≡ planned_of at deed 0 }
-{
-    TaskPlan {
-        at,
-        deed,
-        grown: Vec::new(alloc),
-        claims: Vec::new(alloc),
-    }
-}
-
-/// The plan of a claim: a copy of the worker's names for each run.
-fn plan_claim(alloc: Global, at: Moment, claim: Claim) -> Result<TaskPlan, AllocError>
-    ensures { IfOk result (λ p. p ≡ planned_of at (Deed.Claim claim) 0) }
-{
-    let claims = copies(alloc, at, &claim)?;
-    Ok(TaskPlan {
-        at,
-        deed: Deed::Claim(claim),
-        grown: Vec::new(alloc),
-        claims,
-    })
 }
 
 /// Whether a task's group is its own, and it waits for no task.

@@ -1,4 +1,6 @@
 //! Tasks that are created and fall due, against rows that were worked by hand.
+ghost use Rattle.farm_rows.specs.Plans.{IsPlanOn};
+
 use super::*;
 use farm_record::{Change, Claim, Creation, Kind, Reclaim, Report, Resolution, RunName, RunNames};
 use farm_text::{Doc, LAST_TOLD_MOMENT, Moment, SlugId, Text};
@@ -262,18 +264,44 @@ fn first(tables: &TaskTables) -> Option<&TaskRow> {
     }
 }
 
-/// Makes a change, where it may be made, and tells whether it was.
+/// Makes a change, where it may be made, and tells whether it was, and the plan showed its first task as it stands then.
 fn made(alloc: Global, tables: &mut TaskTables, millis: u64, kind: Kind) -> bool {
     let change = Change {
         at: moment(millis),
         kind,
     };
     match tables.plan(alloc, change) {
-        Ok(Some(plan)) => {
-            tables.apply(plan);
-            true
-        }
+        Ok(Some(plan)) => shows(tables, plan),
         _ => false,
+    }
+}
+
+/// The id of a task, how many runs it has, its state, and the retries that are left.
+type Seen = (SlugId, usize, Option<RunState>, u8);
+
+fn seen(row: &TaskRow) -> Seen {
+    (row.id(), row.runs().len(), row.state(), row.retries_left())
+}
+
+/// Applies a plan, and tells whether its first task stands as it was shown.
+fn shows(tables: &mut TaskTables, plan: TaskPlan) -> bool
+    requires { IsPlanOn tables.old plan }
+{
+    let shown = match plan.rows().first() {
+        Some(row) => Some(seen(row)),
+        None => None,
+    };
+    tables.apply(plan);
+    match shown {
+        Some(shown) => stands_so(tables, shown),
+        None => false,
+    }
+}
+
+fn stands_so(tables: &TaskTables, shown: Seen) -> bool {
+    match tables.row(shown.0) {
+        Some(row) => seen(row) == shown,
+        None => false,
     }
 }
 

@@ -4,6 +4,7 @@
 //! which it ends are those of the queue service in the Taskcluster reference.
 #![tactic(auto)]
 
+mod copies;
 mod laws;
 mod moves;
 mod reasons;

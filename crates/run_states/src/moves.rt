@@ -124,7 +124,7 @@ impl TaskRow {
     }
 
     /// Whether the run of this number is there, and ended for this reason.
-    fn ended_for_at(&self, run: u8, reason: ReasonResolved) -> bool
+    pub fn ended_for_at(&self, run: u8, reason: ReasonResolved) -> bool
         ensures { result ≡ ended_for_at run reason self.now }
     {
         match run_at(&self.runs, usize::from(run)) {

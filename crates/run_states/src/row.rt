@@ -2,12 +2,14 @@
 ghost use Rattle.std.specs.Prelude.{◌≡◌, ◌+◌, ◌≤◌, ◌↔◌, [], length, not, IsTrue, IfOk};
 ghost use Rattle.run_states.specs.Rows.{new_row, row_state, is_unscheduled, is_resolved, is_pending, claim_due, scheduled, finished, exceeded};
 
+use crate::copies::copies;
 use crate::reasons::{ReasonCreated, ReasonResolved, RunState};
 use crate::run::{Outcome, Run};
 use crate::runs::{add_pending, end_last, last};
 use farm_text::{Moment, SlugId};
 use std::alloc::{AllocError, Global};
 use std::marker::Model;
+use std::sync::Arc;
 use task_defs::TaskDef;
 
 /// How many runs a task has at most.
@@ -18,12 +20,12 @@ pub const MOST_RETRIES: u8 = 49;
 
 /// A task that stands: its id, its definition, the retries that it has left and its runs.
 ///
-/// It has room for all its runs from its making, so nothing that happens to it later takes memory. The runs and the retries that are left
+/// Its definition is shared with its copies. It has room for all its runs from its making, so nothing that happens to it later takes memory. The runs and the retries that are left
 /// are at most 50, so there is always room for a retry.
 #[derive(Debug, Drop)]
 pub struct TaskRow {
     pub(crate) id: SlugId,
-    pub(crate) definition: TaskDef,
+    pub(crate) definition: Arc<TaskDef>,
     pub(crate) retries_left: u8,
     pub(crate) runs: Vec<Run>,
 }
@@ -32,13 +34,14 @@ impl Model for TaskRow {
     ghost use Rattle.std.specs.Prelude.{◌+◌, ◌≤◌, vec_len, vec_capacity};
     ghost use Rattle.std.specs.Coded.{codes};
     ghost use Rattle.task_defs.specs.Codes.{members_code};
+    ghost use Rattle.std.specs.Arc.{arc_value};
     ghost use Rattle.run_states.specs.Rows.{Row};
 
     ghost Value = { Row };
 
     ghost coded = { Prim.hlevel (codes, members_code) };
 
-    ghost view = { λ r. record { id = r.id; definition = r.definition; retries_left = r.retries_left; runs = r.runs.items } };
+    ghost view = { λ r. record { id = r.id; definition = arc_value r.definition; retries_left = r.retries_left; runs = r.runs.items } };
 
     ghost invariant = { λ r. (vec_len r.runs + r.retries_left ≤ 50) × (r.retries_left ≤ 49) × (50 ≤ vec_capacity r.runs) };
 }
@@ -49,10 +52,24 @@ impl TaskRow {
         ensures { IfOk result (λ row. row ≡ new_row id definition) }
     {
         let runs = Vec::with_capacity(alloc, MOST_RUNS)?;
+        let retries_left = definition.retries.min(MOST_RETRIES);
         Ok(TaskRow {
             id,
-            retries_left: definition.retries.min(MOST_RETRIES),
-            definition,
+            retries_left,
+            definition: Arc::new(alloc, definition)?,
+            runs,
+        })
+    }
+
+    /// The same row. Its definition is shared with this one, and so is not copied.
+    pub fn copy(&self, alloc: Global) -> Result<TaskRow, AllocError>
+        ensures { IfOk result (λ row. row ≡ self.now) }
+    {
+        let runs = copies(alloc, &self.runs)?;
+        Ok(TaskRow {
+            id: self.id,
+            definition: Arc::try_clone(&self.definition)?,
+            retries_left: self.retries_left,
             runs,
         })
     }

@@ -138,23 +138,114 @@ fn stands(row: &TaskRow, state: RunState, runs: usize, retries: u8) -> bool {
     row.state() == Some(state) && row.runs().len() == runs && row.retries_left() == retries
 }
 
-#[test]
-fn a_new_task_has_its_retries_and_no_run(rt: HostRuntime) -> Result<(), Fail> {
-    let row = new_row(rt.alloc(), ALL_RETRIES)?;
-    assert!(rt; row.id().text() == *b"AAAAAAAAQACAAAAAAAAAAA");
-    assert!(rt; row.definition().deadline == moment(DEADLINE));
-    assert!(rt; row.retries_left() == 49);
-    assert!(rt; row.runs().is_empty());
-    assert!(rt; row.is_unscheduled());
-    assert!(rt; row.state() == None);
-    Ok(())
+/// How a row begins.
+#[derive(Clone, Copy)]
+enum Begin {
+    New,
+    Pending,
+    Running,
+}
+
+/// What a test looks at.
+#[derive(Clone, Copy)]
+enum Check {
+    ANewTaskHasItsRetriesAndNoRun,
+    ATaskIsScheduledOnce,
+    APendingTaskExceedsItsDeadlineOnce,
+    ADeadlineOfAnUnscheduledTaskMakesARun,
+    APendingRunIsTakenOnce,
+    AClaimFallsDueAtItsEnd,
+    AReportAfterTheEndOfTheClaimIsRefused,
+    AClaimFallsDueWithoutARetry,
+    ADeadlineAtTheEndOfAClaimUsesNoRetry,
+    AnIntermittentFaultUsesARetry,
+    MostReportsEndTheTask,
+    AShutdownIsFollowedByARun,
+    AReportOfARunThatIsNotRunningIsRefused,
+    AReportIsRepeated,
+    ARerunHasTheRetriesAgain,
+    RunsAndRetriesAreAtMostFifty,
+    ARerunMayBeRefused,
+    ATaskHasFiftyRuns,
+    ATaskIsCanceledOnce,
+    AnUnscheduledTaskIsCanceled,
+    ACopyChangesAlone,
+}
+
+/// Whether what a test looks at holds of a row of this definition, which begins so. Here alone a row is owned, so that the proof of each test is short.
+fn holds(alloc: Global, begin: Begin, body: &str, check: Check) -> bool {
+    match row_of(alloc, begin, body) {
+        Ok(mut row) => passes(alloc, &mut row, check),
+        Err(_) => false,
+    }
+}
+
+fn row_of(alloc: Global, begin: Begin, body: &str) -> Result<TaskRow, Fail> {
+    match begin {
+        Begin::New => new_row(alloc, body),
+        Begin::Pending => pending_row(alloc, body),
+        Begin::Running => running_row(alloc, body),
+    }
+}
+
+fn passes(alloc: Global, row: &mut TaskRow, check: Check) -> bool {
+    match check {
+        Check::ANewTaskHasItsRetriesAndNoRun => a_new_task_has_its_retries_and_no_run_holds(row),
+        Check::ATaskIsScheduledOnce => a_task_is_scheduled_once_holds(row),
+        Check::APendingTaskExceedsItsDeadlineOnce => a_pending_task_exceeds_its_deadline_once_holds(
+            row,
+        ),
+        Check::ADeadlineOfAnUnscheduledTaskMakesARun =>
+            a_deadline_of_an_unscheduled_task_makes_a_run_holds(row),
+        Check::APendingRunIsTakenOnce => a_pending_run_is_taken_once_holds(alloc, row),
+        Check::AClaimFallsDueAtItsEnd => a_claim_falls_due_at_its_end_holds(row),
+        Check::AReportAfterTheEndOfTheClaimIsRefused =>
+            a_report_after_the_end_of_the_claim_is_refused_holds(row),
+        Check::AClaimFallsDueWithoutARetry => a_claim_falls_due_without_a_retry_holds(row),
+        Check::ADeadlineAtTheEndOfAClaimUsesNoRetry =>
+            a_deadline_at_the_end_of_a_claim_uses_no_retry_holds(row),
+        Check::AnIntermittentFaultUsesARetry => an_intermittent_fault_uses_a_retry_holds(
+            alloc, row,
+        ),
+        Check::MostReportsEndTheTask => most_reports_end_the_task_holds(alloc, row),
+        Check::AShutdownIsFollowedByARun => a_shutdown_is_followed_by_a_run_holds(row),
+        Check::AReportOfARunThatIsNotRunningIsRefused =>
+            a_report_of_a_run_that_is_not_running_is_refused_holds(row),
+        Check::AReportIsRepeated => a_report_is_repeated_holds(row),
+        Check::ARerunHasTheRetriesAgain => a_rerun_has_the_retries_again_holds(row),
+        Check::RunsAndRetriesAreAtMostFifty => runs_and_retries_are_at_most_fifty_holds(row),
+        Check::ARerunMayBeRefused => a_rerun_may_be_refused_holds(row),
+        Check::ATaskHasFiftyRuns => a_task_has_fifty_runs_holds(alloc, row),
+        Check::ATaskIsCanceledOnce => a_task_is_canceled_once_holds(row),
+        Check::AnUnscheduledTaskIsCanceled => an_unscheduled_task_is_canceled_holds(row),
+        Check::ACopyChangesAlone => a_copy_changes_alone_holds(alloc, row),
+    }
 }
 
 #[test]
-fn a_task_is_scheduled_once(rt: HostRuntime) -> Result<(), Fail> {
-    let mut row = new_row(rt.alloc(), PLAIN)?;
-    assert!(rt; a_task_is_scheduled_once_holds(&mut row));
-    Ok(())
+fn a_new_task_has_its_retries_and_no_run(rt: HostRuntime) {
+    assert!(rt;
+        holds(
+            rt.alloc(),
+            Begin::New,
+            ALL_RETRIES,
+            Check::ANewTaskHasItsRetriesAndNoRun
+        )
+    );
+}
+
+fn a_new_task_has_its_retries_and_no_run_holds(row: &mut TaskRow) -> bool {
+    row.id().text() == *b"AAAAAAAAQACAAAAAAAAAAA"
+        && row.definition().deadline == moment(DEADLINE)
+        && row.retries_left() == 49
+        && row.runs().is_empty()
+        && row.is_unscheduled()
+        && row.state() == None
+}
+
+#[test]
+fn a_task_is_scheduled_once(rt: HostRuntime) {
+    assert!(rt; holds(rt.alloc(), Begin::New, PLAIN, Check::ATaskIsScheduledOnce));
 }
 
 fn a_task_is_scheduled_once_holds(row: &mut TaskRow) -> bool {
@@ -166,10 +257,15 @@ fn a_task_is_scheduled_once_holds(row: &mut TaskRow) -> bool {
 }
 
 #[test]
-fn a_pending_task_exceeds_its_deadline_once(rt: HostRuntime) -> Result<(), Fail> {
-    let mut row = pending_row(rt.alloc(), PLAIN)?;
-    assert!(rt; a_pending_task_exceeds_its_deadline_once_holds(&mut row));
-    Ok(())
+fn a_pending_task_exceeds_its_deadline_once(rt: HostRuntime) {
+    assert!(rt;
+        holds(
+            rt.alloc(),
+            Begin::Pending,
+            PLAIN,
+            Check::APendingTaskExceedsItsDeadlineOnce
+        )
+    );
 }
 
 fn a_pending_task_exceeds_its_deadline_once_holds(row: &mut TaskRow) -> bool {
@@ -181,10 +277,15 @@ fn a_pending_task_exceeds_its_deadline_once_holds(row: &mut TaskRow) -> bool {
 }
 
 #[test]
-fn a_deadline_of_an_unscheduled_task_makes_a_run(rt: HostRuntime) -> Result<(), Fail> {
-    let mut row = new_row(rt.alloc(), PLAIN)?;
-    assert!(rt; a_deadline_of_an_unscheduled_task_makes_a_run_holds(&mut row));
-    Ok(())
+fn a_deadline_of_an_unscheduled_task_makes_a_run(rt: HostRuntime) {
+    assert!(rt;
+        holds(
+            rt.alloc(),
+            Begin::New,
+            PLAIN,
+            Check::ADeadlineOfAnUnscheduledTaskMakesARun
+        )
+    );
 }
 
 fn a_deadline_of_an_unscheduled_task_makes_a_run_holds(row: &mut TaskRow) -> bool {
@@ -195,10 +296,15 @@ fn a_deadline_of_an_unscheduled_task_makes_a_run_holds(row: &mut TaskRow) -> boo
 }
 
 #[test]
-fn a_pending_run_is_taken_once(rt: HostRuntime) -> Result<(), Fail> {
-    let mut row = running_row(rt.alloc(), PLAIN)?;
-    assert!(rt; a_pending_run_is_taken_once_holds(rt.alloc(), &mut row));
-    Ok(())
+fn a_pending_run_is_taken_once(rt: HostRuntime) {
+    assert!(rt;
+        holds(
+            rt.alloc(),
+            Begin::Running,
+            PLAIN,
+            Check::APendingRunIsTakenOnce
+        )
+    );
 }
 
 fn a_pending_run_is_taken_once_holds(alloc: Global, row: &mut TaskRow) -> bool {
@@ -211,10 +317,15 @@ fn a_pending_run_is_taken_once_holds(alloc: Global, row: &mut TaskRow) -> bool {
 
 /// Taken at 00:00:10.000, kept until 00:40:09.999: it falls due at that very moment, and run 1 follows.
 #[test]
-fn a_claim_falls_due_at_its_end(rt: HostRuntime) -> Result<(), Fail> {
-    let mut row = running_row(rt.alloc(), PLAIN)?;
-    assert!(rt; a_claim_falls_due_at_its_end_holds(&mut row));
-    Ok(())
+fn a_claim_falls_due_at_its_end(rt: HostRuntime) {
+    assert!(rt;
+        holds(
+            rt.alloc(),
+            Begin::Running,
+            PLAIN,
+            Check::AClaimFallsDueAtItsEnd
+        )
+    );
 }
 
 fn a_claim_falls_due_at_its_end_holds(row: &mut TaskRow) -> bool {
@@ -231,10 +342,15 @@ fn a_claim_falls_due_at_its_end_holds(row: &mut TaskRow) -> bool {
 }
 
 #[test]
-fn a_report_after_the_end_of_the_claim_is_refused(rt: HostRuntime) -> Result<(), Fail> {
-    let mut row = running_row(rt.alloc(), PLAIN)?;
-    assert!(rt; a_report_after_the_end_of_the_claim_is_refused_holds(&mut row));
-    Ok(())
+fn a_report_after_the_end_of_the_claim_is_refused(rt: HostRuntime) {
+    assert!(rt;
+        holds(
+            rt.alloc(),
+            Begin::Running,
+            PLAIN,
+            Check::AReportAfterTheEndOfTheClaimIsRefused
+        )
+    );
 }
 
 fn a_report_after_the_end_of_the_claim_is_refused_holds(row: &mut TaskRow) -> bool {
@@ -246,10 +362,15 @@ fn a_report_after_the_end_of_the_claim_is_refused_holds(row: &mut TaskRow) -> bo
 }
 
 #[test]
-fn a_claim_falls_due_without_a_retry(rt: HostRuntime) -> Result<(), Fail> {
-    let mut row = running_row(rt.alloc(), NO_RETRY)?;
-    assert!(rt; a_claim_falls_due_without_a_retry_holds(&mut row));
-    Ok(())
+fn a_claim_falls_due_without_a_retry(rt: HostRuntime) {
+    assert!(rt;
+        holds(
+            rt.alloc(),
+            Begin::Running,
+            NO_RETRY,
+            Check::AClaimFallsDueWithoutARetry
+        )
+    );
 }
 
 fn a_claim_falls_due_without_a_retry_holds(row: &mut TaskRow) -> bool {
@@ -260,10 +381,15 @@ fn a_claim_falls_due_without_a_retry_holds(row: &mut TaskRow) -> bool {
 
 /// The deadline at the end of the claim comes first, and uses no retry.
 #[test]
-fn a_deadline_at_the_end_of_a_claim_uses_no_retry(rt: HostRuntime) -> Result<(), Fail> {
-    let mut row = running_row(rt.alloc(), PLAIN)?;
-    assert!(rt; a_deadline_at_the_end_of_a_claim_uses_no_retry_holds(&mut row));
-    Ok(())
+fn a_deadline_at_the_end_of_a_claim_uses_no_retry(rt: HostRuntime) {
+    assert!(rt;
+        holds(
+            rt.alloc(),
+            Begin::Running,
+            PLAIN,
+            Check::ADeadlineAtTheEndOfAClaimUsesNoRetry
+        )
+    );
 }
 
 fn a_deadline_at_the_end_of_a_claim_uses_no_retry_holds(row: &mut TaskRow) -> bool {
@@ -276,10 +402,15 @@ fn a_deadline_at_the_end_of_a_claim_uses_no_retry_holds(row: &mut TaskRow) -> bo
 
 /// With one retry, the first intermittent fault is followed by a new run, and the second is not.
 #[test]
-fn an_intermittent_fault_uses_a_retry(rt: HostRuntime) -> Result<(), Fail> {
-    let mut row = running_row(rt.alloc(), ONE_RETRY)?;
-    assert!(rt; an_intermittent_fault_uses_a_retry_holds(rt.alloc(), &mut row));
-    Ok(())
+fn an_intermittent_fault_uses_a_retry(rt: HostRuntime) {
+    assert!(rt;
+        holds(
+            rt.alloc(),
+            Begin::Running,
+            ONE_RETRY,
+            Check::AnIntermittentFaultUsesARetry
+        )
+    );
 }
 
 fn an_intermittent_fault_uses_a_retry_holds(alloc: Global, row: &mut TaskRow) -> bool {
@@ -308,10 +439,15 @@ fn ends(
 }
 
 #[test]
-fn most_reports_end_the_task(rt: HostRuntime) -> Result<(), Fail> {
-    let mut row = running_row(rt.alloc(), PLAIN)?;
-    assert!(rt; most_reports_end_the_task_holds(rt.alloc(), &mut row));
-    Ok(())
+fn most_reports_end_the_task(rt: HostRuntime) {
+    assert!(rt;
+        holds(
+            rt.alloc(),
+            Begin::Running,
+            PLAIN,
+            Check::MostReportsEndTheTask
+        )
+    );
 }
 
 fn most_reports_end_the_task_holds(alloc: Global, row: &mut TaskRow) -> bool {
@@ -339,10 +475,15 @@ fn reasons_and_states_have_names(rt: HostRuntime) {
 }
 
 #[test]
-fn a_shutdown_is_followed_by_a_run(rt: HostRuntime) -> Result<(), Fail> {
-    let mut row = running_row(rt.alloc(), PLAIN)?;
-    assert!(rt; a_shutdown_is_followed_by_a_run_holds(&mut row));
-    Ok(())
+fn a_shutdown_is_followed_by_a_run(rt: HostRuntime) {
+    assert!(rt;
+        holds(
+            rt.alloc(),
+            Begin::Running,
+            PLAIN,
+            Check::AShutdownIsFollowedByARun
+        )
+    );
 }
 
 fn a_shutdown_is_followed_by_a_run_holds(row: &mut TaskRow) -> bool {
@@ -353,10 +494,15 @@ fn a_shutdown_is_followed_by_a_run_holds(row: &mut TaskRow) -> bool {
 }
 
 #[test]
-fn a_report_of_a_run_that_is_not_running_is_refused(rt: HostRuntime) -> Result<(), Fail> {
-    let mut row = pending_row(rt.alloc(), PLAIN)?;
-    assert!(rt; a_report_of_a_run_that_is_not_running_is_refused_holds(&mut row));
-    Ok(())
+fn a_report_of_a_run_that_is_not_running_is_refused(rt: HostRuntime) {
+    assert!(rt;
+        holds(
+            rt.alloc(),
+            Begin::Pending,
+            PLAIN,
+            Check::AReportOfARunThatIsNotRunningIsRefused
+        )
+    );
 }
 
 fn a_report_of_a_run_that_is_not_running_is_refused_holds(row: &mut TaskRow) -> bool {
@@ -370,10 +516,8 @@ fn a_report_of_a_run_that_is_not_running_is_refused_holds(row: &mut TaskRow) -> 
 
 /// A repeated report stays as it was, also where the run is no longer the last; another report is refused.
 #[test]
-fn a_report_is_repeated(rt: HostRuntime) -> Result<(), Fail> {
-    let mut row = running_row(rt.alloc(), PLAIN)?;
-    assert!(rt; a_report_is_repeated_holds(&mut row));
-    Ok(())
+fn a_report_is_repeated(rt: HostRuntime) {
+    assert!(rt; holds(rt.alloc(), Begin::Running, PLAIN, Check::AReportIsRepeated));
 }
 
 fn a_report_is_repeated_holds(row: &mut TaskRow) -> bool {
@@ -390,10 +534,15 @@ fn a_report_is_repeated_holds(row: &mut TaskRow) -> bool {
 
 /// Run 0 uses up a retry; the rerun gives the task its retries again.
 #[test]
-fn a_rerun_has_the_retries_again(rt: HostRuntime) -> Result<(), Fail> {
-    let mut row = running_row(rt.alloc(), PLAIN)?;
-    assert!(rt; a_rerun_has_the_retries_again_holds(&mut row));
-    Ok(())
+fn a_rerun_has_the_retries_again(rt: HostRuntime) {
+    assert!(rt;
+        holds(
+            rt.alloc(),
+            Begin::Running,
+            PLAIN,
+            Check::ARerunHasTheRetriesAgain
+        )
+    );
 }
 
 fn a_rerun_has_the_retries_again_holds(row: &mut TaskRow) -> bool {
@@ -405,10 +554,15 @@ fn a_rerun_has_the_retries_again_holds(row: &mut TaskRow) -> bool {
 
 /// Of 49 retries 48 are left beside two runs.
 #[test]
-fn runs_and_retries_are_at_most_fifty(rt: HostRuntime) -> Result<(), Fail> {
-    let mut row = pending_row(rt.alloc(), ALL_RETRIES)?;
-    assert!(rt; runs_and_retries_are_at_most_fifty_holds(&mut row));
-    Ok(())
+fn runs_and_retries_are_at_most_fifty(rt: HostRuntime) {
+    assert!(rt;
+        holds(
+            rt.alloc(),
+            Begin::Pending,
+            ALL_RETRIES,
+            Check::RunsAndRetriesAreAtMostFifty
+        )
+    );
 }
 
 fn runs_and_retries_are_at_most_fifty_holds(row: &mut TaskRow) -> bool {
@@ -419,10 +573,8 @@ fn runs_and_retries_are_at_most_fifty_holds(row: &mut TaskRow) -> bool {
 }
 
 #[test]
-fn a_rerun_may_be_refused(rt: HostRuntime) -> Result<(), Fail> {
-    let mut row = new_row(rt.alloc(), PLAIN)?;
-    assert!(rt; a_rerun_may_be_refused_holds(&mut row));
-    Ok(())
+fn a_rerun_may_be_refused(rt: HostRuntime) {
+    assert!(rt; holds(rt.alloc(), Begin::New, PLAIN, Check::ARerunMayBeRefused));
 }
 
 fn a_rerun_may_be_refused_holds(row: &mut TaskRow) -> bool {
@@ -444,10 +596,15 @@ fn fails_again(alloc: Global, row: &mut TaskRow, round: u8) -> bool {
 }
 
 #[test]
-fn a_task_has_fifty_runs(rt: HostRuntime) -> Result<(), Fail> {
-    let mut row = pending_row(rt.alloc(), NO_RETRY)?;
-    assert!(rt; a_task_has_fifty_runs_holds(rt.alloc(), &mut row));
-    Ok(())
+fn a_task_has_fifty_runs(rt: HostRuntime) {
+    assert!(rt;
+        holds(
+            rt.alloc(),
+            Begin::Pending,
+            NO_RETRY,
+            Check::ATaskHasFiftyRuns
+        )
+    );
 }
 
 fn a_task_has_fifty_runs_holds(alloc: Global, row: &mut TaskRow) -> bool {
@@ -463,10 +620,15 @@ fn a_task_has_fifty_runs_holds(alloc: Global, row: &mut TaskRow) -> bool {
 }
 
 #[test]
-fn a_task_is_canceled_once(rt: HostRuntime) -> Result<(), Fail> {
-    let mut row = running_row(rt.alloc(), PLAIN)?;
-    assert!(rt; a_task_is_canceled_once_holds(&mut row));
-    Ok(())
+fn a_task_is_canceled_once(rt: HostRuntime) {
+    assert!(rt;
+        holds(
+            rt.alloc(),
+            Begin::Running,
+            PLAIN,
+            Check::ATaskIsCanceledOnce
+        )
+    );
 }
 
 fn a_task_is_canceled_once_holds(row: &mut TaskRow) -> bool {
@@ -479,10 +641,15 @@ fn a_task_is_canceled_once_holds(row: &mut TaskRow) -> bool {
 }
 
 #[test]
-fn an_unscheduled_task_is_canceled(rt: HostRuntime) -> Result<(), Fail> {
-    let mut row = new_row(rt.alloc(), PLAIN)?;
-    assert!(rt; an_unscheduled_task_is_canceled_holds(&mut row));
-    Ok(())
+fn an_unscheduled_task_is_canceled(rt: HostRuntime) {
+    assert!(rt;
+        holds(
+            rt.alloc(),
+            Begin::New,
+            PLAIN,
+            Check::AnUnscheduledTaskIsCanceled
+        )
+    );
 }
 
 fn an_unscheduled_task_is_canceled_holds(row: &mut TaskRow) -> bool {
@@ -490,4 +657,25 @@ fn an_unscheduled_task_is_canceled_holds(row: &mut TaskRow) -> bool {
     row.cancel(moment(TAKEN))
         && is_run(row, 0, ReasonCreated::Exception, TAKEN, None, end)
         && stands(row, RunState::Exception, 1, 5)
+}
+
+/// A copy is canceled, and the row that it was made of stays.
+#[test]
+fn a_copy_changes_alone(rt: HostRuntime) {
+    assert!(rt; holds(rt.alloc(), Begin::Running, PLAIN, Check::ACopyChangesAlone));
+}
+
+fn a_copy_changes_alone_holds(alloc: Global, row: &mut TaskRow) -> bool {
+    match row.copy(alloc) {
+        Ok(mut copy) => canceled_alone(row, &mut copy),
+        Err(_) => false,
+    }
+}
+
+fn canceled_alone(row: &TaskRow, copy: &mut TaskRow) -> bool {
+    is_taken(copy, 0, TAKEN_UNTIL)
+        && copy.cancel(moment(TAKEN + 5))
+        && copy.definition().deadline == moment(DEADLINE)
+        && stands(copy, RunState::Exception, 1, 5)
+        && stands(row, RunState::Running, 1, 5)
 }

@@ -3,7 +3,9 @@ use Rattle.std.specs.Prelude.{ℕ, suc, pos, List, [], ◌∷◌, ◌++◌, code
 use Rattle.task_statuses.specs.Calendar.{moment_text}
 use Rattle.farm_text.specs.Document.{Document, whole, text, array, object, Items, no_items, item, members_of}
 use Rattle.farm_text.specs.Slug.{slug_text}
+use Rattle.task_defs.specs.Definitions.{full_form}
 use Rattle.task_defs.specs.Forms.{queue_name}
+use Rattle.task_defs.specs.declared.task_def.TaskDef.{TaskDef}
 use Rattle.run_states.specs.Rows.{Row, row_state}
 use Rattle.run_states.specs.Runs.{run_state}
 use Rattle.run_states.specs.Reasons.{state_name, created_name, resolved_name}
@@ -43,6 +45,10 @@ run_doc number run =
 abbrev pub runs_from : ℕ → List Run → Items
 runs_from number [] = no_items
 runs_from number (run ∷ runs) = item (run_doc number run) (runs_from (suc number) runs)
+
+-- the definition of a task in full form
+abbrev pub definition_of : TaskDef → Document
+definition_of def = full_form def (moment_text def.created) (moment_text def.deadline) (moment_text def.expires)
 
 -- the status of a task
 abbrev pub status_of : Row → Document

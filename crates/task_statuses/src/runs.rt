@@ -11,7 +11,7 @@ use run_states::{Claim, Outcome, Run};
 use std::alloc::{AllocError, Global};
 
 /// A moment as a document.
-pub(crate) fn moment_doc(alloc: Global, moment: Moment) -> Result<Doc, AllocError>
+pub fn moment_doc(alloc: Global, moment: Moment) -> Result<Doc, AllocError>
     ensures { IfOk result (λ d. document d ≡ statuses.moment_doc moment) }
 {
     // Each moment lies where the calendar has years of four digits.

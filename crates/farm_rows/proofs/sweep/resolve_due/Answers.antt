@@ -8,6 +8,7 @@ use Rattle.farm_rows.specs.Sweep.{swept, lost, numbered, all_turns, runs_made, f
 use Rattle.farm_rows.proofs.ClaimLemmas.{round-is, rounds-end, pass-fixed}
 use Rattle.farm_rows.proofs.FitLemmas.{lost-fits, lost-more, change-fits, change-made, swept-all, swept-made, made-few, draws-few}
 use Rattle.farm_rows.proofs.SweepLemmas.{pass-same}
+use Rattle.farm_rows.proofs.ShownLemmas.{all-own}
 use Rattle.farm_rows.proofs.sweep.resolve_due.Goals as goal
 
 pub claims-init : goal.claims-init
@@ -61,3 +62,8 @@ claims-preserved c =
 
 pub returns-clause-turns : goal.returns-clause-turns
 returns-clause-turns c = sym c.claims.invariant.turns ∙ rounds-end c.args.moment c.claims.next c.claims.rows c.claims.invariant.fixed (sym c.in_default.ensures)
+
+pub returns-clause-own : goal.returns-clause-own
+returns-clause-own c =
+    let turns = sym c.claims.invariant.turns ∙ rounds-end c.args.moment c.claims.next c.claims.rows c.claims.invariant.fixed (sym c.in_default.ensures) in
+    λ own. all-own (numbered c.args.rows.now c.args.first) (numbered c.claims.rows c.claims.next) c.args.moment turns own
