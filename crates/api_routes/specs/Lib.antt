@@ -1,8 +1,4 @@
 pub mod Bodies
 pub mod Parts
-pub mod Pieces
-pub mod Posts
 pub mod ReplyText
 pub mod Routes
-pub mod Said
-pub mod Segments

@@ -3,8 +3,6 @@
 
 mod bodies;
 mod head;
-mod paths;
-mod posts;
 mod routes;
 mod wire_replies;
 
