@@ -5,7 +5,8 @@ use Rattle.std.specs.Str.{bytes_eq}
 use Rattle.http_wire.specs.declared.message.Message.{Message}
 use Rattle.farm_machine.specs.declared.question.Call.{Call}
 use Rattle.farm_machine.specs.declared.question.Call.TheVariants.{NoRoute}
-use Rattle.api_routes.specs.Routes.{path_of, parameters_in, parts_of, status_route, route_name, get_call, IsPutCall, IsCallOf}
+use Rattle.api_routes.specs.Routes.{path_of, status_route, get_call, IsPutCall, IsCallOf}
+use Rattle.api_routes.specs.Segments.{parameters_in, parts_of, route_name}
 use Rattle.api_routes.proofs.PathLemmas.{ping, no_ping}
 
 -- a result that may be one call may be an equal one

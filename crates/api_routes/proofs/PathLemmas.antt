@@ -15,7 +15,8 @@ use Rattle.std.proofs.lemmas.Str.{IsUtf8-from_ascii}
 use Rattle.std.proofs.lemmas.Slice.Eq.{bytes_eq-Decides}
 use Rattle.scope_sets.specs.Scopes.{IsPrintable}
 use Rattle.api_routes.specs.Parts.{is_part}
-use Rattle.api_routes.specs.Routes.{Segment, word, parameter, parameters_in, parts_of, ping_route, status_route, create_route, is_printable, route_name}
+use Rattle.api_routes.specs.Routes.{ping_route, status_route, create_route}
+use Rattle.api_routes.specs.Segments.{Segment, word, parameter, parameters_in, parts_of, is_printable, route_name}
 
 -- a slash
 abbrev pub is_slash : ℕ → Bool

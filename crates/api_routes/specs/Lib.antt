@@ -1,4 +1,8 @@
 pub mod Bodies
 pub mod Parts
+pub mod Pieces
+pub mod Posts
 pub mod ReplyText
 pub mod Routes
+pub mod Said
+pub mod Segments

@@ -3,6 +3,8 @@
 
 mod bodies;
 mod head;
+mod paths;
+mod posts;
 mod routes;
 mod wire_replies;
 

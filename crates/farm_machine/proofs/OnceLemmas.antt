@@ -45,7 +45,7 @@ entry-stays state (tick moment) = advance-stays state.contents moment
 entry-stays state (call asking out_of_memory) = RowsLater-refl state.contents.rows
 entry-stays state (call asking (finished judgement)) = changed-stays state.contents (moment_of state.contents asking) judgement.change
 
-entries-stay : (state : State) (entries : List Entry) → RowsLater state.contents.rows (end_state farm_rules state entries).contents.rows
+pub entries-stay : (state : State) (entries : List Entry) → RowsLater state.contents.rows (end_state farm_rules state entries).contents.rows
 unfolding farm_rules
 entries-stay state [] = RowsLater-refl state.contents.rows
 entries-stay state (entry ∷ rest) = RowsLater-trans _ _ _ (entry-stays state entry) (entries-stay (after state entry) rest)

@@ -23,6 +23,7 @@ use std::test::Fail;
 
 mod clients;
 mod tasks;
+mod work;
 
 const PING: &[u8] = b"GET /api/queue/v1/ping HTTP/1.1\r\n\r\n";
 
