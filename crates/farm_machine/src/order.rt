@@ -20,7 +20,7 @@ use crate::judged::Judged;
 use crate::question::Caller;
 use crate::reply::Answer;
 use crate::tables::Tables;
-use crate::works::{Telling, telling, told};
+use crate::works::{Telling, telling_of, told};
 use farm_record::{Change, Kind};
 use farm_rows::TaskPlan;
 use farm_text::{Moment, SlugId};
@@ -151,7 +151,7 @@ fn plan_change(alloc: Global, tables: &mut Tables, change: Change) -> Result<Jud
     ensures made { IfOk result (IsPlannedSo tables.old change) }
     ensures same { tables.new ≡ tables.old }
 {
-    let telling = telling(&change.kind);
+    let telling = telling_of(&change.kind);
     let Some(plan) = tables.plan(alloc, change)? else {
         unreachable!();
     };

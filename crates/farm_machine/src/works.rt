@@ -29,7 +29,7 @@ pub(crate) enum Telling {
 }
 
 /// What is told of a change of this kind.
-pub(crate) fn telling(kind: &Kind) -> Telling
+pub(crate) fn telling_of(kind: &Kind) -> Telling
     ensures { (rows : List Row) → told_by result rows ≡ works.told_of kind.now rows }
 {
     match kind {

@@ -72,8 +72,8 @@ fn add(
 ) -> Result<(), AllocError>
     ensures { OnOk result (found.new.items ≡ found.old.items ++ option_to_list (row_with id rows.now)) }
 {
-    match row_with(rows, id) {
-        Some(row) => found.push(row.copy(alloc)?),
-        None => Ok(()),
+    if let Some(row) = row_with(rows, id) {
+        found.push(row.copy(alloc)?)?;
     }
+    Ok(())
 }
