@@ -1,8 +1,5 @@
 -- The laws of advances.
-use Rattle.std.proofs.Common.{◌≡◌, ℕ, ◌≤◌, max, false, List, map, Option, Some, None, refl, ap, sym, ◌∙◌, arith}
-use Rattle.std.specs.List.{IsDistinct}
-use Rattle.std.specs.Prelude.{bytes_eq}
-use Rattle.run_states.specs.Rows.{Row}
+use Rattle.std.proofs.Common.{◌≡◌, ℕ, ◌≤◌, max, false, map, Some, refl, ap, sym, ◌∙◌, arith}
 use Rattle.run_states.specs.Later.{RowsLater}
 use Rattle.farm_rows.specs.Contents.{Contents, HaveOwnIds}
 use Rattle.farm_rows.specs.Due.{is_due, first_due, resolved_at, advance}

@@ -1,5 +1,5 @@
 -- A change of the tasks that stand: what it leaves, and what the tables keep.
-use Rattle.std.proofs.Common.{◌≡◌, ℕ, ◌+◌, ◌≤◌, Bool, true, false, not, ◌&&◌, List, [], ◌∷◌, map, length, find, bytes_eq, Option, Some, None, refl, ap, sym, ◌∙◌, subst, arith, nat_le}
+use Rattle.std.proofs.Common.{◌≡◌, ℕ, ◌+◌, ◌≤◌, Bool, true, false, not, ◌&&◌, List, [], ◌∷◌, map, length, bytes_eq, Option, Some, None, refl, ap, sym, ◌∙◌, subst, arith, nat_le}
 use Rattle.std.specs.List.{list_all, IsDistinct}
 use Rattle.std.specs.Option.{option_map_or}
 use Rattle.std.proofs.lemmas.Bool.{leb-true, and_parts}
@@ -9,13 +9,12 @@ use Rattle.run_states.specs.declared.reasons.ReasonResolved.TheVariants.{Cancele
 use Rattle.run_states.specs.declared.run.Claim.{Claim as RunClaim}
 use Rattle.run_states.specs.Rows.{Row, is_running_at}
 use Rattle.run_states.specs.Moves.{may_rerun, run_again, canceled, claimed, reclaimed, resolved}
-use Rattle.farm_record.specs.declared.change.Change.{Change}
 use Rattle.farm_record.specs.declared.change.RunName.{RunName}
 use Rattle.farm_rows.specs.declared.plan.Deed.{Deed}
 use Rattle.farm_rows.specs.declared.plan.Deed.TheVariants.{Create, Rerun, Cancel, Claim as TakesRuns, Reclaim, Resolve}
 use Rattle.farm_rows.specs.Contents.{Contents, row_with}
-use Rattle.farm_rows.specs.Due.{is_due, change_first, draws}
-use Rattle.farm_rows.specs.Changes.{on_row, may_keep, may_be, may_apply, has_id, change_row, reason_of, claim_of, all_claimed, applied}
+use Rattle.farm_rows.specs.Due.{is_due, draws}
+use Rattle.farm_rows.specs.Changes.{on_row, may_be, may_apply, has_id, change_row, reason_of, claim_of, all_claimed, applied}
 use Rattle.farm_rows.specs.Deeds.{kind_of, change_of, row_of, rows_after, drawn_by}
 use Rattle.farm_rows.specs.Plans.{room_for}
 use Rattle.farm_rows.specs.Sweep.{soonest_of, runs_made, fits, IsKept}

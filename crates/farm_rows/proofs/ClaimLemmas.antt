@@ -1,6 +1,6 @@
 -- Claims that end, one by one, where each deadline that came before is resolved.
-use Rattle.std.proofs.Common.{◌≡◌, ℕ, zero, suc, ◌+◌, ◌≤◌, ◌<◌, Bool, true, false, not, ◌&&◌, ◌||◌, cond, List, [], ◌∷◌, ◌++◌, map, length, filter, find, min, Option, Some, None, refl, ap, sym, ◌∙◌, arith, nat_le, nat_lt, ◌==◌}
-use Rattle.std.specs.List.{list_any, list_all, reduce, flat_map}
+use Rattle.std.proofs.Common.{◌≡◌, ℕ, ◌+◌, ◌≤◌, ◌<◌, Bool, true, false, not, ◌&&◌, ◌||◌, cond, List, [], ◌∷◌, map, length, filter, find, min, Option, Some, None, refl, ap, sym, ◌∙◌, arith, nat_le, ◌==◌}
+use Rattle.std.specs.List.{list_any, list_all, reduce}
 use Rattle.std.specs.Option.{option_map_or, option_to_list}
 use Rattle.std.proofs.lemmas.Bool.{leb-true, leb-false, le-leb, lt-leb, ltb-true, eqb-true, and_parts, and_from}
 use Rattle.std.proofs.lemmas.List.Folds.{list_any-append, list_all-append}
@@ -8,13 +8,13 @@ use Rattle.run_states.specs.declared.reasons.ReasonResolved.TheVariants.{ClaimEx
 use Rattle.run_states.specs.Rows.{Row, is_resolved, claim_due, loses_claim, exceeded, due_moments}
 use Rattle.run_states.specs.Moves.{expired}
 use Rattle.run_states.proofs.LaterLemmas.{exceeded-resolved}
-use Rattle.run_states.proofs.ClaimLemmas.{resolved-claim, resolved-due, open-due}
+use Rattle.run_states.proofs.ClaimLemmas.{resolved-due, open-due}
 use Rattle.farm_rows.specs.Contents.{Contents}
-use Rattle.farm_rows.specs.Due.{all_due_moments, is_due, first_due, meets_deadline, change_first, draws, resolved_at}
+use Rattle.farm_rows.specs.Due.{all_due_moments, meets_deadline, change_first, draws}
 use Rattle.farm_rows.specs.Sweep.{ends_before, comes_due, swept, lost, claim_ends, first_lost, numbered, all_turns}
 use Rattle.farm_rows.proofs.LeastLemmas.{first-some, first-is, first-none, least-is, reduce-all, reduce-any}
 use Rattle.farm_rows.proofs.DueLemmas.{any_none, from, rows-from, lost-due, loses-turn}
-use Rattle.farm_rows.proofs.TurnLemmas.{claim-resolved, idle-first, step-fewer, all-step, all-idle}
+use Rattle.farm_rows.proofs.TurnLemmas.{claim-resolved, idle-first, all-step, all-idle}
 use Rattle.farm_rows.proofs.SweepLemmas.{swept-twice, all-fewer, pass-same}
 
 -- ---- one task that a pass leaves as it is

@@ -3,6 +3,7 @@ use Rattle.std.proofs.Common.{◌≡◌, ℕ, Bool, true, false, not, ◌&&◌, 
 use Rattle.std.specs.List.{list_all, AllByRecursion, IsDistinct, fold, last_or, reduce}
 use Rattle.std.specs.Option.{option_map_or, option_to_list}
 use Rattle.std.proofs.lemmas.Bool.{and_parts, eqb-false}
+use Rattle.std.proofs.lemmas.Map.Keys.{IsDistinct-head, IsDistinct-tail}
 use Rattle.std.proofs.lemmas.Slice.Eq.{bytes_eq-Decides}
 use Rattle.task_defs.specs.declared.names.TaskQueue.{TaskQueue}
 use Rattle.run_states.specs.declared.run.Claim.{Claim}
@@ -33,7 +34,7 @@ all-own before after moment turns own =
 
 -- ---- a change of one task
 
-Keeps : (Row → Row) → Type 0
+abbrev Keeps : (Row → Row) → Type 0
 Keeps f = (row : Row) → (f row).id ≡ row.id
 
 -- the task with an id, once it was changed
@@ -43,8 +44,8 @@ one-found id f keeps (row ∷ rows) = by (one-found id f keeps rows) (bytes_eq r
   by : change_row id f (rows_with (id ∷ []) rows) ≡ rows_with (id ∷ []) (change_row id f rows) → (b : Bool) → bytes_eq row.id id ≡ b → change_row id f (rows_with (id ∷ []) (row ∷ rows)) ≡ rows_with (id ∷ []) (change_row id f (row ∷ rows))
   by rest true is =
       let later : bytes_eq (f row).id id ≡ true = ap (λ i. bytes_eq i id) (keeps row) ∙ is in
-      rw (is, later) refl
-  by rest false is = rw is rest
+      rw (is, is, later) refl
+  by rest false is = rw (is, is) rest
 
 -- ---- changes of others
 
@@ -65,10 +66,10 @@ other-found id other f keeps no_ (row ∷ rows) = by (other-found id other f kee
   by rest false is false too = rw (is, too) rest
 
 -- none of these runs is of the task with this id
-others : List ℕ → List RunName → Bool
+abbrev pub others : List ℕ → List RunName → Bool
 others id names = list_all (λ name. not (bytes_eq name.id id)) names
 
-ids : List RunName → List (List ℕ)
+abbrev ids : List RunName → List (List ℕ)
 ids names = map (λ name. name.id) names
 
 not_false : (b : Bool) → not b ≡ true → b ≡ false
@@ -143,46 +144,49 @@ none-changed id f (row ∷ rows) is = by (none-changed id f rows) (bytes_eq row.
 -- none of the tasks of other runs has the id
 none-with : (id : List ℕ) (names : List RunName) (rows : List Row) → others id names ≡ true → row_with id (rows_with (ids names) rows) ≡ None
 none-with id [] rows all = refl
-none-with id (name ∷ names) rows all = by (row_with name.id rows) refl where
+none-with id (name ∷ names) rows all = by (none-with id names rows) (row_with name.id rows) refl where
   parts : (not (bytes_eq name.id id) ≡ true) × (others id names ≡ true)
   parts = and_parts (not (bytes_eq name.id id)) (others id names) all
 
-  by : (o : Option Row) → row_with name.id rows ≡ o → row_with id (rows_with (ids (name ∷ names)) rows) ≡ None
-  by None is = rw is (none-with id names rows parts.1)
-  by (Some r) is =
+  by : (others id names ≡ true → row_with id (rows_with (ids names) rows) ≡ None) → (o : Option Row) → row_with name.id rows ≡ o → row_with id (rows_with (ids (name ∷ names)) rows) ≡ None
+  by rest None is = rw is (rest parts.1)
+  by rest (Some r) is =
       let same : r.id ≡ name.id = (bytes_eq-Decides r.id name.id).0 (found-id name.id rows r is) in
       let no_ : bytes_eq r.id id ≡ false = ap (λ i. bytes_eq i id) same ∙ not_false (bytes_eq name.id id) parts.0 in
-      rw (is, no_) (none-with id names rows parts.1)
+      rw (is, no_) (rest parts.1)
 
 -- no two of the runs are of one task
-AreOther : List RunName → Type 0
+abbrev pub AreOther : List RunName → Type 0
 AreOther [] = Unit {0}
 AreOther (name ∷ names) = (others name.id names ≡ true) × AreOther names
 
 all-shown : (claim : Claim) (names : List RunName) → AreOther names → (rows : List Row) → all_claimed claim names (rows_with (ids names) rows) ≡ rows_with (ids names) (all_claimed claim names rows)
 all-shown claim [] other rows = refl
-all-shown claim (name ∷ names) other rows = by (row_with name.id rows) refl where
+all-shown claim (name ∷ names) other rows = by (all-shown claim names other.1) (row_with name.id rows) refl where
   f : Row → Row
   f = claimed claim
 
   next : List Row
   next = change_row name.id f rows
 
-  by : (o : Option Row) → row_with name.id rows ≡ o → all_claimed claim (name ∷ names) (rows_with (ids (name ∷ names)) rows) ≡ rows_with (ids (name ∷ names)) (all_claimed claim (name ∷ names) rows)
-  by None is =
+  by : ((rs : List Row) → all_claimed claim names (rows_with (ids names) rs) ≡ rows_with (ids names) (all_claimed claim names rs)) → (o : Option Row) → row_with name.id rows ≡ o → all_claimed claim (name ∷ names) (rows_with (ids (name ∷ names)) rows) ≡ rows_with (ids (name ∷ names)) (all_claimed claim (name ∷ names) rows)
+  by shown None is =
       let stays : change_row name.id f (rows_with (ids names) rows) ≡ rows_with (ids names) rows = none-changed name.id f (rows_with (ids names) rows) (none-with name.id names rows other.0) in
       let same : next ≡ rows = none-changed name.id f rows is in
       let none : row_with name.id (all_claimed claim names rows) ≡ None = found-other claim name.id names other.0 rows ∙ is in
-      rw (is, stays, same, none) (all-shown claim names other.1 rows)
-  by (Some r) is =
+      let left : all_claimed claim (name ∷ names) (rows_with (ids (name ∷ names)) rows) ≡ all_claimed claim names (rows_with (ids names) rows) = rw (is, stays) refl in
+      let right : rows_with (ids (name ∷ names)) (all_claimed claim names rows) ≡ rows_with (ids names) (all_claimed claim names rows) = rw none refl in
+      left ∙ (shown rows ∙ (sym right ∙ ap (λ (rs : List Row). rows_with (ids (name ∷ names)) (all_claimed claim names rs)) (sym same)))
+  by shown (Some r) is =
       let here : bytes_eq r.id name.id ≡ true = found-id name.id rows r is in
       let id_is : (f r).id ≡ name.id = keeps-claimed claim r ∙ (bytes_eq-Decides r.id name.id).0 here in
       let apart : others (f r).id names ≡ true = ap (λ i. others i names) id_is ∙ other.0 in
       let front : all_claimed claim names (f r ∷ rows_with (ids names) rows) ≡ f r ∷ all_claimed claim names (rows_with (ids names) rows) = head-stays claim names (f r) apart (rows_with (ids names) rows) in
       let first : row_with name.id (all_claimed claim names next) ≡ Some (f r) = found-other claim name.id names other.0 next ∙ changed-found name.id f (keeps-claimed claim) rows r is in
       let rest : rows_with (ids names) (all_claimed claim names next) ≡ all_claimed claim names (rows_with (ids names) rows) =
-      sym (all-shown claim names other.1 next) ∙ ap (all_claimed claim names) (others-found name.id f (keeps-claimed claim) names other.0 rows) in
-      rw (is, here) (front ∙ sym (rw (first, rest) refl))
+      sym (shown next) ∙ ap (all_claimed claim names) (others-found name.id f (keeps-claimed claim) names other.0 rows) in
+      let back : rows_with (ids (name ∷ names)) (all_claimed claim names next) ≡ f r ∷ rows_with (ids names) (all_claimed claim names next) = rw first refl in
+      rw (is, here) (front ∙ (ap (λ (rs : List Row). f r ∷ rs) (sym rest) ∙ sym back))
 
 -- ---- picks are of different tasks
 
@@ -208,22 +212,22 @@ each-filter P test (row ∷ rows) all = by (each-filter P test rows all.1) (test
 pub pick-one : (P : Row → Type 0) (queue : TaskQueue) (rows : List Row) (r : Row) → AllByRecursion P rows → pick queue rows ≡ Some r → (waits_in queue r ≡ true) × P r
 pick-one P queue rows r all is = reduce-one (λ row. (waits_in queue row ≡ true) × P row) (filter (waits_in queue) rows) r (each-filter P (waits_in queue) rows all) is
 
-Apart : List ℕ → Row → Type 0
+abbrev Apart : List ℕ → Row → Type 0
 Apart id row = bytes_eq row.id id ≡ false
 
 apart-without : (id : List ℕ) (rows : List Row) → AllByRecursion (Apart id) (without id rows)
 apart-without id [] = tt
-apart-without id (row ∷ rows) = by (bytes_eq row.id id) refl where
-  by : (b : Bool) → bytes_eq row.id id ≡ b → AllByRecursion (Apart id) (without id (row ∷ rows))
-  by true is = rw is (apart-without id rows)
-  by false is = rw is (is, apart-without id rows)
+apart-without id (row ∷ rows) = by (apart-without id rows) (bytes_eq row.id id) refl where
+  by : AllByRecursion (Apart id) (without id rows) → (b : Bool) → bytes_eq row.id id ≡ b → AllByRecursion (Apart id) (without id (row ∷ rows))
+  by rest true is = rw is rest
+  by rest false is = rw is (is, rest)
 
 each-without : (P : Row → Type 0) (id : List ℕ) (rows : List Row) → AllByRecursion P rows → AllByRecursion P (without id rows)
 each-without P id [] all = tt
-each-without P id (row ∷ rows) all = by (bytes_eq row.id id) refl where
-  by : (b : Bool) → bytes_eq row.id id ≡ b → AllByRecursion P (without id (row ∷ rows))
-  by true is = rw is (each-without P id rows all.1)
-  by false is = rw is (all.0, each-without P id rows all.1)
+each-without P id (row ∷ rows) all = by (each-without P id rows all.1) (bytes_eq row.id id) refl where
+  by : AllByRecursion P (without id rows) → (b : Bool) → bytes_eq row.id id ≡ b → AllByRecursion P (without id (row ∷ rows))
+  by rest true is = rw is rest
+  by rest false is = rw is (all.0, rest)
 
 -- a name is that of a task that is apart
 apart-name : (id : List ℕ) (name : RunName) (picked : Option Row) → ((r : Row) → picked ≡ Some r → Apart id r) → option_map_or (names_last name) picked false ≡ true → not (bytes_eq name.id id) ≡ true
@@ -313,30 +317,30 @@ bytes-same bs = (bytes_eq-Decides bs bs).1 refl
 -- each pick is the pick
 picks-are : (most : ℕ) (queue : TaskQueue) (rows : List Row) → are_picks queue (picks most queue rows) rows ≡ true
 picks-are zero queue rows = refl
-picks-are (suc count) queue rows = by (pick queue rows) refl where
+picks-are (suc count) queue rows = by (λ rs. picks-are count queue rs) (pick queue rows) refl where
   nothing : (rs : List Row) → AllByRecursion (λ row. Unit {0}) rs
   nothing [] = tt
   nothing (r ∷ rs) = (tt, nothing rs)
 
-  by : (o : Option Row) → pick queue rows ≡ o → are_picks queue (picks (suc count) queue rows) rows ≡ true
-  by None is = rw is refl
-  by (Some row) is =
+  by : ((rs : List Row) → are_picks queue (picks count queue rs) rs ≡ true) → (o : Option Row) → pick queue rows ≡ o → are_picks queue (picks (suc count) queue rows) rows ≡ true
+  by are None is = rw is refl
+  by are (Some row) is =
       let waits = (pick-one (λ row. Unit {0}) queue rows row (nothing rows) is).0 in
       let pending = (and_parts (is_pending row) (is_same_queue row.definition.queue queue) waits).0 in
       let last = has-run row.runs pending in
-      let rest = picks-are count queue (without row.id rows) in
+      let rest = are (without row.id rows) in
       rw (is, is, bytes-same row.id, last) rest
 
 -- no more runs are picked than are asked for
 pub picks-few : (most : ℕ) (queue : TaskQueue) (rows : List Row) → length (picks most queue rows) ≤ most
 picks-few zero queue rows = omega arith
-picks-few (suc count) queue rows = by (pick queue rows) refl where
-  by : (o : Option Row) → pick queue rows ≡ o → length (picks (suc count) queue rows) ≤ suc count
-  by None is = rw is (omega arith)
-  by (Some row) is = let rest = picks-few count queue (without row.id rows) in rw is (omega (arith, rest))
+picks-few (suc count) queue rows = by (λ rs. picks-few count queue rs) (pick queue rows) refl where
+  by : ((rs : List Row) → length (picks count queue rs) ≤ count) → (o : Option Row) → pick queue rows ≡ o → length (picks (suc count) queue rows) ≤ suc count
+  by few None is = rw is (omega arith)
+  by few (Some row) is = let rest = few (without row.id rows) in rw is (omega (arith, rest))
 
 -- a task with an id of its own is found by it
-Stands : List Row → Row → Type 0
+abbrev Stands : List Row → Row → Type 0
 Stands rows row = row_with row.id rows ≡ Some row
 
 stand-more : (first : Row) (rows more : List Row) → AllByRecursion (λ id. bytes_eq first.id id ≡ false) (map (λ row. row.id) more) → AllByRecursion (Stands rows) more → AllByRecursion (Stands (first ∷ rows)) more
@@ -345,7 +349,9 @@ stand-more first rows (row ∷ more) other all = (rw (other.0) all.0, stand-more
 
 each-stands : (rows : List Row) → HaveOwnIds rows → AllByRecursion (Stands rows) rows
 each-stands [] own = tt
-each-stands (row ∷ rows) own = (rw (bytes-same row.id) refl, stand-more row rows rows own.0 (each-stands rows own.1))
+each-stands (row ∷ rows) own =
+    let ids_of : List (List ℕ) = map (λ (r : Row). r.id) rows in
+    (rw (bytes-same row.id) refl, stand-more row rows rows (IsDistinct-head bytes_eq row.id ids_of own) (each-stands rows (IsDistinct-tail bytes_eq row.id ids_of own)))
 
 same-queue : (a b : TaskQueue) → is_same_queue a b ≡ true → a ≡ b
 same-queue a b same =
@@ -369,7 +375,7 @@ picks-first (suc count) queue rows name names own is = by (pick queue rows) refl
       let one = pick-one (Stands rows) queue rows row (each-stands rows own) some in
       let found : row_with name.id rows ≡ Some row = subst (λ (n : RunName). row_with n.id rows ≡ Some row) called one.1 in
       let own_queue : row.definition.queue ≡ queue = same-queue row.definition.queue queue (and_parts (is_pending row) (is_same_queue row.definition.queue queue) one.0).1 in
-      rw (found, own_queue) are
+      rw found (subst (λ (q : TaskQueue). are_picks q (name ∷ names) rows ≡ true) (sym own_queue) are)
 
 -- ---- a creation
 

@@ -1,9 +1,9 @@
 -- A pass over the tasks resolves those whose deadlines come next, out of their turn: all turns leave the same after it.
-use Rattle.std.proofs.Common.{◌≡◌, ℕ, zero, suc, ◌+◌, ◌≤◌, ◌<◌, Bool, true, false, not, ◌&&◌, ◌||◌, cond, List, [], ◌∷◌, ◌++◌, map, length, filter, find, min, Option, Some, None, refl, ap, sym, ◌∙◌, arith, nat_le, nat_lt}
-use Rattle.std.specs.List.{list_any, list_all, reduce, flat_map}
+use Rattle.std.proofs.Common.{◌≡◌, ℕ, zero, suc, ◌+◌, ◌≤◌, ◌<◌, Bool, true, false, not, ◌&&◌, cond, List, [], ◌∷◌, map, length, find, Option, Some, None, refl, ap, sym, ◌∙◌, arith, nat_le, nat_lt}
+use Rattle.std.specs.List.{list_any, list_all}
 use Rattle.std.specs.Option.{option_map_or, option_to_list}
-use Rattle.std.proofs.lemmas.Bool.{leb-true, leb-false, le-leb, lt-leb, lt-ltb, le-ltb, ltb-true, and_parts}
-use Rattle.std.proofs.lemmas.List.Folds.{list_any-append, list_all-append}
+use Rattle.std.proofs.lemmas.Bool.{leb-true, le-leb, lt-ltb, le-ltb, and_parts}
+use Rattle.std.proofs.lemmas.List.Folds.{list_any-append}
 use Rattle.std.proofs.Math.ListN.{length-append}
 use Rattle.run_states.specs.declared.reasons.ReasonResolved.TheVariants.{ClaimExpired}
 use Rattle.run_states.specs.Rows.{Row, is_resolved, claim_due, loses_claim, exceeded, due_moments}
@@ -12,10 +12,10 @@ use Rattle.run_states.proofs.LaterLemmas.{exceeded-resolved}
 use Rattle.run_states.proofs.ClaimLemmas.{claim-open, resolved-claim, exceeded-due, open-due}
 use Rattle.farm_rows.specs.Contents.{Contents}
 use Rattle.farm_rows.specs.Due.{all_due_moments, first_due, meets_deadline, change_first, draws, resolved_at}
-use Rattle.farm_rows.specs.Sweep.{claim_first, comes_due, swept, lost, claim_ends, first_lost, numbered, all_turns}
-use Rattle.farm_rows.proofs.LeastLemmas.{first-some, first-is, first-none, none-first, least-is, reduce-all, reduce-any, reached_is}
-use Rattle.farm_rows.proofs.DueLemmas.{any_none, meets, Loses, loses, from, rows-from, from-deadline, from-claim, past, lost-due}
-use Rattle.farm_rows.proofs.TurnLemmas.{deadline-resolved, claim-resolved, first-from, first-lost, first-reached, first-idle, step-fewer, all-step, all-idle}
+use Rattle.farm_rows.specs.Sweep.{claim_first, comes_due, swept, all_turns}
+use Rattle.farm_rows.proofs.LeastLemmas.{first-is, least-is}
+use Rattle.farm_rows.proofs.DueLemmas.{any_none, meets, loses, from, rows-from, from-claim, past, lost-due}
+use Rattle.farm_rows.proofs.TurnLemmas.{deadline-resolved, claim-resolved, first-from, first-lost, first-reached, first-idle, step-fewer, all-step}
 
 -- ---- one task in the pass
 

@@ -15,7 +15,7 @@ use Rattle.farm_record.specs.declared.change.Change.{Change}
 use Rattle.farm_record.specs.declared.change.Creation.{Creation}
 use Rattle.farm_rows.specs.Contents.{Contents, row_with, HaveOwnIds}
 use Rattle.farm_rows.specs.Due.{all_due_moments, is_due, advance}
-use Rattle.farm_rows.specs.Changes.{creating, may_apply, applied}
+use Rattle.farm_rows.specs.Changes.{creating, applied}
 use Rattle.farm_rows.specs.Plans.{room_for, IsPlanOn}
 use Rattle.farm_rows.specs.Deeds.{planned_of}
 use Rattle.farm_rows.specs.declared.plan.Deed.TheVariants.{Create}

@@ -1,9 +1,9 @@
 -- Turns: each takes some moment away, so there are enough of them.
-use Rattle.std.proofs.Common.{◌≡◌, ℕ, zero, suc, ◌+◌, ◌≤◌, ◌<◌, max, Bool, true, false, cond, List, [], map, length, find, Option, Some, None, refl, ap, sym, ◌∙◌, arith, nat_le}
-use Rattle.std.specs.List.{list_any, list_all, reduce}
+use Rattle.std.proofs.Common.{◌≡◌, ℕ, zero, suc, ◌+◌, ◌≤◌, ◌<◌, Bool, true, false, cond, map, length, find, Option, Some, None, refl, ap, sym, ◌∙◌, arith, nat_le}
+use Rattle.std.specs.List.{list_any, list_all}
 use Rattle.std.proofs.lemmas.Bool.{leb-true, le-leb}
 use Rattle.run_states.specs.declared.reasons.ReasonResolved.TheVariants.{ClaimExpired}
-use Rattle.run_states.specs.Rows.{Row, loses_claim, exceeded}
+use Rattle.run_states.specs.Rows.{loses_claim, exceeded}
 use Rattle.run_states.specs.Moves.{expired}
 use Rattle.run_states.specs.Later.{RowsLater}
 use Rattle.run_states.proofs.LaterLemmas.{exceeded-later, expired-later, RowsLater-refl, RowsLater-trans}

@@ -1,5 +1,5 @@
 -- Which changes may be made of the tasks, and what each leaves (the queue service of the Taskcluster reference).
-use Rattle.std.specs.Prelude.{ℕ, ◌+◌, Bool, true, false, not, ◌&&◌, ◌==◌, nat_lt, nat_le, List, [], ◌∷◌, ◌++◌, length, Option, is_none, bytes_eq}
+use Rattle.std.specs.Prelude.{ℕ, ◌+◌, Bool, false, not, ◌&&◌, ◌==◌, nat_lt, nat_le, List, [], ◌∷◌, ◌++◌, length, is_none, bytes_eq}
 use Rattle.std.specs.Option.{option_map_or}
 use Rattle.farm_text.specs.declared.moment.TheConstants.{LAST_TOLD_MOMENT}
 use Rattle.task_defs.specs.declared.task_def.TaskDef.{TaskDef}

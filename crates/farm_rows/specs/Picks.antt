@@ -1,7 +1,7 @@
 -- Which run is claimed next in a queue (the queue service of the Taskcluster reference: by priority, then the longest waiting).
 use Rattle.std.specs.Prelude.{ℕ, zero, suc, ◌+◌, ◌-◌, Bool, true, false, not, ◌&&◌, ◌==◌, List, [], ◌∷◌, length, filter, Option, Some, None, option_and_then, unwrap_or, bytes_eq, if◌then◌else◌}
 use Rattle.std.specs.Option.{option_map_or}
-use Rattle.std.specs.List.{reduce, list_any}
+use Rattle.std.specs.List.{reduce}
 use Rattle.task_defs.specs.declared.names.TaskQueue.{TaskQueue}
 use Rattle.run_states.specs.Rows.{Row, last_run, is_pending}
 use Rattle.farm_record.specs.declared.change.RunName.{RunName}

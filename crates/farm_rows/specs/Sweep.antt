@@ -3,8 +3,7 @@ use Rattle.std.specs.Prelude.{◌≡◌, ℕ, ◌+◌, ◌≤◌, true, min, Boo
 use Rattle.std.specs.Option.{option_map_or, option_to_list}
 use Rattle.std.specs.List.{reduce, flat_map, list_all}
 use Rattle.farm_text.specs.declared.moment.TheConstants.{LAST_TOLD_MOMENT}
-use Rattle.run_states.specs.declared.reasons.ReasonResolved.TheVariants.{ClaimExpired}
-use Rattle.run_states.specs.Rows.{Row, is_resolved, exceeded, claim_due, loses_claim}
+use Rattle.run_states.specs.Rows.{Row, is_resolved, exceeded, claim_due}
 use Rattle.run_states.specs.Moves.{expired}
 use Rattle.farm_rows.specs.Contents.{Contents, HaveOwnIds}
 use Rattle.farm_rows.specs.Due.{all_due_moments, turns}

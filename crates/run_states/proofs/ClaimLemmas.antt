@@ -1,8 +1,8 @@
 -- Claims that fall due: only a task that is not resolved has one, and once it fell due there is none.
-use Rattle.std.proofs.Common.{◌≡◌, ℕ, ◌-◌, ◌<◌, ◌≤◌, Bool, true, false, ◌&&◌, List, [], ◌∷◌, ◌++◌, length, Option, Some, None, is_some, is_none, option_map, option_and_then, refl, ap, sym, ◌∙◌, arith, nat_lt}
+use Rattle.std.proofs.Common.{◌≡◌, ℕ, ◌-◌, Bool, true, false, List, [], ◌∷◌, ◌++◌, length, Option, Some, None, is_some, option_and_then, refl, ap, arith, nat_lt}
 use Rattle.std.specs.Option.{option_to_list}
 use Rattle.std.specs.List.{last_or}
-use Rattle.std.specs.Prelude.{zero, suc}
+use Rattle.std.specs.Prelude.{suc}
 use Rattle.run_states.specs.declared.reasons.ReasonCreated.{ReasonCreated}
 use Rattle.run_states.specs.declared.reasons.ReasonCreated.TheVariants.{Retry}
 use Rattle.run_states.specs.declared.reasons.ReasonResolved.{ReasonResolved}
@@ -10,7 +10,7 @@ use Rattle.run_states.specs.declared.reasons.ReasonResolved.TheVariants.{ClaimEx
 use Rattle.run_states.specs.declared.run.Claim.{Claim}
 use Rattle.run_states.specs.declared.run.Outcome.{Outcome}
 use Rattle.run_states.specs.declared.run.Run.{Run}
-use Rattle.run_states.specs.Runs.{is_running_run, run_due, pending_run, ended, change_at}
+use Rattle.run_states.specs.Runs.{run_due, pending_run, ended, change_at}
 use Rattle.run_states.specs.Rows.{Row, has_ended, is_resolved, claim_due, loses_claim, due_moments, exceeded}
 use Rattle.run_states.specs.Moves.{retried, expired}
 use Rattle.run_states.proofs.LaterLemmas.{exceeded-resolved}

@@ -2,8 +2,7 @@
 use super::*;
 use farm_text::{Doc, Moment, SlugId, Text};
 use std::alloc::Global;
-use std::test::Fail;
-use task_defs::{Identifier, read_task};
+use task_defs::{Identifier, TaskDef, read_task};
 
 /// 2024-01-01T00:00:00.000Z.
 const CREATED: u64 = 1_704_067_200_000;
@@ -31,25 +30,30 @@ const ALL_RETRIES: &'static str =
     r#"{"created":"2024-01-01T00:00:00.000Z","deadline":"2024-01-02T00:00:00.000Z","metadata":{"description":"d","name":"n","owner":"o@example.com","source":"https://example.com/"},"payload":{},"retries":49,"taskQueueId":"prov/wt"}"#;
 
 /// The row of a definition, as it is created.
-fn new_row(alloc: Global, body: &str) -> Result<TaskRow, Fail> {
-    let doc = Doc::read(alloc, body.as_bytes()).map_err(|_| "no document")?;
-    let id = SlugId::read(b"AAAAAAAAQACAAAAAAAAAAA").ok_or("no slugid")?;
-    let definition = read_task(alloc, &doc, id).map_err(|_| "no definition")?;
-    Ok(TaskRow::make(alloc, id, definition)?)
+fn new_row(alloc: Global, body: &str) -> Option<TaskRow> {
+    let id = SlugId::read(b"AAAAAAAAQACAAAAAAAAAAA")?;
+    let definition = definition(alloc, body, id)?;
+    TaskRow::make(alloc, id, definition).ok()
+}
+
+/// The definition that this body reads as.
+fn definition(alloc: Global, body: &str, id: SlugId) -> Option<TaskDef> {
+    let doc = Doc::read(alloc, body.as_bytes()).ok()?;
+    read_task(alloc, &doc, id).ok()
 }
 
 /// The row, scheduled as it is created, with number 3.
-fn pending_row(alloc: Global, body: &str) -> Result<TaskRow, Fail> {
+fn pending_row(alloc: Global, body: &str) -> Option<TaskRow> {
     let mut row = new_row(alloc, body)?;
     row.schedule(moment(CREATED), 3);
-    Ok(row)
+    Some(row)
 }
 
 /// The row, whose run 0 worker `w` of group `g` took for twenty minutes.
-fn running_row(alloc: Global, body: &str) -> Result<TaskRow, Fail> {
+fn running_row(alloc: Global, body: &str) -> Option<TaskRow> {
     let mut row = pending_row(alloc, body)?;
     take(alloc, &mut row);
-    Ok(row)
+    Some(row)
 }
 
 /// Worker `w` of group `g` takes the pending run for twenty minutes. Tells whether there is one.
@@ -175,12 +179,12 @@ enum Check {
 /// Whether what a test looks at holds of a row of this definition, which begins so. Here alone a row is owned, so that the proof of each test is short.
 fn holds(alloc: Global, begin: Begin, body: &str, check: Check) -> bool {
     match row_of(alloc, begin, body) {
-        Ok(mut row) => passes(alloc, &mut row, check),
-        Err(_) => false,
+        Some(mut row) => passes(alloc, &mut row, check),
+        None => false,
     }
 }
 
-fn row_of(alloc: Global, begin: Begin, body: &str) -> Result<TaskRow, Fail> {
+fn row_of(alloc: Global, begin: Begin, body: &str) -> Option<TaskRow> {
     match begin {
         Begin::New => new_row(alloc, body),
         Begin::Pending => pending_row(alloc, body),

@@ -1,5 +1,5 @@
 //! Statuses against rows that were worked by hand.
-use crate::status_doc;
+use crate::{definition_doc, status_doc};
 use farm_text::{Doc, Moment, SlugId, Text};
 use run_states::{Claim, ReasonResolved, TaskRow};
 use std::alloc::Global;
@@ -15,6 +15,10 @@ const DEADLINE: u64 = 1_704_153_600_000;
 /// The smallest definition.
 const PLAIN: &'static str =
     r#"{"created":"2024-01-01T00:00:00.000Z","deadline":"2024-01-02T00:00:00.000Z","metadata":{"description":"d","name":"n","owner":"o@example.com","source":"https://example.com/"},"payload":{},"taskQueueId":"prov/wt"}"#;
+
+/// The same in full form, for the first task.
+const IN_FULL: &str =
+    r#"{"created":"2024-01-01T00:00:00.000Z","deadline":"2024-01-02T00:00:00.000Z","dependencies":[],"expires":"2025-01-01T00:00:00.000Z","extra":{},"metadata":{"description":"d","name":"n","owner":"o@example.com","source":"https://example.com/"},"payload":{},"priority":"lowest","projectId":"none","provisionerId":"prov","requires":"all-completed","retries":5,"routes":[],"schedulerId":"-","scopes":[],"tags":{},"taskGroupId":"AAAAAAAAQACAAAAAAAAAAA","taskQueueId":"prov/wt","workerType":"wt"}"#;
 
 /// The status of a task: what stands before its retries, before its runs, before its state and behind it.
 const BEFORE: &str =
@@ -121,6 +125,20 @@ fn a_new_task_is_unscheduled(rt: HostRuntime) -> Result<(), Fail> {
         )
     );
     Ok(())
+}
+
+#[test]
+fn a_definition_is_told_in_full_form(rt: HostRuntime) -> Result<(), Fail> {
+    let row = new_row(rt.alloc())?;
+    assert!(rt; is_told_in_full(rt.alloc(), &row));
+    Ok(())
+}
+
+fn is_told_in_full(alloc: Global, row: &TaskRow) -> bool {
+    match definition_doc(alloc, row.definition()) {
+        Ok(doc) => is_written(alloc, &doc, &[IN_FULL]),
+        Err(_) => false,
+    }
 }
 
 #[test]

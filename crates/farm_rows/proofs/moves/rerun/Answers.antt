@@ -1,4 +1,4 @@
-use Rattle.std.proofs.Common.{◌≡◌, ap, sym, ◌∙◌, slice_set}
+use Rattle.std.proofs.Common.{ap, sym, ◌∙◌, slice_set}
 use Rattle.run_states.specs.Rows.{Row}
 use Rattle.run_states.specs.Moves.{run_again}
 use Rattle.farm_rows.specs.Changes.{has_id}

@@ -1,4 +1,4 @@
-use Rattle.std.proofs.Common.{◌≡◌, ap, sym, ◌∙◌, slice_set, get_or}
+use Rattle.std.proofs.Common.{ap, sym, ◌∙◌, slice_set, get_or}
 use Rattle.run_states.specs.declared.reasons.ReasonResolved.{ReasonResolved}
 use Rattle.run_states.specs.Rows.{Row}
 use Rattle.run_states.specs.Moves.{resolved}

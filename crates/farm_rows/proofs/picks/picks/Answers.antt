@@ -1,4 +1,4 @@
-use Rattle.std.proofs.Common.{◌≡◌, ◌<◌, List, length, ap, sym, ◌∙◌, rules, arith}
+use Rattle.std.proofs.Common.{◌<◌, List, length, ap, sym, ◌∙◌, rules, arith}
 use Rattle.farm_record.specs.declared.change.RunName.{RunName}
 use Rattle.farm_rows.specs.Picks.{pick}
 use Rattle.farm_rows.specs.Left.{left}

@@ -1,5 +1,4 @@
-use Rattle.std.proofs.Common.{◌≡◌, ap, sym, ◌∙◌, min, None, Some, find, get_or, slice_set, rules}
-use Rattle.std.specs.List.{position}
+use Rattle.std.proofs.Common.{◌≡◌, ap, sym, ◌∙◌, min, Some, slice_set, rules}
 use Rattle.run_states.specs.declared.reasons.ReasonResolved.TheVariants.{ClaimExpired}
 use Rattle.run_states.specs.Rows.{Row, loses_claim}
 use Rattle.farm_rows.specs.Due.{draws}

@@ -1,8 +1,7 @@
-use Rattle.std.proofs.Common.{◌≡◌, ℕ, ◌≤◌, ◌<◌, ◌*◌, true, List, map, length, ◌+◌, find, refl, ap, sym, ◌∙◌, arith}
+use Rattle.std.proofs.Common.{List, map, length, ◌+◌, find, refl, ap, sym, ◌∙◌, arith}
 use Rattle.std.specs.List.{list_all}
 use Rattle.run_states.specs.declared.reasons.ReasonResolved.TheVariants.{ClaimExpired}
 use Rattle.run_states.specs.Rows.{Row, loses_claim}
-use Rattle.farm_rows.specs.Contents.{Contents}
 use Rattle.farm_rows.specs.Due.{all_due_moments, change_first, draws}
 use Rattle.farm_rows.specs.Sweep.{swept, lost, numbered, all_turns, runs_made, fits}
 use Rattle.farm_rows.proofs.ClaimLemmas.{round-is, rounds-end, pass-fixed}

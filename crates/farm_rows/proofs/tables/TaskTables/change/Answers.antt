@@ -1,8 +1,6 @@
-use Rattle.std.proofs.Common.{◌≡◌, ◌≤◌, ◌+◌, List, length, ap, sym, ◌∙◌, rules, arith, vec_capacity}
+use Rattle.std.proofs.Common.{◌≡◌, length, ap, ◌∙◌, rules, arith, vec_capacity}
 use Rattle.std.proofs.lemmas.List.{with_items_is}
 use Rattle.std.specs.Vec.{with_items}
-use Rattle.run_states.specs.Rows.{Row}
-use Rattle.farm_rows.specs.Contents.{Contents}
 use Rattle.farm_rows.specs.Deeds.{rows_after, drawn_by}
 use Rattle.farm_rows.specs.Sweep.{soonest_of}
 use Rattle.farm_rows.proofs.FitLemmas.{made-few}
