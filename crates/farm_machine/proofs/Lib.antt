@@ -14,3 +14,7 @@ pub mod MakeLemmas
 pub mod MayLemmas
 pub mod WorkLemmas
 mod EqualLemmas
+mod LastRunLemmas
+mod DeedLemmas
+mod InTimeLemmas
+mod ClaimLawLemmas

@@ -1,16 +1,20 @@
 -- What is answered where a change is planned, and where the farm is full for it.
-use Rattle.std.proofs.Common.{◌≡◌, ◌&&◌, min, nat_le, true, false, length, Some, None, Result, Ok, Err, IfOk, refl, subst}
-use Rattle.farm_text.specs.Document.{document_text}
+use Rattle.std.proofs.Common.{◌≡◌, ◌&&◌, ℕ, min, nat_le, true, false, length, Some, None, Result, Ok, Err, IfOk, List, refl, ap, ◌∙◌, subst}
+use Rattle.farm_text.specs.Document.{Document, document_text}
 use Rattle.farm_record.specs.declared.change.Change.{Change}
 use Rattle.farm_record.specs.declared.change.Kind.{Kind}
+use Rattle.run_states.specs.Rows.{Row}
 use Rattle.farm_rows.specs.Changes.{applied}
+use Rattle.farm_rows.specs.Contents.{Contents}
 use Rattle.farm_rows.specs.Plans as tasks
 use Rattle.farm_machine.specs.declared.judged.Judged.{Judged}
+use Rattle.farm_machine.specs.declared.works.Telling.{Telling}
 use Rattle.farm_machine.specs.Case.{Setting, changing}
 use Rattle.farm_machine.specs.Order.{full, makes_task, done}
 use Rattle.farm_machine.specs.Planned.{judgement_of}
 use Rattle.farm_machine.specs.Refused.{IsPlannedSo, IsMade}
 use Rattle.farm_machine.specs.Replies.{ok, farm_full}
+use Rattle.farm_machine.specs.Tellings.{told_by}
 use Rattle.farm_machine.specs.Works.{told_of, at_moment}
 use Rattle.farm_machine.proofs.OrderLemmas.{full-first, done-first, only-judged, only-kept}
 
@@ -31,6 +35,12 @@ IsMade-full at kind judged is answer change =
       kept = only-kept judged at.state.contents change;
     }
 
+-- the same of a call that may run out of memory
+pub IsMade-refused : {E : Type 0} (at : Setting) (kind : Kind) (count : ℕ) (result : Result Judged E) → count ≡ length at.state.contents.rows → (makes_task kind && nat_le (min at.state.config.max_tasks 1_000_000) (length at.state.contents.rows)) ≡ true
+    → IfOk result (λ judged. judged.answer ≡ farm_full count) → IfOk result (λ judged. judged.change ≡ None) → IfOk result (IsMade at kind)
+IsMade-refused at kind count (Ok judged) stand is answer change = IsMade-full at kind judged is (answer ∙ ap farm_full stand) change
+IsMade-refused at kind count (Err e) stand is answer change = tt
+
 -- what is planned is what is done
 planned-done : (at : Setting) (kind : Kind) (judged : Judged) (plan : tasks.Planned) → plan.change ≡ at_moment at.moment kind → tasks.IsPlanOn at.state.contents plan → judged.answer ≡ ok (document_text (told_of kind plan.rows)) → judged.change ≡ Some plan → judgement_of judged ≡ done at (changing at.moment kind)
 planned-done at kind judged plan is on answer change =
@@ -50,3 +60,9 @@ IsMade-planned at kind judged plan free is on answer change =
 pub IsMade-so : {E : Type 0} (at : Setting) (kind : Kind) (result : Result Judged E) → (makes_task kind && nat_le (min at.state.config.max_tasks 1_000_000) (length at.state.contents.rows)) ≡ false → IfOk result (IsPlannedSo at.state.contents (at_moment at.moment kind)) → IfOk result (IsMade at kind)
 IsMade-so at kind (Ok judged) free (plan, is, on, answer, change) = IsMade-planned at kind judged plan free is on answer change
 IsMade-so at kind (Err e) free planned = tt
+
+-- what is planned, and told of what it leaves, is planned so
+pub planned-so : {E : Type 0} (contents : Contents) (change : Change) (telling : Telling) (plan : tasks.Planned) (result : Result Judged E) → plan.change ≡ change → tasks.IsPlanOn contents plan → ((rows : List Row) → told_by telling rows ≡ told_of change.kind rows)
+    → IfOk result (λ judged. judged.answer ≡ ok (document_text (told_by telling plan.rows))) → IfOk result (λ judged. judged.change ≡ Some plan) → IfOk result (IsPlannedSo contents change)
+planned-so contents change telling plan (Ok judged) is on tells answer planned = (plan, is, on, answer ∙ ap (λ (d : Document). ok (document_text d)) (tells plan.rows), planned)
+planned-so contents change telling plan (Err e) is on tells answer planned = tt

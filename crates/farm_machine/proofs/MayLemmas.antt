@@ -1,6 +1,8 @@
 -- What the calls of workers and managers of tasks do may be done, where nothing refuses them.
-use Rattle.std.proofs.Common.{◌≡◌, ◌⊎◌, ℕ, ◌<◌, ◌≤◌, ◌+◌, ◌*◌, min, Bool, true, false, not, ◌&&◌, IsTrue, List, [], ◌∷◌, length, Option, Some, None, nat_le, nat_lt, refl, sym, ap, ◌∙◌, inl, inr, arith}
+use Rattle.std.proofs.Common.{◌≡◌, ◌⊎◌, ℕ, ◌<◌, ◌≤◌, ◌+◌, ◌*◌, min, Bool, true, false, not, ◌&&◌, IsTrue, List, [], ◌∷◌, length, Option, Some, None, nat_le, nat_lt, refl, sym, ap, ◌∙◌, subst, inl, inr, arith}
 use Rattle.std.proofs.lemmas.Bool.{le-leb, leb-false, lt-ltb}
+use Rattle.farm_text.specs.Doc.{document}
+use Rattle.farm_text.specs.declared.doc.Doc.{Doc}
 use Rattle.farm_text.specs.declared.moment.TheConstants.{LAST_TOLD_MOMENT}
 use Rattle.farm_record.specs.declared.change.Kind.{Kind}
 use Rattle.farm_record.specs.declared.change.Kind.TheVariants.{Rerun, Cancel, Claim as TakesRuns, Reclaim, Resolve}
@@ -9,10 +11,10 @@ use Rattle.farm_record.specs.declared.change.RunName.{RunName}
 use Rattle.run_states.specs.Rows.{Row, is_unscheduled, is_resolved, is_running_at}
 use Rattle.run_states.specs.Moves.{ended_for_at}
 use Rattle.farm_rows.specs.Changes.{reason_of, may_keep, are_first, may_be, may_apply}
-use Rattle.farm_rows.specs.Contents.{row_with, HaveOwnIds}
+use Rattle.farm_rows.specs.Contents.{Contents, row_with, HaveOwnIds}
 use Rattle.farm_rows.specs.Picks.{picks}
 use Rattle.farm_rows.proofs.ShownLemmas.{picks-few, picks-first}
-use Rattle.farm_machine.specs.declared.case.Done.TheVariants.{Changes}
+use Rattle.farm_machine.specs.declared.case.Done.TheVariants.{Reads, Changes}
 use Rattle.farm_machine.specs.declared.config.Config.{Config}
 use Rattle.farm_machine.specs.declared.question.WorkRequest.{WorkRequest}
 use Rattle.farm_machine.specs.declared.reply.Answer.{Answer}
@@ -22,9 +24,11 @@ use Rattle.farm_machine.specs.Calls.ReclaimTask.{reclaim_task}
 use Rattle.farm_machine.specs.Calls.ReportRun.{report_run}
 use Rattle.farm_machine.specs.Calls.RerunTask.{rerun_task}
 use Rattle.farm_machine.specs.Absent.{absent_run}
-use Rattle.farm_machine.specs.Case.{Setting, Rule, when, Case, passing, of_row, of_run, on_run, reading, IsFirstRule}
+use Rattle.farm_machine.specs.Case.{Setting, Deed, Rule, when, Case, passing, of_row, of_run, on_run, reading, IsFirstRule}
+use Rattle.farm_machine.specs.Changes.{changed}
 use Rattle.farm_machine.specs.Config.{claim_millis}
 use Rattle.farm_machine.specs.Deeds.{IsReady, IsDeed}
+use Rattle.farm_machine.specs.Replies.{tells_status, conflict}
 use Rattle.farm_machine.specs.Works.{work_body, at_moment}
 
 -- what is no truth is false
@@ -32,12 +36,12 @@ no_truth : (b : Bool) → ¬ IsTrue b → b ≡ false
 no_truth true no_ = absurd (no_ refl)
 no_truth false no_ = refl
 
-no_not : (b : Bool) → ¬ IsTrue (not b) → b ≡ true
+pub no_not : (b : Bool) → ¬ IsTrue (not b) → b ≡ true
 no_not true no_ = refl
 no_not false no_ = absurd (no_ refl)
 
 -- a rule that is passed, and those behind it
-passed : (test : Bool) (answer : Answer) (rules : List Rule) → IsFirstRule (when test answer ∷ rules) None → (¬ IsTrue test) × IsFirstRule rules None
+pub passed : (test : Bool) (answer : Answer) (rules : List Rule) → IsFirstRule (when test answer ∷ rules) None → (¬ IsTrue test) × IsFirstRule rules None
 passed test answer rules (inl p) = let no_ = p.1 in cc
 passed test answer rules (inr p) = p
 
@@ -74,9 +78,9 @@ rerun-deed id at ready there unruled = by (row_with id at.state.contents.rows) r
   by : (o : Option Row) → row_with id at.state.contents.rows ≡ o → IsDeed at (rerun_task id at).deed (Changes (Rerun id))
   by None is = let none = rw is at there in cc
   by (Some row) is =
-      let first = passed (not (is_unscheduled row) && not (is_resolved row)) _ _ (rw is at unruled) in
-      let second = passed (is_unscheduled row) _ _ first.1 in
-      let third = passed (nat_le row.definition.deadline at.moment) _ _ second.1 in
+      let first = passed (not (is_unscheduled row) && not (is_resolved row)) (tells_status row) (when (is_unscheduled row) (conflict 4 row) ∷ when (nat_le row.definition.deadline at.moment) (conflict 5 row) ∷ when (nat_le 50 (length row.runs)) (conflict 6 row) ∷ []) (rw is at unruled) in
+      let second = passed (is_unscheduled row) (conflict 4 row) (when (nat_le row.definition.deadline at.moment) (conflict 5 row) ∷ when (nat_le 50 (length row.runs)) (conflict 6 row) ∷ []) first.1 in
+      let third = passed (nat_le row.definition.deadline at.moment) (conflict 5 row) (when (nat_le 50 (length row.runs)) (conflict 6 row) ∷ []) second.1 in
       let fourth = passed (nat_le 50 (length row.runs)) _ [] third.1 in
       let ended : is_resolved row ≡ true = resolved_is (is_unscheduled row) (is_resolved row) first.0 second.0 in
       let before : nat_lt at.moment row.definition.deadline ≡ true =
@@ -99,7 +103,7 @@ reclaim-deed name at ready there unruled = by (row_with name.id at.state.content
     with_run : (b : Bool) → nat_lt name.run (length row.runs) ≡ b → IsDeed at (reclaim_task name at).deed (Changes kind)
     with_run false few = let none = rw (is, few) at there in cc
     with_run true some =
-        let running : is_running_at name.run row ≡ true = no_not (is_running_at name.run row) (passed (not (is_running_at name.run row)) _ [] (rw (is, some) at unruled)).0 in
+        let running : is_running_at name.run row ≡ true = no_not (is_running_at name.run row) (passed (not (is_running_at name.run row)) (conflict 3 row) [] (rw (is, some) at unruled)).0 in
         let be : may_be at.state.contents at.moment kind ≡ true = rw (keep-may at.state.config at.moment, is, running) refl in
         (rw (is, some) refl, λ free. may-all at kind ready be)
 
@@ -111,15 +115,15 @@ report-deed report at ready there unruled = by (row_with report.id at.state.cont
     with_run : (b : Bool) → nat_lt report.run (length row.runs) ≡ b → IsDeed at (report_run report at).deed (Changes (Resolve report))
     with_run false few = let none = rw (is, few) at there in cc
     with_run true some =
-        let first = passed (ended_for_at report.run (reason_of report.reason) row) _ _ (rw (is, some) at unruled) in
-        let running : is_running_at report.run row ≡ true = no_not (is_running_at report.run row) (passed (not (is_running_at report.run row)) _ [] first.1).0 in
+        let first = passed (ended_for_at report.run (reason_of report.reason) row) (tells_status row) (when (not (is_running_at report.run row)) (conflict 3 row) ∷ []) (rw (is, some) at unruled) in
+        let running : is_running_at report.run row ≡ true = no_not (is_running_at report.run row) (passed (not (is_running_at report.run row)) (conflict 3 row) [] first.1).0 in
         let be : may_be at.state.contents at.moment (Resolve report) ≡ true = rw (is, running) refl in
         (rw (is, some) refl, λ free. may-all at (Resolve report) ready be)
 
 -- ---- the runs of a queue
 
 -- the claim of these runs
-taken : ℕ → WorkRequest → List RunName → Kind
+abbrev taken : ℕ → WorkRequest → List RunName → Kind
 taken until work names = TakesRuns (record { taken_until = until; worker_group = work.worker_group; worker_id = work.worker_id; runs = names })
 
 pub claim-deed : (work : WorkRequest) (at : Setting) (names : List RunName) → IsReady at → HaveOwnIds at.state.contents.rows → names ≡ picks (min work.tasks 32) work.queue at.state.contents.rows → 1 ≤ length names → length names ≤ 32
@@ -151,3 +155,24 @@ claim-none work at (name ∷ names) is no_ =
     let few = picks-few (min work.tasks 32) work.queue at.state.contents.rows in
     let same = ap length is in
     absurd (no_ (omega arith, omega arith))
+
+-- ---- what a claim does, part by part
+
+-- the runs that are next are taken
+pub claim-does : (work : WorkRequest) (at : Setting) (contents : Contents) (names runs : List RunName) (most until : ℕ) (kind : Kind) → IsReady at → contents ≡ at.state.contents → HaveOwnIds contents.rows → most ≡ min work.tasks 32
+    → names ≡ picks most work.queue contents.rows → runs ≡ names → 1 ≤ length names → length names ≤ 32 → until ≡ at.moment + claim_millis at.state.config
+    → kind ≡ TakesRuns (record { taken_until = until; worker_group = work.worker_group; worker_id = work.worker_id; runs = runs }) → IsDeed at (claim_work work at).deed (Changes kind)
+claim-does work at contents names runs most until kind ready here own most_is names_are runs_are some few until_is is =
+    let own_ids : HaveOwnIds at.state.contents.rows = subst (λ (k : Contents). HaveOwnIds k.rows) here own in
+    let picked : names ≡ picks (min work.tasks 32) work.queue at.state.contents.rows =
+    names_are ∙ (ap (λ n. picks n work.queue contents.rows) most_is ∙ ap (λ (k : Contents). picks (min work.tasks 32) work.queue k.rows) here) in
+    let kind_is : kind ≡ taken (at.moment + claim_millis at.state.config) work names = is ∙ (ap (λ u. taken u work runs) until_is ∙ ap (taken (at.moment + claim_millis at.state.config) work) runs_are) in
+    subst (λ (k : Kind). IsDeed at (claim_work work at).deed (Changes k)) (sym kind_is) (claim-deed work at names ready own_ids picked some few)
+
+-- where there are none, that is read
+pub claim-reads : (work : WorkRequest) (at : Setting) (contents : Contents) (names : List RunName) (most : ℕ) (body : Doc) → contents ≡ at.state.contents → most ≡ min work.tasks 32 → names ≡ picks most work.queue contents.rows
+    → ¬ ((1 ≤ length names) × (length names ≤ 32)) → document body ≡ work_body [] → IsDeed at (claim_work work at).deed (Reads body)
+claim-reads work at contents names most body here most_is names_are no_ is =
+    let picked : names ≡ picks (min work.tasks 32) work.queue at.state.contents.rows =
+    names_are ∙ (ap (λ n. picks n work.queue contents.rows) most_is ∙ ap (λ (k : Contents). picks (min work.tasks 32) work.queue k.rows) here) in
+    subst (λ (d : Deed). (d.change ≡ None) × (document body ≡ d.body (changed at.state.contents at.moment None))) (sym (claim-none work at names picked no_)) (refl, is)

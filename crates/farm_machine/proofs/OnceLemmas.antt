@@ -36,11 +36,11 @@ use Rattle.farm_machine.proofs.OrderLemmas.{asks-ruled, in_order-one}
 
 -- ---- each task stays, and the configuration too
 
-changed-stays : (contents : Contents) (moment : ℕ) (change : Option Change) → RowsLater contents.rows (changed contents moment change).rows
+pub changed-stays : (contents : Contents) (moment : ℕ) (change : Option Change) → RowsLater contents.rows (changed contents moment change).rows
 changed-stays contents moment None = RowsLater-refl contents.rows
 changed-stays contents moment (Some change) = applied-stays contents change
 
-entry-stays : (state : State) (entry : Entry) → RowsLater state.contents.rows (after state entry).contents.rows
+pub entry-stays : (state : State) (entry : Entry) → RowsLater state.contents.rows (after state entry).contents.rows
 entry-stays state (tick moment) = advance-stays state.contents moment
 entry-stays state (call asking out_of_memory) = RowsLater-refl state.contents.rows
 entry-stays state (call asking (finished judgement)) = changed-stays state.contents (moment_of state.contents asking) judgement.change

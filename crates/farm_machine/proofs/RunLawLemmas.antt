@@ -35,7 +35,7 @@ run-later (r ∷ runs) [] number run stays is = absurd stays
 run-later (r ∷ runs) (s ∷ after) zero run stays is = let one : r ≡ run = cc in (s, refl, subst (λ (x : Run). RunLater x s) one stays.0)
 run-later (r ∷ runs) (s ∷ after) (suc number) run stays is = run-later runs after number run stays.1 is
 
-found-run : (name : RunName) (rows later : List Row) (run : Run) → RowsLater rows later → (row : Option Row) → row_with name.id rows ≡ row → option_and_then (λ (r : Row). slice_get r.runs name.run) row ≡ Some run
+pub found-run : (name : RunName) (rows later : List Row) (run : Run) → RowsLater rows later → (row : Option Row) → row_with name.id rows ≡ row → option_and_then (λ (r : Row). slice_get r.runs name.run) row ≡ Some run
     → (found : Run) × (option_and_then (λ (r : Row). slice_get r.runs name.run) (row_with name.id later) ≡ Some found) × RunLater run found
 found-run name rows later run stays None is has = cc
 found-run name rows later run stays (Some row) is has =

@@ -105,15 +105,14 @@ fn make(
     config: &Config,
     tables: &mut Tables,
     moment: Moment,
-    drawn: SlugId,
+    _drawn: SlugId,
     kind: Kind,
 ) -> Result<Judged, AllocError>
-    requires { full (setting_at config.now tables.old moment drawn).state (changing moment kind).change ≡ None
+    requires { full (setting_at config.now tables.old moment _drawn).state (changing moment kind).change ≡ None
         → may_apply tables.old (at_moment moment kind) ≡ true }
-    ensures made { IfOk result (IsMade (setting_at config.now tables.old moment drawn) kind) }
+    ensures made { IfOk result (IsMade (setting_at config.now tables.old moment _drawn) kind) }
     ensures same { tables.new ≡ tables.old }
 {
-    let _ = drawn;
     if is_full_for(config, tables, &kind) {
         return refuse_full(alloc, tables.len());
     }

@@ -16,6 +16,7 @@ use std::alloc::{AllocError, Global};
 use std::test::Fail;
 use task_defs::read_task;
 
+mod runs;
 mod work;
 
 /// The id that is written `AAAAAAAAQACAAAAAAAAAAA`.
@@ -70,7 +71,12 @@ const PLAIN: &[u8] =
 
 /// The call that makes the first task.
 pub(crate) fn creation(alloc: Global, id: SlugId) -> Result<Call, Fail> {
-    let doc = Doc::read(alloc, PLAIN).ok().ok_or("a document")?;
+    creation_of(alloc, PLAIN, id)
+}
+
+/// The call that makes a task of this definition.
+pub(crate) fn creation_of(alloc: Global, text: &[u8], id: SlugId) -> Result<Call, Fail> {
+    let doc = Doc::read(alloc, text).ok().ok_or("a document")?;
     let definition = read_task(alloc, &doc, id).ok().ok_or("a definition")?;
     Ok(Call::CreateTask(Creation { id, definition }))
 }

@@ -39,10 +39,12 @@ impl Called for ReclaimTask {
     }
 
     fn deed(self, _alloc: Global, at: &Scene<'_>) -> Result<Done, AllocError> {
+        let taken_until = at.taken_until();
+        let RunName { id, run } = self.name;
         Ok(Done::Changes(Kind::Reclaim(Reclaim {
-            id: self.name.id,
-            run: self.name.run,
-            taken_until: at.taken_until(),
+            id,
+            run,
+            taken_until,
         })))
     }
 }

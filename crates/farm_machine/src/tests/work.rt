@@ -19,7 +19,7 @@ fn identifier(alloc: Global, text: &str) -> Result<Identifier, Fail> {
 }
 
 /// Worker `w` of group `g` asks for a run of `prov/wt`.
-fn work(alloc: Global) -> Result<WorkRequest, Fail> {
+pub(crate) fn work(alloc: Global) -> Result<WorkRequest, Fail> {
     let queue = queue(alloc)?;
     let worker_group = identifier(alloc, "g")?;
     Ok(WorkRequest {
@@ -39,7 +39,7 @@ fn queue(alloc: Global) -> Result<TaskQueue, Fail> {
 }
 
 /// A report that the run of the first task ended so.
-fn report(id: SlugId, run: u8, reason: Report) -> Call {
+pub(crate) fn report(id: SlugId, run: u8, reason: Report) -> Call {
     Call::ReportRun(Resolution { id, run, reason })
 }
 
@@ -59,7 +59,7 @@ fn call_of(alloc: Global, word: &str, id: SlugId) -> Result<Call, Fail> {
     }
 }
 
-/// The reply to a call so many milliseconds after the task was created.
+/// The reply to the call of this word so many milliseconds after the task was created.
 fn ask(
     alloc: Global,
     tables: &mut Tables,
@@ -67,10 +67,20 @@ fn ask(
     after: u64,
     word: &str,
 ) -> Result<Reply, Fail> {
-    let id = first_task()?;
+    let call = call_of(alloc, word, first_task()?)?;
+    asked(alloc, tables, config, after, call)
+}
+
+/// The reply to a call so many milliseconds after the task was created.
+pub(crate) fn asked(
+    alloc: Global,
+    tables: &mut Tables,
+    config: &Config,
+    after: u64,
+    call: Call,
+) -> Result<Reply, Fail> {
     let at = Moment::from_millis(CREATED + after).ok_or("a moment")?;
-    let call = call_of(alloc, word, id)?;
-    let question = Question::new(at, id, Caller::Anonymous, call);
+    let question = Question::new(at, first_task()?, Caller::Anonymous, call);
     let moment = moment_of(tables, &question);
     if due(tables, moment) {
         tick(tables, moment);
