@@ -219,12 +219,7 @@ fn answer(
 }
 
 /// Whether a request is answered with success.
-fn is_done(
-    alloc: Global,
-    desk: &mut Solo<Bare>,
-    request: &str,
-    body: &str,
-) -> Result<bool, Fail> {
+fn is_done(alloc: Global, desk: &mut Solo<Bare>, request: &str, body: &str) -> Result<bool, Fail> {
     let written = answer(alloc, desk, request, body)?;
     Ok(written.as_slice().starts_with(DONE))
 }
@@ -245,7 +240,9 @@ fn fails(alloc: Global, desk: &mut Solo<Bare>, run: u32) -> Result<bool, Fail> {
 
 /// A run that failed.
 fn failed_run(alloc: Global, reason: &str, run: u32) -> Result<String, AllocError> {
-    format!(in alloc; r#"{{"reasonCreated":"{reason}","reasonResolved":"failed","resolved":"2024-01-01T00:00:00.000Z","runId":{run},"scheduled":"2024-01-01T00:00:00.000Z","started":"2024-01-01T00:00:00.000Z","state":"failed","takenUntil":"2024-01-01T00:20:00.000Z","workerGroup":"g","workerId":"w"}}"#)
+    format!(in alloc;
+        r#"{{"reasonCreated":"{reason}","reasonResolved":"failed","resolved":"2024-01-01T00:00:00.000Z","runId":{run},"scheduled":"2024-01-01T00:00:00.000Z","started":"2024-01-01T00:00:00.000Z","state":"failed","takenUntil":"2024-01-01T00:20:00.000Z","workerGroup":"g","workerId":"w"}}"#
+    )
 }
 
 /// Fifty of them.
@@ -260,14 +257,11 @@ fn fifty_runs(alloc: Global) -> Result<String, AllocError> {
 }
 
 /// The reply of this status whose body has the task's status between these texts, once it ran fifty times.
-fn fifty_told(
-    alloc: Global,
-    status: &str,
-    front: &str,
-    back: &str,
-) -> Result<String, AllocError> {
+fn fifty_told(alloc: Global, status: &str, front: &str, back: &str) -> Result<String, AllocError> {
     let runs = fifty_runs(alloc)?;
-    let body = format!(in alloc; r#"{front}{{"deadline":"2024-01-02T00:00:00.000Z","expires":"2025-01-01T00:00:00.000Z","projectId":"none","provisionerId":"prov","retriesLeft":0,"runs":[{runs}],"schedulerId":"-","state":"failed","taskGroupId":"AAAAAAAAQACAAAAAAAAAAA","taskId":"AAAAAAAAQACAAAAAAAAAAA","taskQueueId":"prov/wt","workerType":"wt"}}{back}"#)?;
+    let body = format!(in alloc;
+        r#"{front}{{"deadline":"2024-01-02T00:00:00.000Z","expires":"2025-01-01T00:00:00.000Z","projectId":"none","provisionerId":"prov","retriesLeft":0,"runs":[{runs}],"schedulerId":"-","state":"failed","taskGroupId":"AAAAAAAAQACAAAAAAAAAAA","taskId":"AAAAAAAAQACAAAAAAAAAAA","taskQueueId":"prov/wt","workerType":"wt"}}{back}"#
+    )?;
     let length = body.len();
     format!(in alloc;
         "HTTP/1.1 {status}\r\nContent-Length: {length}\r\nContent-Type: application/json\r\n\r\n{body}"
