@@ -1,5 +1,8 @@
-"""A model of the queue of a build farm, written from its rules apart from the program: it prints the rows of crates/farm_server/src/tests/work.rt."""
-import json
+"""A model of the queue of a build farm, written from its rules apart from the program: it prints the rows of a conversation.
+
+python3 bench/queue_model.py workers|again|lapse|last|deadline|retry: the tables of crates/farm_server/src/tests/work.rt (workers) and runs.rt.
+"""
+import json, sys
 B=1704067200000
 def T(ms):
     import datetime
@@ -112,25 +115,40 @@ def rerun(ms,k): go(ms,"POST %s%s/rerun"%(t,I[k]),"","rerun",I[k])
 def cancel(ms,k): go(ms,"POST %s%s/cancel"%(t,I[k]),"","cancel",I[k])
 def stat(ms,k): go(ms,"GET %s%s/status"%(t,I[k]),"","stat",I[k])
 S=1000; M=60*S; DAY=86400*S
-claim(0,"a"); cancel(0,0); report(0,0,0,"completed"); reclaim(0,0,0); rerun(0,0)
-create(0,0,"lowest",1,DAY); create(1,1,"high",5,DAY); create(2,2,"lowest",0,DAY)
-reclaim(S,0,0); reclaim(S,0,1); report(S,0,0,"failed")
-claim(10*S,"a"); claim(11*S,"b",2,True); claim(12*S,"b",32)
-reclaim(5*M,1,0); report(6*M,1,0,"completed"); report(6*M,1,0,"completed"); report(6*M,1,0,"failed")
-report(7*M,0,0,"intermittent-task"); rerun(7*M,0); claim(8*M,"a",None,True)
-stat(20*M+11*S-1,2); stat(20*M+11*S,2); report(20*M+12*S,2,0,"completed"); reclaim(20*M+12*S,2,0)
-rerun(21*M,2); rerun(21*M,2); claim(22*M,"a")
-report(23*M,0,1,"worker-shutdown"); report(23*M,2,1,"malformed-payload"); report(23*M,2,1,"malformed-payload"); report(23*M,2,1,"superseded")
-create(24*M,3,"medium",0,30*M); rerun(24*M,1); claim(25*M,"b",2); stat(0,3)
-cancel(26*M,1); cancel(26*M,1); report(26*M,1,1,"failed")
-stat(30*M-1,3); stat(30*M,3); rerun(30*M,3); report(30*M,3,0,"completed")
-raw(31*M,"POST %sx/cancel"%t,"",400,dict(code="InputError",details=dict(name="taskId",rule=22),message="the request breaks a rule"))
-raw(31*M,"POST %s%s/runs/50/completed"%(t,I[0]),"",400,dict(code="InputError",details=dict(name="runId",rule=22),message="the request breaks a rule"))
-raw(31*M,"POST %s%s/runs/01/completed"%(t,I[0]),"",400,dict(code="InputError",details=dict(name="runId",rule=22),message="the request breaks a rule"))
-raw(31*M,"POST /api/queue/v1/claim-work/prov",'{"workerGroup":"g","workerId":"a"}',400,dict(code="InputError",details=dict(name="queue",rule=22),message="the request breaks a rule"))
-raw(31*M,"POST /api/queue/v1/claim-work/prov/wt",'{"workerGroup":"g"}',400,dict(code="InputError",details=dict(rule=23),message="the request breaks a rule"))
-raw(31*M,"POST /api/queue/v1/claim-work/prov/wt",'{"tasks":33,"workerGroup":"g","workerId":"a"}',400,dict(code="InputError",details=dict(rule=23),message="the request breaks a rule"))
-raw(31*M,"POST %s%s/runs/0/exception"%(t,I[0]),'{"reason":"completed"}',400,dict(code="InputError",details=dict(rule=24),message="the request breaks a rule"))
-raw(31*M,"POST %s%s/runs/0/exception"%(t,I[0]),'reason',400,dict(code="InputError",details=dict(rule=20),message="the request breaks a rule"))
+# a task with the smallest definition, whose end is left to `more`
+def plain(ms,k,more,retries=5,dl=DAY): go(ms,"PUT "+t+I[k],'{"created":"%s","deadline":"%s","metadata":{"description":"d","name":"n","owner":"o@example.com","source":"https://example.com/"},"payload":{}%s,"taskQueueId":"prov/wt"}'%(T(B),T(B+dl),more),"create" if f.row(I[k]) is None else "stat",I[k],*(("lowest",retries,B+dl) if f.row(I[k]) is None else ()))
+# two workers, of whom one dies
+def workers():
+    claim(0,"a"); cancel(0,0); report(0,0,0,"completed"); reclaim(0,0,0); rerun(0,0)
+    create(0,0,"lowest",1,DAY); create(1,1,"high",5,DAY); create(2,2,"lowest",0,DAY)
+    reclaim(S,0,0); reclaim(S,0,1); report(S,0,0,"failed")
+    claim(10*S,"a"); claim(11*S,"b",2,True); claim(12*S,"b",32)
+    reclaim(5*M,1,0); report(6*M,1,0,"completed"); report(6*M,1,0,"completed"); report(6*M,1,0,"failed")
+    report(7*M,0,0,"intermittent-task"); rerun(7*M,0); claim(8*M,"a",None,True)
+    stat(20*M+11*S-1,2); stat(20*M+11*S,2); report(20*M+12*S,2,0,"completed"); reclaim(20*M+12*S,2,0)
+    rerun(21*M,2); rerun(21*M,2); claim(22*M,"a")
+    report(23*M,0,1,"worker-shutdown"); report(23*M,2,1,"malformed-payload"); report(23*M,2,1,"malformed-payload"); report(23*M,2,1,"superseded")
+    create(24*M,3,"medium",0,30*M); rerun(24*M,1); claim(25*M,"b",2); stat(0,3)
+    cancel(26*M,1); cancel(26*M,1); report(26*M,1,1,"failed")
+    stat(30*M-1,3); stat(30*M,3); rerun(30*M,3); report(30*M,3,0,"completed")
+    raw(31*M,"POST %sx/cancel"%t,"",400,dict(code="InputError",details=dict(name="taskId",rule=22),message="the request breaks a rule"))
+    raw(31*M,"POST %s%s/runs/50/completed"%(t,I[0]),"",400,dict(code="InputError",details=dict(name="runId",rule=22),message="the request breaks a rule"))
+    raw(31*M,"POST %s%s/runs/01/completed"%(t,I[0]),"",400,dict(code="InputError",details=dict(name="runId",rule=22),message="the request breaks a rule"))
+    raw(31*M,"POST /api/queue/v1/claim-work/prov",'{"workerGroup":"g","workerId":"a"}',400,dict(code="InputError",details=dict(name="queue",rule=22),message="the request breaks a rule"))
+    raw(31*M,"POST /api/queue/v1/claim-work/prov/wt",'{"workerGroup":"g"}',400,dict(code="InputError",details=dict(rule=23),message="the request breaks a rule"))
+    raw(31*M,"POST /api/queue/v1/claim-work/prov/wt",'{"tasks":33,"workerGroup":"g","workerId":"a"}',400,dict(code="InputError",details=dict(rule=23),message="the request breaks a rule"))
+    raw(31*M,"POST %s%s/runs/0/exception"%(t,I[0]),'{"reason":"completed"}',400,dict(code="InputError",details=dict(rule=24),message="the request breaks a rule"))
+    raw(31*M,"POST %s%s/runs/0/exception"%(t,I[0]),'reason',400,dict(code="InputError",details=dict(rule=20),message="the request breaks a rule"))
+# a task that a worker has is made again
+def again(): plain(0,0,""); claim(10*S,"w"); plain(11*S,0,"")
+# a claim is kept, and lapses at its end; then the clock goes back
+def lapse(): plain(0,0,""); claim(10*S,"w"); reclaim(20*M+10*S-1,0,0); report(40*M+10*S-1,0,0,"completed"); stat(0,0)
+# a claim lapses and no retry is left
+def last(): plain(0,0,',"retries":0',0); claim(10*S,"w"); stat(20*M+10*S,0)
+# a claim and the deadline end together
+def deadline(): plain(0,0,"",5,20*M+10*S); claim(10*S,"w"); stat(20*M+10*S,0)
+# two faults that may pass, and one retry
+def retry(): plain(0,0,',"retries":1',1); claim(10*S,"w"); report(11*S,0,0,"intermittent-task"); claim(12*S,"w"); report(13*S,0,1,"intermittent-task")
+{"workers":workers,"again":again,"lapse":lapse,"last":last,"deadline":deadline,"retry":retry}[sys.argv[1]]()
 for ms, req, body, st, rep in rows:
     print('    (\n        %s,\n        "%s",\n        r#"%s"#,\n        "%s",\n        r#"%s"#,\n    ),' % (format(ms, '_'), req, body, st, rep))

@@ -132,7 +132,7 @@ pub none_from : {A : Type 0} (o : Option A) → ((found : A) → o ≡ Some foun
 none_from None impossible = refl
 none_from (Some found) impossible = absurd (impossible found refl)
 
-bytes_eq-refl : (bs : List ℕ) → bytes_eq bs bs ≡ true
+pub bytes_eq-refl : (bs : List ℕ) → bytes_eq bs bs ≡ true
 bytes_eq-refl bs = (bytes_eq-Decides bs bs).1 refl
 
 -- a list that begins so

@@ -55,21 +55,21 @@ IsCreateCall body (Some id) call = IsTaskBody body id call
 
 -- ---- claimWork
 
--- the members of a request for work, but for the number of runs
-abbrev pub worker_members : WorkRequest → List (List ℕ × Document)
-worker_members work = (codes "workerGroup", text work.worker_group) ∷ (codes "workerId", text work.worker_id) ∷ []
+-- the members of a request for work that tell who the worker is
+abbrev pub worker_members : List ℕ → List ℕ → List (List ℕ × Document)
+worker_members group id = (codes "workerGroup", text group) ∷ (codes "workerId", text id) ∷ []
 
--- how many runs it asks for: 1 to 32, and one where it does not say so
-abbrev pub SaysCount : Document → WorkRequest → Type 0
-SaysCount d work =
-    ((d ≡ object (members_of ((codes "tasks", whole (pos work.tasks)) ∷ worker_members work))) × (1 ≤ work.tasks) × (work.tasks ≤ 32))
-    ⊎ ((d ≡ object (members_of (worker_members work))) × (work.tasks ≡ 1))
+-- a document asks for so many runs, 1 to 32, for the worker of these names; for one, where it does not say how many; it says no more
+abbrev pub AsksFor : ℕ → List ℕ → List ℕ → Document → Type 0
+AsksFor tasks group id d =
+    ((d ≡ object (members_of ((codes "tasks", whole (pos tasks)) ∷ worker_members group id))) × (1 ≤ tasks) × (tasks ≤ 32))
+    ⊎ ((d ≡ object (members_of (worker_members group id))) × (tasks ≡ 1))
 
--- a document is a request for work: the worker, by two identifiers, how many runs it takes, and no more
+-- a document is a request for work, of a worker that two identifiers name
 pub record SaysWork (d : Document) (work : WorkRequest) : Type 0 where
   pub group : IsIdentifier work.worker_group
   pub id : IsIdentifier work.worker_id
-  pub is : SaysCount d work
+  pub is : AsksFor work.tasks work.worker_group work.worker_id d
 
 -- a document is none
 abbrev pub IsNoWork : Document → BodyFault → Type 0

@@ -1,4 +1,6 @@
 pub mod Bodies
+pub mod Fitting
+pub mod Named
 pub mod Parts
 pub mod Pieces
 pub mod Posts

@@ -1,5 +1,5 @@
 -- The routes of POST as the code has them; for private clauses.
-use Rattle.std.specs.Prelude.{ℕ, codes, List, [], ◌∷◌}
+use Rattle.std.specs.Prelude.{ℕ, Bool, true, false, codes, bytes_eq, List, [], ◌∷◌}
 use Rattle.farm_record.specs.declared.change.Report.TheVariants.{Completed as ended_well, Failed as ended_ill}
 use Rattle.farm_machine.specs.declared.question.Call.TheVariants.{RerunTask, CancelTask}
 use Rattle.api_routes.specs.declared.paths.Piece.{Piece}
@@ -14,6 +14,17 @@ use Rattle.api_routes.specs.Segments.{Segment, word, parameter}
 abbrev pub segment_of : Piece → Segment
 segment_of (Word w) = word w.now
 segment_of Parameter = parameter
+
+-- a part of a path fits it
+abbrev pub fits : Segment → List ℕ → Bool
+fits (word w) part = bytes_eq part w
+fits parameter [] = false
+fits parameter (b ∷ bs) = true
+
+-- it stands for a parameter
+abbrev pub is_parameter : Segment → Bool
+is_parameter (word w) = false
+is_parameter parameter = true
 
 -- the route of each
 abbrev pub route_of : List ℕ → Post → Route

@@ -1,5 +1,6 @@
 -- What POST calls: its routes, and the call of each (the queue service's routes of the Taskcluster reference).
-use Rattle.std.specs.Prelude.{◌≡◌, ◌⊎◌, ℕ, zero, suc, decimal, codes, bytes_eq, List, [], ◌∷◌, ◌++◌, map, find, Option, Some, None}
+use Rattle.std.specs.Prelude.{◌≡◌, ◌⊎◌, ℕ, decimal, codes, bytes_eq, List, [], ◌∷◌, map, find, Option, Some, None}
+use Rattle.std.specs.List.{range_with_len}
 use Rattle.percent_encoding.specs.Percent.{percent_decode}
 use Rattle.farm_text.specs.Slug.{slug_of}
 use Rattle.task_defs.specs.Forms.{IsIdentifier, queue_name}
@@ -36,14 +37,9 @@ task_route verb asks = record { segments = queue_route (word (codes "task") ∷ 
 
 -- ---- of a run
 
--- the numbers below this one
-abbrev pub below : ℕ → List ℕ
-below zero = []
-below (suc number) = below number ++ number ∷ []
-
 -- the number of a run, as it is written: 0 to 49, without a leading zero
-abbrev pub run_of : List ℕ → Option ℕ
-run_of text = find (λ run. bytes_eq (decimal run) text) (below 50)
+unfoldable pub run_of : List ℕ → Option ℕ
+run_of text = find (λ run. bytes_eq (decimal run) text) (range_with_len 0 50)
 
 -- the call of a run, by the id of its task and its number
 abbrev pub CallsRunOr : (RunName → Call → Type 0) → Option (List ℕ) → Option ℕ → Call → Type 0

@@ -1,13 +1,14 @@
 //! The call that the body of a message says.
-ghost use Rattle.std.specs.Prelude.{◌≡◌, IfOk, MatchOption};
+ghost use Rattle.std.specs.Prelude.{◌≡◌, ℕ, List, IfOk, MatchOption};
 ghost use Rattle.farm_text.specs.Doc.{document};
 ghost use Rattle.farm_machine.specs.declared.question.WorkRequest.{WorkRequest as Request};
-ghost use Rattle.farm_record.specs.declared.change.Report.{Report as Reported};
-ghost use Rattle.api_routes.specs.Bodies.{IsTaskBody, IsWorkBody, SaysWork, IsReasonBody, SaysReason};
+ghost use Rattle.task_defs.specs.Forms.{IsIdentifier};
+ghost use Rattle.api_routes.specs.Bodies.{IsTaskBody, IsWorkBody, SaysWork, IsReasonBody};
 ghost use Rattle.api_routes.specs.Said.{IsSaid};
 
+use crate::requests::{asked_of, reason_of};
 use farm_machine::question::{BodyFault, Call, WorkRequest};
-use farm_record::{Creation, Report, Resolution, RunName};
+use farm_record::{Creation, Resolution, RunName};
 use farm_text::{Doc, ReadFault, SlugId, Text};
 use std::alloc::{AllocError, Global};
 use task_defs::{DefError, Identifier, TaskQueue, read_task};
@@ -65,43 +66,28 @@ fn work_of(alloc: Global, queue: TaskQueue, doc: &Doc) -> Result<Option<WorkRequ
     ensures { IfOk result (λ found. MatchOption found ((work : Request) → ¬ SaysWork (document doc.now) work)
         (λ work. (work.queue ≡ queue) × SaysWork (document doc.now) work)) }
 {
-    let Some(tasks) = tasks_of(doc) else {
+    let Some(asked) = asked_of(doc) else {
         return Ok(None);
     };
-    let Some(worker_group) = identifier(alloc, doc.get("workerGroup"))? else {
+    let Some(worker_group) = identifier(alloc, asked.worker_group)? else {
         return Ok(None);
     };
-    let Some(worker_id) = identifier(alloc, doc.get("workerId"))? else {
+    let Some(worker_id) = identifier(alloc, asked.worker_id)? else {
         return Ok(None);
     };
     Ok(Some(WorkRequest {
         queue,
         worker_group,
         worker_id,
-        tasks,
+        tasks: asked.tasks,
     }))
 }
 
-/// How many runs an object asks for that has no other keys than a request for work.
-fn tasks_of(doc: &Doc) -> Option<u8> {
-    let Doc::Map(members) = doc else {
-        return None;
-    };
-    match members.get("tasks") {
-        None if members.len() == 2 => Some(1),
-        Some(Doc::Int(tasks)) if members.len() == 3 && 1 <= *tasks && *tasks <= 32 => {
-            Some(*tasks as u8)
-        }
-        _ => None,
-    }
-}
-
-/// The identifier that a value is, if it is one.
-fn identifier(alloc: Global, value: Option<&Doc>) -> Result<Option<Identifier>, AllocError> {
-    match value {
-        Some(Doc::Text(text)) => Ok(Identifier::new(Text::from_str(alloc, text.as_str())?)),
-        _ => Ok(None),
-    }
+/// The identifier of a text, if it is one.
+fn identifier(alloc: Global, text: &str) -> Result<Option<Identifier>, AllocError>
+    ensures { IfOk result (λ found. MatchOption found (¬ IsIdentifier text.now) (λ i. IsIdentifier text.now × (i ≡ text.now))) }
+{
+    Ok(Identifier::new(Text::from_str(alloc, text)?))
 }
 
 /// The report that a run ended as an exception, for the reason that the body says, or the body's fault.
@@ -119,31 +105,5 @@ pub(crate) fn reason_call(alloc: Global, name: RunName, body: &[u8]) -> Result<C
             reason,
         })),
         None => Ok(Call::BadBody(BodyFault::NoReason)),
-    }
-}
-
-/// The reason that a document says, if it says one.
-fn reason_of(doc: &Doc) -> Option<Report>
-    ensures { MatchOption result ((report : Reported) → ¬ SaysReason (document doc.now) report) (SaysReason (document doc.now)) }
-{
-    let Doc::Map(members) = doc else {
-        return None;
-    };
-    match members.get("reason") {
-        Some(Doc::Text(text)) if members.len() == 1 => exception(text.as_str()),
-        _ => None,
-    }
-}
-
-/// The exception of this name.
-fn exception(name: &str) -> Option<Report> {
-    match name {
-        "superseded" => Some(Report::Superseded),
-        "worker-shutdown" => Some(Report::WorkerShutdown),
-        "malformed-payload" => Some(Report::MalformedPayload),
-        "resource-unavailable" => Some(Report::ResourceUnavailable),
-        "internal-error" => Some(Report::InternalError),
-        "intermittent-task" => Some(Report::IntermittentTask),
-        _ => None,
     }
 }

@@ -22,6 +22,8 @@ use std::alloc::{AllocError, Global};
 use std::test::Fail;
 
 mod clients;
+mod rows;
+mod runs;
 mod tasks;
 mod work;
 

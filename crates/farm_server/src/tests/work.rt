@@ -1,10 +1,7 @@
 //! Two workers over connections in memory, of whom one dies, with replies by a model of the rules that was written apart from this program.
-use super::tasks::{CREATED, farm, written_at};
+use super::rows::{Row, first_other};
+use super::tasks::farm;
 use super::*;
-
-/// How many milliseconds after the creation a request comes, its method and target, its body, the status of the reply with its reason, and
-/// the reply's body.
-type Row = (u64, &'static str, &'static str, &'static str, &'static str);
 
 const ROWS: [Row; 51] = [
     (
@@ -366,46 +363,9 @@ const ROWS: [Row; 51] = [
     ),
 ];
 
-/// The bytes of a row's request.
-fn request_of(alloc: Global, row: &Row) -> Result<String, AllocError> {
-    let length = row.2.len();
-    format!(in alloc;
-        "{} HTTP/1.1\r\nContent-Length: {length}\r\n\r\n{}",
-        row.1, row.2
-    )
-}
-
-/// The bytes of its reply.
-fn reply_of(alloc: Global, row: &Row) -> Result<String, AllocError> {
-    let length = row.4.len();
-    format!(in alloc;
-        "HTTP/1.1 {}\r\nContent-Length: {length}\r\nContent-Type: application/json\r\n\r\n{}",
-        row.3, row.4
-    )
-}
-
-/// Whether a desk gives the reply of a row to its request.
-fn is_answered(alloc: Global, desk: &mut Solo<Bare>, row: &Row) -> Result<bool, Fail> {
-    let at = Moment::from_millis(CREATED + row.0).ok_or("a moment")?;
-    let request = request_of(alloc, row)?;
-    let written = written_at(alloc, desk, request.as_str().as_bytes(), at)?;
-    let wanted = reply_of(alloc, row)?;
-    Ok(written.as_slice() == wanted.as_str().as_bytes())
-}
-
-/// The place of the first row that is answered otherwise, or how many there are.
-fn first_other(alloc: Global, desk: &mut Solo<Bare>) -> Result<usize, Fail> {
-    for (place, row) in ROWS.iter().enumerate() {
-        if !is_answered(alloc, desk, row)? {
-            return Ok(place);
-        }
-    }
-    Ok(ROWS.len())
-}
-
 #[test]
 fn two_workers_share_a_queue(rt: HostRuntime) -> Result<(), Fail> {
     let mut desk = farm(rt.alloc(), &["*"], 1_000_000)?;
-    assert_eq!(rt; first_other(rt.alloc(), &mut desk)?, 51);
+    assert_eq!(rt; first_other(rt.alloc(), &mut desk, &ROWS)?, 51);
     Ok(())
 }
