@@ -1,5 +1,5 @@
 -- Members put one after the other, and a run's document of its parts.
-use Rattle.std.proofs.Common.{◌≡◌, ◌≤◌, ℕ, suc, pos, List, [], ◌∷◌, ◌++◌, codes, Option, Some, None, refl, sym, ap, ◌∙◌, append_assoc, append-nil, ◌<◌, length, drop, get_or, rules}
+use Rattle.std.proofs.Common.{◌≡◌, ◌≤◌, ℕ, suc, List, [], ◌∷◌, ◌++◌, Option, Some, None, refl, sym, ap, ◌∙◌, append_assoc, append-nil, ◌<◌, length, drop, get_or, rules}
 use Rattle.std.proofs.Math.Seq.{drop-cons}
 use Rattle.std.proofs.lemmas.List.{drop_all}
 use Rattle.task_statuses.specs.Calendar.{moment_text}
@@ -10,7 +10,6 @@ use Rattle.farm_text.specs.declared.doc.Doc.{the_lemmas}
 use Rattle.farm_text.specs.declared.doc.Doc.TheVariants.{Text as TextDoc}
 use Rattle.task_statuses.proofs.CalendarLemmas.{IsMomentText-moment_text}
 use Rattle.farm_text.proofs.MomentLemmas.{IsMomentText-one}
-use Rattle.run_states.specs.Runs.{run_state}
 use Rattle.run_states.specs.declared.run.Claim.{Claim}
 use Rattle.run_states.specs.declared.run.Outcome.{Outcome}
 use Rattle.run_states.specs.declared.run.Run.{Run}

@@ -1,4 +1,4 @@
-use Rattle.std.proofs.Common.{List, ℕ, All, ◌∷◌, ◌++◌, sym, ap, ◌∙◌, subst}
+use Rattle.std.proofs.Common.{List, ℕ, All, ◌++◌, sym, ap, ◌∙◌, subst}
 use Rattle.scope_sets.specs.Scopes.{IsPrintable}
 use Rattle.scope_sets.specs.Expressions.{Expression, one, any_of, members_of}
 use Rattle.scope_sets.proofs.ExpressionLemmas.{view-AnyOf}

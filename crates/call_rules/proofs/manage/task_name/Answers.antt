@@ -1,4 +1,4 @@
-use Rattle.std.proofs.Common.{List, ℕ, All, sym, ◌∙◌, subst}
+use Rattle.std.proofs.Common.{All, sym, ◌∙◌, subst}
 use Rattle.farm_text.specs.Slug.{IsUuid4}
 use Rattle.scope_sets.specs.Scopes.{IsPrintable}
 use Rattle.call_rules.proofs.PolicyLemmas.{slug_printable}

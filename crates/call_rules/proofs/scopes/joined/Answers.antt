@@ -1,4 +1,4 @@
-use Rattle.std.proofs.Common.{List, ℕ, All, sym, ◌∙◌, subst}
+use Rattle.std.proofs.Common.{All, sym, subst}
 use Rattle.scope_sets.specs.Scopes.{IsPrintable}
 use Rattle.call_rules.proofs.PolicyLemmas.{joined_printable, three_pieces}
 use Rattle.call_rules.proofs.scopes.joined.Goals as goal

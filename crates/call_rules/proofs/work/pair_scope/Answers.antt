@@ -1,4 +1,4 @@
-use Rattle.std.proofs.Common.{◌≡◌, List, ℕ, All, ◌∷◌, ◌++◌, sym, ap, ◌∙◌, subst, IfOk}
+use Rattle.std.proofs.Common.{All, sym, subst}
 use Rattle.scope_sets.specs.Scopes.{IsPrintable}
 use Rattle.call_rules.proofs.PolicyLemmas.{identifier_printable}
 use Rattle.call_rules.proofs.work.pair_scope.Goals as goal

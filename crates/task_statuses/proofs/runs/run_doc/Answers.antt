@@ -1,5 +1,5 @@
 use Rattle.std.proofs.Common.{ap, ◌∙◌}
-use Rattle.farm_text.specs.Document.{object, Members}
+use Rattle.farm_text.specs.Document.{object}
 use Rattle.task_statuses.specs.Parts.{with_claim, with_outcome}
 use Rattle.task_statuses.proofs.MemberLemmas.{run_whole}
 use Rattle.task_statuses.proofs.runs.run_doc.Goals as goal
