@@ -1,5 +1,5 @@
 -- The routes of POST, one by one.
-use Rattle.std.proofs.Common.{◌≡◌, ℕ, ◌+◌, ◌<◌, ◌≤◌, Bool, true, false, cond, List, [], ◌∷◌, map, length, drop, get_or, Option, Some, None, Result, Ok, Err, IfOk, refl, sym, ap, ◌∙◌, subst, arith, add-one, drop-cons}
+use Rattle.std.proofs.Common.{◌≡◌, ℕ, ◌+◌, ◌<◌, ◌≤◌, Bool, true, false, cond, List, [], ◌∷◌, map, length, drop, get_or, Option, Some, None, Result, Ok, Err, IfOk, refl, sym, ap, ◌∙◌, arith, add-one, drop-cons}
 use Rattle.std.specs.List.{count_by}
 use Rattle.std.specs.Option.{option_map}
 use Rattle.std.specs.declared.alloc.AllocError.{AllocError}
@@ -11,7 +11,7 @@ use Rattle.farm_machine.specs.declared.question.Call.TheVariants.{NoRoute}
 use Rattle.api_routes.specs.declared.posts.Post.{Post}
 use Rattle.api_routes.specs.declared.posts.Post.TheVariants.{Rerun, Cancel, Claim, ClaimOfTwo, Reclaim, Completed, Failed, Exception}
 use Rattle.api_routes.specs.Pieces.{fits, is_parameter, route_of}
-use Rattle.api_routes.specs.Posts.{Route, CallsOr, CallsFirst}
+use Rattle.api_routes.specs.Posts.{CallsFirst}
 use Rattle.api_routes.specs.Segments.{Segment, word, parameter, parameters_in, parts_of, route_name}
 use Rattle.api_routes.proofs.FitLemmas.{fit_step}
 

@@ -1,6 +1,5 @@
 -- The name of a queue is a text.
-use Rattle.std.proofs.Common.{◌≡◌, ℕ, ◌<◌, List, ◌∷◌, ◌++◌, inl, inr, get_or, length, sym, subst, arith}
-use Rattle.std.specs.List.{All}
+use Rattle.std.proofs.Common.{ℕ, ◌<◌, List, ◌∷◌, inl, inr, get_or, length, sym, subst, arith}
 use Rattle.std.specs.Str.{IsUtf8}
 use Rattle.std.proofs.lemmas.List.Elements.{All-append, All-cons, All-get_or, All-weaker}
 use Rattle.std.proofs.lemmas.Str.{IsUtf8-from_ascii}

@@ -1,8 +1,8 @@
 -- What a body is, as the code reads it; for private clauses.
-use Rattle.std.specs.Prelude.{◌≡◌, ℕ, ◌≤◌, pos, codes, Bool, true, bytes_eq, List, [], ◌∷◌, Option, Some, None}
+use Rattle.std.specs.Prelude.{ℕ, pos, codes, bytes_eq, List, [], ◌∷◌, Option, Some, None}
 use Rattle.std.specs.Map.{lookup}
 use Rattle.farm_text.specs.Doc.{document as document_of}
-use Rattle.farm_text.specs.Document.{Document as AnyDocument, whole, text, object, members_of}
+use Rattle.farm_text.specs.Document.{Document as AnyDocument, whole, text}
 use Rattle.farm_record.specs.declared.change.Report.{Report}
 use Rattle.farm_record.specs.declared.change.Report.TheVariants.{Superseded, WorkerShutdown, MalformedPayload, ResourceUnavailable, InternalError, IntermittentTask}
 use Rattle.farm_machine.specs.declared.question.BodyFault.{BodyFault}

@@ -1,9 +1,8 @@
 -- A part that is found is put behind the others.
-use Rattle.std.proofs.Common.{◌≡◌, ℕ, ◌+◌, ◌++◌, [], ◌∷◌, List, length, map, option_map, Bor, sym, ap, ◌∙◌, rules, arith}
+use Rattle.std.proofs.Common.{◌≡◌, ℕ, ◌++◌, [], ◌∷◌, List, length, map, Bor, sym, ap, ◌∙◌, rules}
 use Rattle.std.proofs.lemmas.List.{map-append, length-map, length_push}
 use Rattle.std.proofs.lemmas.Slice.Zip.{zip_turn}
 use Rattle.api_routes.specs.Pieces.{segment_of}
-use Rattle.api_routes.specs.Segments.{parameters_in}
 use Rattle.api_routes.proofs.FitLemmas.{fit_length, fit_turn}
 use Rattle.api_routes.proofs.paths.parameters.Goals as goal
 

@@ -1,4 +1,4 @@
-use Rattle.std.proofs.Common.{◌≡◌, ◌++◌, List, ℕ, map, length, drop}
+use Rattle.std.proofs.Common.{◌≡◌, ◌++◌, map, length, drop}
 use Rattle.std.specs.Option.{option_map}
 use Rattle.api_routes.specs.Pieces.{segment_of}
 use Rattle.api_routes.specs.Segments.{parameters_in}

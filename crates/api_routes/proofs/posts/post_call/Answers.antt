@@ -1,5 +1,5 @@
 -- The first route that fits says the call, and those before it let it pass.
-use Rattle.std.proofs.Common.{◌≡◌, ℕ, ◌<◌, List, [], map, length, Some, None, Bor, sym, ap, ◌∙◌, arith}
+use Rattle.std.proofs.Common.{◌≡◌, ℕ, List, [], map, length, Some, None, Bor, sym, ap, ◌∙◌, arith}
 use Rattle.std.proofs.lemmas.List.{length-map}
 use Rattle.percent_encoding.specs.Percent.{percent_decode}
 use Rattle.farm_machine.specs.declared.question.Call.{Call}

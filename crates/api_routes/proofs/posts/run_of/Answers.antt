@@ -1,4 +1,4 @@
-use Rattle.std.proofs.Common.{ℕ, Bool, decimal, bytes_eq, sym, ◌∙◌, arith}
+use Rattle.std.proofs.Common.{decimal, bytes_eq, sym, ◌∙◌, arith}
 use Rattle.api_routes.specs.Posts.{run_of}
 use Rattle.api_routes.proofs.NumberLemmas.{find_first, find_none}
 use Rattle.api_routes.proofs.posts.run_of.Goals as goal
