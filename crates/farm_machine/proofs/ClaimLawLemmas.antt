@@ -1,5 +1,5 @@
 -- Each run is claimed at most once.
-use Rattle.std.proofs.Common.{◌≡◌, ℕ, zero, suc, ◌+◌, ◌-◌, ◌≤◌, Bool, true, false, not, ◌&&◌, ◌==◌, cond, List, [], ◌∷◌, map, length, Option, Some, None, is_some, is_none, option_map, option_and_then, slice_get, bytes_eq, nat_lt, min, sum_by, count_by, refl, sym, ap, ◌∙◌, subst, arith}
+use Rattle.std.proofs.Common.{◌≡◌, ℕ, zero, suc, ◌+◌, ◌-◌, ◌≤◌, Bool, true, false, ◌&&◌, ◌==◌, cond, List, [], ◌∷◌, map, length, Option, Some, None, is_some, is_none, option_map, option_and_then, slice_get, bytes_eq, nat_lt, min, sum_by, count_by, refl, sym, ap, ◌∙◌, subst, arith}
 use Rattle.std.specs.List.{last_or, AllByRecursion, IsDistinct}
 use Rattle.std.specs.Option.{option_map_or}
 use Rattle.std.proofs.lemmas.Bool.{and_parts, eqb-true}
@@ -39,14 +39,14 @@ use Rattle.farm_machine.specs.Config.{claim_millis}
 use Rattle.farm_machine.specs.Entry.{Asking, Entry, tick, call, finished, out_of_memory}
 use Rattle.farm_machine.specs.Judgement.{Judgement}
 use Rattle.farm_machine.specs.Laws.{creation_of, creation_of_kind}
-use Rattle.farm_machine.specs.Order.{case_of, done}
-use Rattle.farm_machine.specs.RunLaws.{is_same_run, claims_by_kind, claims_by, claims_in}
+use Rattle.farm_machine.specs.Order.{case_of}
+use Rattle.farm_machine.specs.RunLaws.{is_same_run, claims_by, claims_in, run_in, claims_of}
 use Rattle.farm_machine.specs.State.{State}
 use Rattle.farm_machine.specs.Step.{lawful, after, farm_rules}
 use Rattle.farm_machine.specs.Verdict.{form_of, setting_of, IsVerdict}
 use Rattle.farm_machine.specs.Works.{at_moment}
 use Rattle.farm_machine.proofs.ChangeLemmas.{change-done, verdict-creates}
-use Rattle.farm_machine.proofs.DeedLemmas.{each-task, each-run, each-create, work_kind}
+use Rattle.farm_machine.proofs.DeedLemmas.{each-task, each-run, each-create}
 use Rattle.farm_machine.proofs.OnceLemmas.{changed-stays, entry-stays}
 use Rattle.farm_machine.proofs.RunLawLemmas.{found-run}
 
@@ -352,5 +352,13 @@ claimed-few name state (entry ∷ rest) own legal =
     let sum : sum_by (claims_in name) (entry ∷ rest) ≡ claims_in name entry + sum_by (claims_in name) rest = sum_by-cons (claims_in name) entry rest in
     omega arith
 
-pub claimed-once : (opening : State) (history : List Entry) (name : RunName) → HaveOwnIds opening.contents.rows → IsLegal farm_rules opening history → sum_by (claims_in name) history ≤ 1
-claimed-once opening history name own legal = let few = claimed-few name opening history own legal in omega arith
+-- how many claims a run stands in
+claims-are : (run : Option Run) → claims_of run ≡ one_if (claim_in run)
+claims-are None = refl
+claims-are (Some run) = refl
+
+pub claimed-once : (opening : State) (history : List Entry) (name : RunName) → HaveOwnIds opening.contents.rows → IsLegal farm_rules opening history → claims_of (run_in name opening) + sum_by (claims_in name) history ≤ 1
+claimed-once opening history name own legal =
+    let few : sum_by (claims_in name) history + one_if (has_claim name opening.contents.rows) ≤ 1 = claimed-few name opening history own legal in
+    let same : claims_of (run_in name opening) ≡ one_if (has_claim name opening.contents.rows) = claims-are (run_in name opening) in
+    omega arith

@@ -1,12 +1,11 @@
 -- A report ends a run only before the end of its claim.
-use Rattle.std.proofs.Common.{◌≡◌, ℕ, ◌<◌, Bool, true, false, not, ◌&&◌, ◌||◌, ◌==◌, cond, List, [], ◌∷◌, ◌++◌, length, find, Option, Some, None, is_some, is_none, option_map, option_and_then, slice_get, bytes_eq, nat_lt, nat_le, min, ◌+◌, refl, sym, ap, ◌∙◌, subst}
+use Rattle.std.proofs.Common.{◌≡◌, ℕ, ◌<◌, Bool, true, false, not, ◌&&◌, ◌||◌, ◌==◌, cond, List, [], ◌∷◌, length, find, Option, Some, None, is_some, is_none, option_map, option_and_then, slice_get, bytes_eq, nat_lt, nat_le, min, ◌+◌, refl, sym, ap, ◌∙◌, subst}
 use Rattle.std.specs.List.{last_or, list_any}
 use Rattle.std.specs.Option.{option_to_list}
 use Rattle.std.proofs.lemmas.Bool.{and_parts, leb-false}
 use Rattle.std.proofs.lemmas.List.Folds.{list_any-append}
 use Rattle.history.specs.Histories.{end_state}
 use Rattle.farm_record.specs.declared.change.Change.{Change}
-use Rattle.farm_record.specs.declared.change.Creation.{Creation}
 use Rattle.farm_record.specs.declared.change.Kind.{Kind}
 use Rattle.farm_record.specs.declared.change.Kind.TheVariants.{Resolve}
 use Rattle.farm_record.specs.declared.change.Resolution.{Resolution}
@@ -45,7 +44,7 @@ use Rattle.farm_machine.specs.Verdict.{form_of, create_form_where, setting_of, I
 use Rattle.farm_machine.specs.Works.{at_moment}
 use Rattle.farm_machine.proofs.ChangeLemmas.{change-done}
 use Rattle.farm_machine.proofs.DeedLemmas.{each-task, each-run, each-create, each-work}
-use Rattle.farm_machine.proofs.LastRunLemmas.{is_sound, are_sound, Runs, runs-at, open-last, entries-sound}
+use Rattle.farm_machine.proofs.LastRunLemmas.{is_sound, are_sound, runs-at, open-last, entries-sound}
 use Rattle.farm_machine.proofs.MayLemmas.{no_not, passed}
 use Rattle.farm_machine.proofs.OnceLemmas.{entry-may}
 
@@ -172,12 +171,18 @@ some-claim : (claim : Option Claim) (outcome : Option Outcome) → (is_some clai
 some-claim None outcome is = cc
 some-claim (Some c) outcome is = (c, refl)
 
+-- and has not ended
+none-ended : (claim : Option Claim) (outcome : Option Outcome) → (is_some claim && is_none outcome) ≡ true → outcome ≡ None
+none-ended None outcome is = cc
+none-ended (Some c) None is = refl
+none-ended (Some c) (Some o) is = cc
+
 run-ends : (run : Run) (claim : Claim) → is_running_run run ≡ true → run.claim ≡ Some claim → run_due run ≡ Some claim.taken_until
 run-ends run claim running has =
     ap (λ b. cond b (option_map (λ (c : Claim). c.taken_until) run.claim) None) running ∙ ap (option_map (λ (c : Claim). c.taken_until)) has
 
 pub reports-in-time : (config : Config) (before after : List Entry) (asking : Asking) (judgement : Judgement) (at : ℕ) (report : Resolution) → Finished (empty_state config) before after asking judgement → judgement.change ≡ Some (at_moment at (Resolve report))
-    → (run : Run) × (claim : Claim) × (run_in (record { id = report.id; run = report.run }) (end_state farm_rules (empty_state config) before) ≡ Some run) × (run.claim ≡ Some claim) × (at < claim.taken_until)
+    → (run : Run) × (claim : Claim) × (run_in (record { id = report.id; run = report.run }) (end_state farm_rules (empty_state config) before) ≡ Some run) × (run.outcome ≡ None) × (run.claim ≡ Some claim) × (at < claim.taken_until)
 reports-in-time config before after asking judgement at report is change =
     let state = end_state farm_rules (empty_state config) before in
     let may = entry-may (empty_state config) before after (call asking (finished judgement)) is.legal in
@@ -193,4 +198,4 @@ reports-in-time config before after asking judgement at report is change =
     let changes : at_moment here.moment (Resolve report) ≡ at_moment at (Resolve report) = cc in
     let moments : here.moment ≡ at = ap (λ (c : Change). c.at) changes in
     let P : ℕ → Type 0 = λ m. m < claim.0.taken_until in
-    (one.run, claim.0, ap (option_and_then (λ (row : Row). slice_get row.runs report.run)) reports.found ∙ one.there, claim.1, subst P moments in_time)
+    (one.run, claim.0, ap (option_and_then (λ (row : Row). slice_get row.runs report.run)) reports.found ∙ one.there, none-ended one.run.claim one.run.outcome one.running, claim.1, subst P moments in_time)

@@ -1,5 +1,5 @@
 -- Of each task that a farm made, every run but the last has ended, whatever comes.
-use Rattle.std.proofs.Common.{◌≡◌, ℕ, zero, suc, ◌-◌, Bool, true, false, ◌&&◌, cond, List, [], ◌∷◌, ◌++◌, length, Option, Some, None, is_some, is_none, option_and_then, slice_get, nat_le, nat_lt, refl, ap, sym, ◌∙◌}
+use Rattle.std.proofs.Common.{◌≡◌, ℕ, zero, suc, ◌-◌, Bool, true, false, ◌&&◌, cond, List, [], ◌∷◌, ◌++◌, length, Option, Some, None, is_some, is_none, option_and_then, slice_get, nat_lt, refl, ap, sym, ◌∙◌}
 use Rattle.std.specs.List.{last_or, list_all, list_any}
 use Rattle.std.specs.Option.{option_map_or}
 use Rattle.std.proofs.lemmas.Bool.{and_parts, and_from}
@@ -18,7 +18,7 @@ use Rattle.run_states.specs.declared.run.Outcome.{Outcome}
 use Rattle.run_states.specs.declared.run.Run.{Run}
 use Rattle.run_states.specs.Reasons.{retry_after}
 use Rattle.run_states.specs.Runs.{is_running_run, run_due, taken, kept, ended, change_last, change_at, pending_run}
-use Rattle.run_states.specs.Rows.{Row, has_ended, is_resolved, is_pending, is_running_at, claim_due, loses_claim, runs_finished, finished, exceeded, new_row, scheduled}
+use Rattle.run_states.specs.Rows.{Row, has_ended, is_resolved, is_pending, is_running_at, loses_claim, runs_finished, finished, exceeded, new_row, scheduled}
 use Rattle.run_states.specs.Moves.{claimed, reclaimed, retried, followed, closed, resolved, expired, canceled, may_rerun, run_again}
 use Rattle.run_states.proofs.ClaimLemmas.{claim-open}
 use Rattle.run_states.proofs.RunLemmas.{get-last}

@@ -1,5 +1,5 @@
 -- A run that ended stays as it ended.
-use Rattle.std.proofs.Common.{◌≡◌, ℕ, zero, suc, Bool, true, false, List, [], ◌∷◌, ◌++◌, Option, Some, None, option_and_then, slice_get, bytes_eq, refl, ◌∙◌, subst}
+use Rattle.std.proofs.Common.{◌≡◌, ℕ, zero, suc, Bool, true, false, List, [], ◌∷◌, ◌++◌, Option, Some, None, option_and_then, slice_get, bytes_eq, refl, subst}
 use Rattle.history.specs.Histories.{IsLegal, end_state}
 use Rattle.history.proofs.HistoriesLemmas.{end_state-append}
 use Rattle.farm_record.specs.declared.change.RunName.{RunName}

@@ -1,4 +1,9 @@
 //! Calls of workers and of whoever manages a task, one after the other, with replies worked out by hand.
+ghost use Rattle.std.specs.Prelude.{◌≡◌, ◌≤◌, false, IfOk, OnOk};
+ghost use Rattle.farm_text.specs.declared.moment.TheConstants.{LAST_TOLD_MOMENT as last_told};
+ghost use Rattle.farm_rows.specs.Due.{is_due};
+ghost use Rattle.farm_machine.specs.Changes.{moment_of as moment_by};
+
 use crate::config::Config;
 use crate::question::{Call, Caller, Question, WorkRequest};
 use crate::reply::Reply;
@@ -6,7 +11,7 @@ use crate::step::{apply, moment_of, plan};
 use crate::tables::{Tables, due, tick};
 use crate::tests::{config, creation, first_task};
 use farm_record::{Report, Resolution, RunName};
-use farm_text::{Moment, SlugId, Text};
+use farm_text::{LAST_TOLD_MOMENT, Moment, SlugId, Text};
 use std::alloc::Global;
 use std::test::Fail;
 use task_defs::{Identifier, TaskQueue};
@@ -71,6 +76,31 @@ fn ask(
     asked(alloc, tables, config, after, call)
 }
 
+/// The moment so many milliseconds after the task was created.
+fn moment(after: u64) -> Result<Moment, Fail>
+    ensures { IfOk result (λ moment. moment ≤ last_told) }
+{
+    let millis = CREATED.checked_add(after).ok_or("a moment")?;
+    match Moment::from_millis(millis) {
+        Some(moment) if moment.millis() <= LAST_TOLD_MOMENT => Ok(moment),
+        _ => Err(Fail::from("no clock tells that moment")),
+    }
+}
+
+/// Resolves what is due when this is asked.
+fn reach(tables: &mut Tables, question: &Question) -> Result<(), Fail>
+    ensures { OnOk result (is_due tables.new (moment_by tables.new question.now) ≡ false) }
+{
+    let moment = moment_of(tables, question);
+    if due(tables, moment) {
+        tick(tables, moment);
+    }
+    if due(tables, moment_of(tables, question)) {
+        return Err(Fail::from("something is still due"));
+    }
+    Ok(())
+}
+
 /// The reply to a call so many milliseconds after the task was created.
 pub(crate) fn asked(
     alloc: Global,
@@ -79,12 +109,8 @@ pub(crate) fn asked(
     after: u64,
     call: Call,
 ) -> Result<Reply, Fail> {
-    let at = Moment::from_millis(CREATED + after).ok_or("a moment")?;
-    let question = Question::new(at, first_task()?, Caller::Anonymous, call);
-    let moment = moment_of(tables, &question);
-    if due(tables, moment) {
-        tick(tables, moment);
-    }
+    let question = Question::new(moment(after)?, first_task()?, Caller::Anonymous, call);
+    reach(tables, &question)?;
     let planned = plan(alloc, tables, config, question)?;
     Ok(apply(tables, planned))
 }

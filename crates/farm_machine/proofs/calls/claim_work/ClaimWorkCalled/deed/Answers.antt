@@ -1,6 +1,5 @@
 -- The runs that are next are taken, where there are some.
-use Rattle.std.proofs.Common.{◌≡◌, ◌≤◌, ℕ, min, length, true, false, refl, ap, rules}
-use Rattle.farm_rows.specs.Contents.{Contents}
+use Rattle.std.proofs.Common.{◌≡◌, min, true, false, refl, ap, rules}
 use Rattle.farm_machine.specs.Case.{Setting}
 use Rattle.farm_machine.proofs.MayLemmas.{claim-does, claim-reads}
 use Rattle.farm_machine.proofs.calls.claim_work.ClaimWorkCalled.deed.Goals as goal
