@@ -12,6 +12,8 @@ mod inputs;
 mod laws;
 mod lending;
 mod memory_house;
+#[cfg(test)]
+mod note_tests;
 mod run;
 mod signing;
 mod status;

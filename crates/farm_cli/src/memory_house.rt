@@ -11,6 +11,7 @@ use causes::{Failed, FaultCount};
 use farm_text::{ListClock, ListDraws};
 use http_wire::{Joined, MemoryLink, MemorySink, MemorySource};
 use std::alloc::Global;
+use std::io::ErrorKind;
 
 /// A house in memory. It has one farm file, and refuses to open a file of another name.
 ///
@@ -105,6 +106,10 @@ impl House for MemoryHouse {
         }
         self.refusals.raise();
         Err(Failed)
+    }
+
+    fn why_refused(&self) -> Option<ErrorKind> {
+        None
     }
 
     fn back_farm_file(&mut self, file: MemorySource) {
