@@ -20,8 +20,8 @@ pub const MOST_RETRIES: u8 = 49;
 
 /// A task that stands: its id, its definition, the retries that it has left and its runs.
 ///
-/// Its definition is shared with its copies. It has room for all its runs from its making, so nothing that happens to it later takes memory. The runs and the retries that are left
-/// are at most 50, so there is always room for a retry.
+/// Its definition is shared with its copies. It has room for all its runs from its making, so nothing that happens to it later takes
+/// memory. The runs and the retries that are left are at most 50, so there is always room for a retry.
 #[derive(Debug, Drop)]
 pub struct TaskRow {
     pub(crate) id: SlugId,
