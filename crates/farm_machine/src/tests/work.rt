@@ -1,15 +1,15 @@
 //! Calls of workers and of whoever manages a task, one after the other, with replies worked out by hand.
-ghost use Rattle.std.specs.Prelude.{◌≡◌, ◌≤◌, false, IfOk, OnOk};
+ghost use Rattle.std.specs.Prelude.{◌≡◌, ◌≤◌, max, false, IfOk, OnOk};
 ghost use Rattle.farm_text.specs.declared.moment.TheConstants.{LAST_TOLD_MOMENT as last_told};
 ghost use Rattle.farm_rows.specs.Due.{is_due};
-ghost use Rattle.farm_machine.specs.Changes.{moment_of as moment_by};
 
 use crate::config::Config;
 use crate::question::{Call, Caller, Question, WorkRequest};
 use crate::reply::Reply;
-use crate::step::{apply, moment_of, plan};
+use crate::step::{apply, plan};
 use crate::tables::{Tables, due, tick};
-use crate::tests::{config, creation, first_task};
+use crate::tests::runs::{ONCE, SHORT};
+use crate::tests::{config, creation, creation_of, first_task};
 use farm_record::{Report, Resolution, RunName};
 use farm_text::{LAST_TOLD_MOMENT, Moment, SlugId, Text};
 use std::alloc::Global;
@@ -24,7 +24,7 @@ fn identifier(alloc: Global, text: &str) -> Result<Identifier, Fail> {
 }
 
 /// Worker `w` of group `g` asks for a run of `prov/wt`.
-pub(crate) fn work(alloc: Global) -> Result<WorkRequest, Fail> {
+fn work(alloc: Global) -> Result<WorkRequest, Fail> {
     let queue = queue(alloc)?;
     let worker_group = identifier(alloc, "g")?;
     Ok(WorkRequest {
@@ -52,6 +52,8 @@ pub(crate) fn report(id: SlugId, run: u8, reason: Report) -> Call {
 fn call_of(alloc: Global, word: &str, id: SlugId) -> Result<Call, Fail> {
     match word {
         "create" => creation(alloc, id),
+        "create without retries" => creation_of(alloc, ONCE, id),
+        "create for twenty minutes" => creation_of(alloc, SHORT, id),
         "claim" => Ok(Call::ClaimWork(work(alloc)?)),
         "reclaim 0" => Ok(Call::ReclaimTask(RunName { id, run: 0 })),
         "reclaim 1" => Ok(Call::ReclaimTask(RunName { id, run: 1 })),
@@ -64,20 +66,8 @@ fn call_of(alloc: Global, word: &str, id: SlugId) -> Result<Call, Fail> {
     }
 }
 
-/// The reply to the call of this word so many milliseconds after the task was created.
-fn ask(
-    alloc: Global,
-    tables: &mut Tables,
-    config: &Config,
-    after: u64,
-    word: &str,
-) -> Result<Reply, Fail> {
-    let call = call_of(alloc, word, first_task()?)?;
-    asked(alloc, tables, config, after, call)
-}
-
 /// The moment so many milliseconds after the task was created.
-fn moment(after: u64) -> Result<Moment, Fail>
+pub(crate) fn moment(after: u64) -> Result<Moment, Fail>
     ensures { IfOk result (λ moment. moment ≤ last_told) }
 {
     let millis = CREATED.checked_add(after).ok_or("a moment")?;
@@ -87,32 +77,52 @@ fn moment(after: u64) -> Result<Moment, Fail>
     }
 }
 
-/// Resolves what is due when this is asked.
-fn reach(tables: &mut Tables, question: &Question) -> Result<(), Fail>
-    ensures { OnOk result (is_due tables.new (moment_by tables.new question.now) ≡ false) }
+/// Resolves what is due at this moment, or at the last one, where that is later.
+pub(crate) fn reach(tables: &mut Tables, at: Moment) -> Result<(), Fail>
+    requires { at ≤ last_told }
+    ensures { OnOk result (is_due tables.new (max at tables.new.last) ≡ false) }
 {
-    let moment = moment_of(tables, question);
-    if due(tables, moment) {
-        tick(tables, moment);
+    let reached = at.max(tables.last());
+    if due(tables, reached) {
+        tick(tables, reached);
     }
-    if due(tables, moment_of(tables, question)) {
+    let reached = at.max(tables.last());
+    if due(tables, reached) {
         return Err(Fail::from("something is still due"));
     }
     Ok(())
 }
 
-/// The reply to a call so many milliseconds after the task was created.
-pub(crate) fn asked(
+/// The reply to a call at a moment at which nothing is due.
+pub(crate) fn answer(
+    alloc: Global,
+    tables: &mut Tables,
+    config: &Config,
+    at: Moment,
+    id: SlugId,
+    call: Call,
+) -> Result<Reply, Fail>
+    requires told { at ≤ last_told }
+    requires idle { is_due tables.old (max at tables.old.last) ≡ false }
+{
+    let question = Question::new(at, id, Caller::Anonymous, call);
+    let planned = plan(alloc, tables, config, question)?;
+    Ok(apply(tables, planned))
+}
+
+/// The reply to the call of this word so many milliseconds after the task was created.
+pub(crate) fn ask(
     alloc: Global,
     tables: &mut Tables,
     config: &Config,
     after: u64,
-    call: Call,
+    word: &str,
 ) -> Result<Reply, Fail> {
-    let question = Question::new(moment(after)?, first_task()?, Caller::Anonymous, call);
-    reach(tables, &question)?;
-    let planned = plan(alloc, tables, config, question)?;
-    Ok(apply(tables, planned))
+    let id = first_task()?;
+    let at = moment(after)?;
+    reach(tables, at)?;
+    let call = call_of(alloc, word, id)?;
+    answer(alloc, tables, config, at, id, call)
 }
 
 /// How many milliseconds after the creation, what is called, the status of the reply, and its body.
