@@ -26,7 +26,8 @@ fn reply_of(alloc: Global, row: &Row) -> Result<String, AllocError> {
 
 /// Whether a desk gives the reply of a row to its request.
 fn is_answered(alloc: Global, desk: &mut Solo<Bare>, row: &Row) -> Result<bool, Fail> {
-    let at = Moment::from_millis(CREATED + row.0).ok_or("a moment")?;
+    let millis = CREATED.checked_add(row.0).ok_or("a moment")?;
+    let at = Moment::from_millis(millis).ok_or("a moment")?;
     let request = request_of(alloc, row)?;
     let written = written_at(alloc, desk, request.as_str().as_bytes(), at)?;
     let wanted = reply_of(alloc, row)?;
