@@ -1,15 +1,11 @@
 //! How a run ended, and what is told of it.
-ghost use Rattle.std.specs.Prelude.{◌≡◌, ◌++◌, List, ℕ, All, IfSome, IfOk, codes, string_bytes};
-ghost use Rattle.plain_text.specs.Plain.{IsPlain};
-ghost use Rattle.farm_cli.specs.Notes.{IsLineOf, IsOneLine};
-ghost use Rattle.farm_cli.specs.Serving.{status_of};
+ghost use Rattle.std.specs.Prelude.{◌≡◌, ℕ, List, IfSome};
+ghost use Rattle.farm_cli.specs.Notes.{IsLineOf, fault_text, bad_line_text};
 
 use crate::status::Status;
-use farm_server::Served;
+use farm_files::Fault;
 use farm_text::Text;
-use http_wire::Wire;
-use plain_text::{escape_line, escape_lines};
-use std::alloc::{AllocError, Global};
+use std::alloc::Global;
 use std::marker::Model;
 
 /// The status of a run, and what more there is to tell of it.
@@ -38,48 +34,24 @@ impl Ended {
         Ended { status, note: None }
     }
 
-    /// These words more are told, where there is memory for them. They go on after the front of the status's line.
-    pub fn told(alloc: Global, status: Status, words: &str) -> Ended
-        ensures { result.status ≡ status }
+    /// A farm file is refused by this first fault.
+    pub fn by_fault(alloc: Global, fault: &Fault) -> Ended
+        ensures { result.status ≡ Status.FarmFile }
     {
         Ended {
-            status,
-            note: note_of(alloc, status, words),
+            status: Status::FarmFile,
+            note: note_of_fault(alloc, fault),
         }
     }
 
-    /// The words of the command line are refused, which this text tells the user.
-    pub fn of_usage(alloc: Global, text: &str) -> Ended
-        ensures { result.status ≡ Status.Usage }
+    /// An input is refused by this line, counted from 0.
+    pub fn by_line(alloc: Global, line: usize) -> Ended
+        ensures status { result.status ≡ Status.Input }
+        ensures note { IfSome result.note (λ note. note ≡ bad_line_text line) }
     {
         Ended {
-            status: Status::Usage,
-            note: usage_note(alloc, text),
-        }
-    }
-
-    /// So a run ended that last used the console.
-    pub fn on_console(alloc: Global, status: Status) -> Ended
-        ensures { result.status ≡ status }
-    {
-        match status {
-            Status::Read => Ended::told(alloc, Status::Read, ": standard input"),
-            Status::Write => Ended::told(alloc, Status::Write, ": standard output"),
-            _ => Ended::plain(status),
-        }
-    }
-
-    /// So a connection ended.
-    pub fn after_serving(alloc: Global, served: Served) -> Ended
-        ensures { result.status ≡ status_of served }
-    {
-        match served {
-            Served::Closed | Served::Full => Ended::plain(Status::Done),
-            Served::EndedInside => Ended::told(alloc, Status::Wire, ": it ends inside a request"),
-            Served::WireFault(wire) => Ended::told(alloc, Status::Wire, wire_words(wire)),
-            Served::ReadFault => Ended::on_console(alloc, Status::Read),
-            Served::WriteFault => Ended::on_console(alloc, Status::Write),
-            Served::NoMemory => Ended::plain(Status::NoMemory),
+            status: Status::Input,
+            note: note_of_line(alloc, line),
         }
     }
 
@@ -101,50 +73,25 @@ impl Ended {
     }
 }
 
-/// Why what came is not served.
-fn wire_words(wire: Wire) -> &'static str {
-    match wire {
-        Wire::HeadTooLarge => ": a request's head has more than 16384 bytes",
-        Wire::NoLength => ": a request has a body without a length",
-        Wire::BodyTooLarge => ": a request's body has more than 1048576 bytes",
-        Wire::EndedInside => ": it ends inside a request",
-        Wire::HeadFault | Wire::End | Wire::ReadFault | Wire::NoMemory => {
-            ": what came is no request"
-        }
+/// What is wrong with a farm file, where there is memory to say so.
+fn note_of_fault(alloc: Global, fault: &Fault) -> Option<Text>
+    ensures { IfSome result (λ note. (words : List ℕ) × (note ≡ fault_text words)) }
+{
+    let Ok(words) = fault.to_string(alloc) else {
+        return None;
+    };
+    match format!(in alloc; "the farm file is refused: {words}\n") {
+        Ok(note) => Some(Text::from_string(note)),
+        Err(_) => None,
     }
 }
 
-/// The line of a status with these words more, where there is memory for it.
-fn note_of(alloc: Global, status: Status, words: &str) -> Option<Text>
-    ensures { IfSome result (IsLineOf status) }
+/// What is wrong with an input, where there is memory to say so.
+fn note_of_line(alloc: Global, line: usize) -> Option<Text>
+    ensures { IfSome result (λ note. note ≡ bad_line_text line) }
 {
-    match line_with(alloc, status.front(), words) {
-        Ok(note) => Some(note),
-        Err(AllocError) => None,
-    }
-}
-
-/// A line of this front and these words.
-fn line_with(alloc: Global, front: &str, words: &str) -> Result<Text, AllocError>
-    ensures { IfOk result (IsOneLine front.now) }
-{
-    let words = escape_line(alloc, words)?;
-    Ok(Text::from_string(line_of_parts(alloc, front, words.as_str())?))
-}
-
-/// Both parts and a line feed.
-fn line_of_parts(alloc: Global, front: &str, words: &str) -> Result<String, AllocError>
-    ensures { IfOk result (λ line. string_bytes line ≡ front.now ++ (words.now ++ codes "\n")) }
-{
-    format!(in alloc; "{front}{words}\n")
-}
-
-/// A text for the user, where there is memory for it.
-fn usage_note(alloc: Global, text: &str) -> Option<Text>
-    ensures { IfSome result (All IsPlain) }
-{
-    match escape_lines(alloc, text) {
-        Ok(text) => Some(Text::from_string(text)),
-        Err(AllocError) => None,
+    match format!(in alloc; "the input is refused: line {line}, counted from 0, is no scope\n") {
+        Ok(note) => Some(Text::from_string(note)),
+        Err(_) => None,
     }
 }

@@ -10,7 +10,7 @@ use farm_text::{HostClock, HostDraws};
 use http_wire::{HostSink, HostSource, Joined};
 use std::fs;
 use std::fs::File;
-use std::io::{ErrorKind, Stderr, Stdin, Stdout};
+use std::io::{Stderr, Stdin, Stdout};
 
 /// The house of the system, which does not tell what passes through the objects that it lends.
 #[derive(Drop)]
@@ -18,7 +18,6 @@ pub struct HostHouse {
     rt: HostRuntime,
     draws: HostDraws,
     refusals: FaultCount,
-    why_refused: Option<ErrorKind>,
 }
 
 impl HostHouse {
@@ -35,7 +34,6 @@ impl HostHouse {
             rt,
             draws,
             refusals: FaultCount::new(),
-            why_refused: None,
         })
     }
 }
@@ -58,16 +56,11 @@ impl House for HostHouse {
     fn farm_file(&mut self, name: &str) -> Result<HostSource<File>, Failed> {
         match fs::open(&self.rt, name) {
             Ok(file) => Ok(HostSource::new(file)),
-            Err(error) => {
+            Err(_) => {
                 self.refusals.raise();
-                self.why_refused = Some(error.kind());
                 Err(Failed)
             }
         }
-    }
-
-    fn why_refused(&self) -> Option<ErrorKind> {
-        self.why_refused
     }
 
     fn back_farm_file(&mut self, _file: HostSource<File>) {}

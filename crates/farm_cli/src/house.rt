@@ -5,7 +5,6 @@ ghost use Rattle.farm_cli.specs.House.{Lendings, CanGive, after_giving, after_re
 use causes::Failed;
 use farm_text::{Clock, Draws};
 use http_wire::{Link, Sink, Source};
-use std::io::ErrorKind;
 
 /// What a run works on. A house lends each of its objects once, and takes it back.
 pub trait House {
@@ -33,9 +32,6 @@ pub trait House {
         ensures opens { CanOpenAmong (lends self.old).file name.now result }
         ensures lends { lends self.new ≡ record (lends self.old) { file = after_opening (lends self.old).file result } }
         ensures cause { HasCause (refusals self.old) (refusals self.new) result };
-
-    /// Why the last opening was refused, where that is told.
-    fn why_refused(&self) -> Option<ErrorKind>;
 
     /// Takes a farm file back.
     fn back_farm_file(&mut self, file: Self::File)

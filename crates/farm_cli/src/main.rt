@@ -12,8 +12,6 @@ mod inputs;
 mod laws;
 mod lending;
 mod memory_house;
-#[cfg(test)]
-mod note_tests;
 mod run;
 mod signing;
 mod status;

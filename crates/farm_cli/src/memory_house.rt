@@ -11,7 +11,6 @@ use causes::{Failed, FaultCount};
 use farm_text::{ListClock, ListDraws};
 use http_wire::{Joined, MemoryLink, MemorySink, MemorySource};
 use std::alloc::Global;
-use std::io::ErrorKind;
 
 /// A house in memory. It has one farm file, and refuses to open a file of another name.
 ///
@@ -106,10 +105,6 @@ impl House for MemoryHouse {
         }
         self.refusals.raise();
         Err(Failed)
-    }
-
-    fn why_refused(&self) -> Option<ErrorKind> {
-        None
     }
 
     fn back_farm_file(&mut self, file: MemorySource) {
