@@ -1,13 +1,13 @@
 -- A change of the tasks that stand: what it leaves, and what the tables keep.
 use Rattle.std.proofs.Common.{◌≡◌, ℕ, ◌+◌, ◌≤◌, Bool, true, false, not, ◌&&◌, List, [], ◌∷◌, map, length, bytes_eq, Option, Some, None, refl, ap, sym, ◌∙◌, subst, arith, nat_le}
-use Rattle.std.specs.List.{list_all, IsDistinct}
+use Rattle.std.specs.List.{list_any, list_all, IsDistinct}
 use Rattle.std.specs.Option.{option_map_or}
 use Rattle.std.proofs.lemmas.Bool.{leb-true, and_parts}
 use Rattle.farm_text.specs.declared.moment.TheConstants.{LAST_TOLD_MOMENT}
 use Rattle.run_states.specs.declared.reasons.ReasonResolved.{ReasonResolved}
 use Rattle.run_states.specs.declared.reasons.ReasonResolved.TheVariants.{Canceled}
 use Rattle.run_states.specs.declared.run.Claim.{Claim as RunClaim}
-use Rattle.run_states.specs.Rows.{Row, is_running_at}
+use Rattle.run_states.specs.Rows.{Row, is_unscheduled, is_running_at}
 use Rattle.run_states.specs.Moves.{may_rerun, run_again, canceled, claimed, reclaimed, resolved}
 use Rattle.farm_record.specs.declared.change.RunName.{RunName}
 use Rattle.farm_rows.specs.declared.plan.Deed.{Deed}
@@ -18,8 +18,9 @@ use Rattle.farm_rows.specs.Changes.{on_row, may_be, may_apply, has_id, change_ro
 use Rattle.farm_rows.specs.Deeds.{kind_of, change_of, row_of, rows_after, drawn_by}
 use Rattle.farm_rows.specs.Plans.{room_for}
 use Rattle.farm_rows.specs.Sweep.{soonest_of, runs_made, fits, IsKept}
-use Rattle.run_states.proofs.LaterLemmas.{again-later, canceled-later, reclaimed-later, resolved-later}
+use Rattle.run_states.proofs.LaterLemmas.{again-later, claimed-later, canceled-later, reclaimed-later, resolved-later}
 use Rattle.farm_rows.proofs.DueLemmas.{change-length, change-ids}
+use Rattle.farm_rows.proofs.ReadyLemmas.{busy-change}
 use Rattle.farm_rows.proofs.IdLemmas.{claimed-ids}
 use Rattle.farm_rows.proofs.FitLemmas.{change-fits, change-made, found-made, again-fits, again-more, finished-fits, canceled-more, claimed-fits, claimed-more, reclaimed-fits, reclaimed-more, resolved-fits, resolved-more, draws-few}
 
@@ -111,6 +112,20 @@ made-after contents at number (Resolve r) may =
     let more = found-made (has_id r.id) (resolved r.run reason number at) contents.rows f.row (draws reason (Some f.row)) f.is (resolved-more r.run reason number at f.row f.passes) in
     omega arith
 
+-- each task that has a run keeps one
+claimed-busy : (claim : RunClaim) (names : List RunName) (rows : List Row) → list_any is_unscheduled rows ≡ false → list_any is_unscheduled (all_claimed claim names rows) ≡ false
+claimed-busy claim [] rows busy = busy
+claimed-busy claim (name ∷ names) rows busy =
+    claimed-busy claim names (change_row name.id (claimed claim) rows) (busy-change (has_id name.id) (claimed claim) (claimed-later claim) rows busy)
+
+busy-after : (at number : ℕ) (deed : Deed) (rows : List Row) → list_any is_unscheduled rows ≡ false → list_any is_unscheduled (rows_after at number deed rows) ≡ false
+busy-after at number (Create row) rows busy = busy
+busy-after at number (Rerun id) rows busy = busy-change (has_id id) (run_again number at) (again-later number at) rows busy
+busy-after at number (Cancel id) rows busy = busy-change (has_id id) (canceled at) (canceled-later at) rows busy
+busy-after at number (TakesRuns claim) rows busy = claimed-busy (claim_of at claim) claim.runs rows busy
+busy-after at number (Reclaim r) rows busy = busy-change (has_id r.id) (reclaimed r.run r.taken_until) (reclaimed-later r.run r.taken_until) rows busy
+busy-after at number (Resolve r) rows busy = busy-change (has_id r.id) (resolved r.run (reason_of r.reason) number at) (resolved-later r.run (reason_of r.reason) number at) rows busy
+
 -- each task keeps its id
 ids-after : (at number : ℕ) (deed : Deed) (rows : List Row) → map (λ row. row.id) (rows_after at number deed rows) ≡ map (λ row. row.id) rows
 ids-after at number (Create row) rows = refl
@@ -136,6 +151,7 @@ kept-after contents rows new last at next drawn deed before soonest capacity aft
       told = lawful.told;
       few = (let h = kept.few in omega arith);
       own = subst (IsDistinct bytes_eq) (sym (ap (map (λ (row : Row). row.id)) is ∙ ids-after at next deed rows)) kept.own;
+      busy = ap (list_any is_unscheduled) is ∙ busy-after at next deed rows kept.busy;
       fit = ap (list_all fits) is ∙ fits-after at next deed rows kept.fit;
       drawn = (let h = kept.drawn in omega arith);
       room = subst P (sym len) room;

@@ -1,6 +1,7 @@
 pub mod RoomLemmas
 pub mod LeastLemmas
 pub mod DueLemmas
+pub mod ReadyLemmas
 pub mod TurnLemmas
 pub mod AdvanceLemmas
 pub mod SweepLemmas

@@ -1,16 +1,16 @@
 -- What the tables keep: a tick, and a task more.
-use Rattle.std.proofs.Common.{◌≡◌, ℕ, ◌≤◌, ◌<◌, ◌+◌, min, max, true, false, ◌&&◌, List, [], ◌∷◌, ◌++◌, length, filter, Option, Some, None, refl, ap, sym, ◌∙◌, subst, arith, nat_le, append-nil, take, get_or}
-use Rattle.std.specs.List.{reduce, list_all}
+use Rattle.std.proofs.Common.{◌≡◌, ℕ, ◌≤◌, ◌<◌, ◌+◌, min, max, true, false, ◌&&◌, ◌||◌, List, [], ◌∷◌, ◌++◌, length, filter, Option, Some, None, refl, ap, sym, ◌∙◌, subst, arith, nat_le, append-nil, take, get_or}
+use Rattle.std.specs.List.{reduce, list_any, list_all}
 use Rattle.std.specs.Option.{option_to_list}
 use Rattle.std.proofs.lemmas.Bool.{ltb-true, leb-true}
 use Rattle.std.proofs.lemmas.List.Concat.{flat_map-append}
 use Rattle.std.proofs.lemmas.List.Sums.{fold-append, sum_by_push}
-use Rattle.std.proofs.lemmas.List.Folds.{list_all-append}
+use Rattle.std.proofs.lemmas.List.Folds.{list_any-append, list_all-append}
 use Rattle.std.proofs.lemmas.List.{take_more}
 use Rattle.std.proofs.lemmas.List.Elements.{filter-append}
 use Rattle.std.proofs.Math.ListN.{length-append}
 use Rattle.farm_text.specs.declared.moment.TheConstants.{LAST_TOLD_MOMENT}
-use Rattle.run_states.specs.Rows.{Row, new_row, scheduled, claim_due, due_moments}
+use Rattle.run_states.specs.Rows.{Row, is_unscheduled, new_row, scheduled, claim_due, due_moments}
 use Rattle.farm_record.specs.declared.change.Change.{Change}
 use Rattle.farm_record.specs.declared.change.Creation.{Creation}
 use Rattle.farm_rows.specs.Contents.{Contents, row_with, HaveOwnIds}
@@ -93,9 +93,9 @@ plan-fits contents rows at had brought row planned same keeps =
     record { room = omega arith; kept = omega arith; few = few_rows; told = told }
 
 -- what the tables keep, with one task more
-pub kept-more : (rows new : List Row) (row : Row) (last at next : ℕ) (soonest then : Option ℕ) (had brought capacity : ℕ) → IsKept rows last next soonest had → Fits rows at had brought → new ≡ rows ++ row ∷ [] → fits row ≡ true → length row.runs ≡ 1 → row_with row.id rows ≡ None
+pub kept-more : (rows new : List Row) (row : Row) (last at next : ℕ) (soonest then : Option ℕ) (had brought capacity : ℕ) → IsKept rows last next soonest had → Fits rows at had brought → new ≡ rows ++ row ∷ [] → fits row ≡ true → length row.runs ≡ 1 → is_unscheduled row ≡ false → row_with row.id rows ≡ None
     → then ≡ reduce min (option_to_list soonest ++ due_moments row) → max had brought ≤ capacity → IsKept new at (next + 1) then capacity
-kept-more rows new row last at next soonest then had brought capacity kept fit_ is row_fits one unknown earlier made =
+kept-more rows new row last at next soonest then had brought capacity kept fit_ is row_fits one busy unknown earlier made =
     let len : length new ≡ length rows + 1 = ap length is ∙ (length-append rows (row ∷ []) ∙ refl) in
     let P : ℕ → Type 0 = λ n. room_for n ≤ capacity in
     let room : room_for (length rows + 1) ≤ capacity = (let h = fit_.kept in omega arith) in
@@ -104,6 +104,7 @@ kept-more rows new row last at next soonest then had brought capacity kept fit_ 
       told = fit_.told;
       few = (let h = fit_.few in omega arith);
       own = subst HaveOwnIds (sym is) (created-ids rows row kept.own unknown);
+      busy = ap (list_any is_unscheduled) is ∙ (list_any-append is_unscheduled rows (row ∷ []) ∙ (ap (λ b. b || (is_unscheduled row || false)) kept.busy ∙ ap (λ b. b || false) busy));
       fit = ap (list_all fits) is ∙ (list_all-append fits rows (row ∷ []) ∙ (ap (λ b. b && (fits row && true)) kept.fit ∙ ap (λ b. b && true) row_fits));
       drawn = (let h = kept.drawn in omega arith);
       room = subst P (sym len) room;
@@ -114,12 +115,12 @@ kept-more rows new row last at next soonest then had brought capacity kept fit_ 
 pub planned-scheduled : (row planned : Row) (number at : ℕ) → row ≡ scheduled number at planned → planned ≡ new_row planned.id planned.definition → row ≡ scheduled number at (new_row planned.id planned.definition)
 planned-scheduled row planned number at is fresh = is ∙ ap (scheduled number at) fresh
 
-pub planned-fits : (row planned : Row) (number at : ℕ) → row ≡ scheduled number at planned → planned ≡ new_row planned.id planned.definition → (fits row ≡ true) × (length row.runs ≡ 1)
+pub planned-fits : (row planned : Row) (number at : ℕ) → row ≡ scheduled number at planned → planned ≡ new_row planned.id planned.definition → (fits row ≡ true) × (length row.runs ≡ 1) × (is_unscheduled row ≡ false)
 planned-fits row planned number at is fresh =
     let whole = planned-scheduled row planned number at is fresh in
     let made : Row = scheduled number at (new_row planned.id planned.definition) in
     let fit_ : fits made ≡ true = fits-of made (omega arith) (omega arith) in
-    (ap fits whole ∙ fit_, ap (λ (r : Row). length r.runs) whole)
+    (ap fits whole ∙ fit_, ap (λ (r : Row). length r.runs) whole, ap is_unscheduled whole)
 
 -- the task of a plan is the new one, scheduled
 pub named : (contents : Contents) (rows : List Row) (last next at room : ℕ) (row : Row) → contents_of rows last next ≡ contents → IsPlanOn contents (planned_of at (Create row) [] room) → row ≡ scheduled next at (new_row row.id row.definition)

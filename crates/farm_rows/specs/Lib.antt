@@ -1,4 +1,5 @@
 pub mod Contents
+pub mod Ready
 pub mod Due
 pub mod Picks
 pub mod Left

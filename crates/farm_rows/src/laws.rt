@@ -1,5 +1,5 @@
 //! Laws of what falls due and of the changes: empty functions, whose contracts are the laws.
-ghost use Rattle.std.specs.Prelude.{◌≡◌, ◌<◌, ◌≤◌, ℕ, List, max, true, false, Some};
+ghost use Rattle.std.specs.Prelude.{◌≡◌, ◌<◌, ◌≤◌, ◌+◌, ℕ, List, max, true, false, Some};
 ghost use Rattle.task_defs.specs.declared.task_def.TaskDef.{TaskDef};
 ghost use Rattle.task_defs.specs.Faults.{AllHold};
 ghost use Rattle.task_defs.specs.Alone.{alone_rules};
@@ -8,20 +8,41 @@ ghost use Rattle.run_states.specs.Later.{RowsLater};
 ghost use Rattle.farm_record.specs.declared.change.Change.{Change};
 ghost use Rattle.farm_record.specs.declared.change.Creation.{Creation};
 ghost use Rattle.farm_rows.specs.Contents.{Contents, row_with, HaveOwnIds};
-ghost use Rattle.farm_rows.specs.Due.{is_due, first_due, resolved_at, advance};
+ghost use Rattle.farm_rows.specs.Ready.{is_ready, has_ready, settled};
+ghost use Rattle.farm_rows.specs.Due.{all_due_moments, is_due, first_due, change_first, resolved_at, advance};
 ghost use Rattle.farm_rows.specs.Changes.{is_alone, creating, may_apply, applied};
+
+/// Settling starts the first task that is ready, again and again, with the number that is next; where none is ready, it changes nothing;
+/// and so none is ready afterwards.
+pub fn settling_goes_one_by_one()
+    ensures first { (contents : Contents) (at : ℕ) → has_ready contents ≡ true → settled contents at
+        ≡ settled (record contents { rows = change_first (is_ready contents.rows) (scheduled contents.next at) contents.rows; next = contents.next + 1 }) at }
+    ensures idle { (contents : Contents) (at : ℕ) → has_ready contents ≡ false → settled contents at ≡ contents }
+    ensures none { (contents : Contents) (at : ℕ) → has_ready (settled contents at) ≡ false }
+{}
+
+/// Settling takes no task or run away, and nothing falls due earlier or later by it.
+pub fn settling_takes_nothing_away()
+    ensures stays { (contents : Contents) (at : ℕ) → RowsLater contents.rows (settled contents at).rows }
+    ensures due { (contents : Contents) (at : ℕ) → all_due_moments (settled contents at).rows ≡ all_due_moments contents.rows }
+{}
 
 /// Nothing is due after an advance.
 pub fn nothing_is_due_after_an_advance()
     ensures { (contents : Contents) (moment : ℕ) → is_due (advance contents moment) moment ≡ false }
 {}
 
-/// What falls due first is resolved first, at its own moment; and where nothing is due, only the last moment changes.
+/// What falls due first is resolved first, at its own moment, and then the tasks settle; and where nothing is due, only the last moment changes.
 pub fn an_advance_goes_turn_by_turn()
     ensures due { (contents : Contents) (moment at : ℕ) → first_due contents moment ≡ Some at
-        → advance contents moment ≡ advance (resolved_at contents at) moment }
+        → advance contents moment ≡ advance (settled (resolved_at contents at) at) moment }
     ensures idle { (contents : Contents) (moment : ℕ) → is_due contents moment ≡ false
         → advance contents moment ≡ record contents { last = max contents.last moment } }
+{}
+
+/// Where no task was ready, none is after an advance.
+pub fn no_task_is_ready_after_an_advance()
+    ensures { (contents : Contents) (moment : ℕ) → has_ready contents ≡ false → has_ready (advance contents moment) ≡ false }
 {}
 
 /// To advance to a moment and then to a later one is to advance to the later one: when ticks come does not matter.

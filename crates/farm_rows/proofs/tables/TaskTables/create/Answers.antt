@@ -34,7 +34,7 @@ invariant_of-self c =
     let once = planned-fits row (new_row row.id row.definition) c.self.inside.next c.args.at made refl in
     kept-more rows.items c.add.new.rows.items row c.self.inside.last c.args.at c.self.inside.next c.self.inside.soonest c.soonest_with-soonest.result
     (vec_capacity rows) (vec_capacity c.args.grown) (vec_capacity c.add.new.rows) c.self.invariant fits c.add.ensures.items
-    once.0 once.1 unknown c.soonest_with-soonest.ensures c.add.ensures.capacity
+    once.0 once.1 once.2 unknown c.soonest_with-soonest.ensures c.add.ensures.capacity
 
 pub returns : goal.returns
 returns c =
