@@ -1,5 +1,5 @@
 -- Which tasks are ready, and what settling makes of them.
-use Rattle.std.proofs.Common.{◌≡◌, ℕ, ◌+◌, Bool, true, false, ◌&&◌, ◌||◌, cond, List, [], ◌∷◌, ◌++◌, map, bytes_eq, count_by, is_none, Some, None, refl, ap, sym, ◌∙◌, arith}
+use Rattle.std.proofs.Common.{◌≡◌, ℕ, ◌+◌, Bool, true, false, ◌&&◌, ◌||◌, cond, List, [], ◌∷◌, ◌++◌, map, length, bytes_eq, count_by, is_none, Some, None, refl, ap, sym, ◌∙◌, arith}
 use Rattle.std.specs.List.{list_any, list_all, last_or}
 use Rattle.std.proofs.lemmas.List.Sums.{sum_by-cons}
 use Rattle.task_defs.specs.declared.choices.Requires.{Requires}
@@ -8,10 +8,11 @@ use Rattle.run_states.specs.Rows.{Row, is_unscheduled, first_run, scheduled, due
 use Rattle.run_states.specs.Serving.{serves}
 use Rattle.run_states.specs.Later.{RunsLater, RowLater, RowsLater}
 use Rattle.run_states.proofs.LaterLemmas.{RowLater-refl, scheduled-later}
-use Rattle.run_states.proofs.ServeLemmas.{serves-scheduled}
+use Rattle.run_states.proofs.ServeLemmas.{serves-scheduled, unscheduled-serves}
 use Rattle.farm_rows.specs.Contents.{Contents}
 use Rattle.farm_rows.specs.Due.{all_due_moments, change_first}
-use Rattle.farm_rows.specs.Ready.{id_serves, is_ready, has_ready, started, settled}
+use Rattle.farm_rows.specs.Ready.{id_serves, is_ready, has_ready, started, settled_row, settled}
+use Rattle.farm_rows.specs.Settling.{one_if}
 use Rattle.farm_rows.proofs.DueLemmas.{any_none}
 
 -- ---- a task that is scheduled
@@ -20,7 +21,7 @@ scheduled-same : (number at : ℕ) (row : Row) (run : Run) (runs : List Run) →
 scheduled-same number at row run runs is =
     ap (λ (rs : List Run). let r : Row = record row { runs = first_run number at rs } in r) is ∙ sym (ap (λ (rs : List Run). let r : Row = record row { runs = rs } in r) is)
 
-some-last : (run : Run) (runs : List Run) → is_none (last_or (Some run) runs) ≡ false
+pub some-last : (run : Run) (runs : List Run) → is_none (last_or (Some run) runs) ≡ false
 some-last run [] = refl
 some-last run (next ∷ runs) = some-last next runs
 
@@ -59,14 +60,14 @@ AreAlike [] (row ∷ after) = ⊥
 AreAlike (row ∷ before) [] = ⊥
 AreAlike (row ∷ before) (other ∷ after) = IsAlike row other × AreAlike before after
 
-alike-same : (row : Row) → IsAlike row row
+pub alike-same : (row : Row) → IsAlike row row
 alike-same row = record { later = RowLater-refl row; served = λ needs. refl; due = refl }
 
-all-alike : (rows : List Row) → AreAlike rows rows
+pub all-alike : (rows : List Row) → AreAlike rows rows
 all-alike [] = tt
 all-alike (row ∷ rows) = (alike-same row, all-alike rows)
 
-alike-scheduled : (number at : ℕ) (row : Row) → IsAlike row (scheduled number at row)
+pub alike-scheduled : (number at : ℕ) (row : Row) → IsAlike row (scheduled number at row)
 alike-scheduled number at row = record {
   later = scheduled-later number at row;
   served = λ needs. serves-scheduled needs number at row;
@@ -153,20 +154,17 @@ settled-none contents at =
 
 -- ---- where none is ready, settling changes nothing
 
-abbrev one_if : Bool → ℕ
-one_if b = cond b 1 0
-
-count-cons : (test : Row → Bool) (row : Row) (rows : List Row) → count_by test (row ∷ rows) ≡ one_if (test row) + count_by test rows
+pub count-cons : (test : Row → Bool) (row : Row) (rows : List Row) → count_by test (row ∷ rows) ≡ one_if (test row) + count_by test rows
 count-cons test row rows = sum_by-cons (λ (r : Row). cond (test r) 1 0) row rows
 
-started-none : (test : Row → Bool) (number at : ℕ) (rows : List Row) → list_any test rows ≡ false → started test number at rows ≡ rows
+pub started-none : (test : Row → Bool) (number at : ℕ) (rows : List Row) → list_any test rows ≡ false → started test number at rows ≡ rows
 started-none test number at [] none = refl
 started-none test number at (row ∷ rows) none =
     let parts = any_none (test row) (list_any test rows) none in
     ap (λ b. cond b (scheduled number at row ∷ started test (number + 1) at rows) (row ∷ started test number at rows)) parts.0
     ∙ ap (λ (rs : List Row). row ∷ rs) (started-none test number at rows parts.1)
 
-count-none : (test : Row → Bool) (rows : List Row) → list_any test rows ≡ false → count_by test rows ≡ 0
+pub count-none : (test : Row → Bool) (rows : List Row) → list_any test rows ≡ false → count_by test rows ≡ 0
 count-none test [] none = refl
 count-none test (row ∷ rows) none =
     let parts = any_none (test row) (list_any test rows) none in
@@ -184,7 +182,7 @@ settled-idle contents at none =
     ∙ ap (λ n. let c : Contents = record contents { next = n } in c) drawn
 
 -- and where none is unscheduled
-busy-none : (all rows : List Row) → list_any is_unscheduled rows ≡ false → list_any (is_ready all) rows ≡ false
+pub busy-none : (all rows : List Row) → list_any is_unscheduled rows ≡ false → list_any (is_ready all) rows ≡ false
 busy-none all [] busy = refl
 busy-none all (row ∷ rows) busy =
     let parts = any_none (is_unscheduled row) (list_any is_unscheduled rows) busy in
@@ -202,7 +200,7 @@ started-same f g same number at (row ∷ rows) = by (started-same f g same numbe
   by here more true is = rw (same row ∙ is, is) (ap (λ (rs : List Row). scheduled number at row ∷ rs) more)
   by here more false is = rw (same row ∙ is, is) (ap (λ (rs : List Row). row ∷ rs) here)
 
-count-same : (f g : Row → Bool) → ((row : Row) → f row ≡ g row) → (rows : List Row) → count_by f rows ≡ count_by g rows
+pub count-same : (f g : Row → Bool) → ((row : Row) → f row ≡ g row) → (rows : List Row) → count_by f rows ≡ count_by g rows
 count-same f g same [] = refl
 count-same f g same (row ∷ rows) =
     let here : one_if (f row) ≡ one_if (g row) = ap one_if (same row) in
@@ -279,6 +277,15 @@ settled-stays contents at = alike-later contents.rows (settled contents at).rows
 pub settled-ids : (contents : Contents) (at : ℕ) → map (λ row. row.id) (settled contents at).rows ≡ map (λ row. row.id) contents.rows
 settled-ids contents at = alike-ids contents.rows (settled contents at).rows (settled-alike contents at)
 
+alike-length : (rows after : List Row) → AreAlike rows after → length after ≡ length rows
+alike-length [] [] alike = refl
+alike-length [] (other ∷ after) alike = absurd alike
+alike-length (row ∷ rows) [] alike = absurd alike
+alike-length (row ∷ rows) (other ∷ after) alike = let e = alike-length rows after alike.1 in omega arith
+
+pub settled-length : (contents : Contents) (at : ℕ) → length (settled contents at).rows ≡ length contents.rows
+settled-length contents at = alike-length contents.rows (settled contents at).rows (settled-alike contents at)
+
 -- and settling does not look at the last moment
 pub settled-last : (contents : Contents) (at last : ℕ) → settled (record contents { last = last }) at ≡ record (settled contents at) { last = last }
 unfolding settled
@@ -304,3 +311,49 @@ busy-change test f later (row ∷ rows) busy = by (busy-change test f later rows
   by rest false is =
       ap (λ b. list_any is_unscheduled (cond b (f row ∷ rows) (row ∷ change_first test f rows))) is
       ∙ (ap (λ b. b || list_any is_unscheduled (change_first test f rows)) parts.0 ∙ rest parts.1)
+
+-- ---- a task more, which is unscheduled
+
+-- it serves nobody
+more-serves : (needs : Requires) (id : List ℕ) (rows : List Row) (row : Row) → serves needs row ≡ false → id_serves needs (rows ++ row ∷ []) id ≡ id_serves needs rows id
+more-serves needs id [] row none = by (bytes_eq row.id id) refl where
+  by : (b : Bool) → bytes_eq row.id id ≡ b → id_serves needs (row ∷ []) id ≡ false
+  by true is = rw is none
+  by false is = rw is refl
+more-serves needs id (first ∷ rows) row none = by (more-serves needs id rows row none) (bytes_eq first.id id) refl where
+  by : id_serves needs (rows ++ row ∷ []) id ≡ id_serves needs rows id → (b : Bool) → bytes_eq first.id id ≡ b → id_serves needs ((first ∷ rows) ++ row ∷ []) id ≡ id_serves needs (first ∷ rows) id
+  by rest true is = rw is refl
+  by rest false is = rw is rest
+
+pub ready-more : (rows : List Row) (row : Row) → is_unscheduled row ≡ true → (other : Row) → is_ready (rows ++ row ∷ []) other ≡ is_ready rows other
+ready-more rows row free other =
+    let needs : Requires = other.definition.requires_ in
+    ap (λ b. is_unscheduled other && b)
+    (all-same (id_serves needs (rows ++ row ∷ [])) (id_serves needs rows) (λ id. more-serves needs id rows row (unscheduled-serves needs row free)) other.definition.dependencies)
+
+started-more : (test : Row → Bool) (number at : ℕ) (rows : List Row) (row : Row) → list_any test rows ≡ false → started test number at (rows ++ row ∷ []) ≡ rows ++ started test number at (row ∷ [])
+started-more test number at [] row none = refl
+started-more test number at (first ∷ rows) row none =
+    let parts = any_none (test first) (list_any test rows) none in
+    ap (λ b. cond b (scheduled number at first ∷ started test (number + 1) at (rows ++ row ∷ [])) (first ∷ started test number at (rows ++ row ∷ []))) parts.0
+    ∙ ap (λ (rs : List Row). first ∷ rs) (started-more test number at rows row parts.1)
+
+-- where none was ready, it alone may be started
+pub settled-more : (contents : Contents) (last at : ℕ) (row : Row) → has_ready contents ≡ false → is_unscheduled row ≡ true
+    → (settled (record contents { rows = contents.rows ++ row ∷ []; last = last }) at).rows ≡ contents.rows ++ settled_row contents at row ∷ []
+unfolding settled
+settled-more contents last at row none free =
+    let rows : List Row = contents.rows ++ row ∷ [] in
+    started-same (is_ready rows) (is_ready contents.rows) (ready-more contents.rows row free) contents.next at rows
+    ∙ (started-more (is_ready contents.rows) contents.next at contents.rows row none ∙ ap (λ (rs : List Row). contents.rows ++ rs) (one (is_ready contents.rows row) refl))
+  where
+    one : (b : Bool) → is_ready contents.rows row ≡ b → started (is_ready contents.rows) contents.next at (row ∷ []) ≡ settled_row contents at row ∷ []
+    one true is = rw is refl
+    one false is = rw is refl
+
+-- a task that is ready is unscheduled
+pub ready-free : (rows : List Row) (row : Row) → is_ready rows row ≡ true → is_unscheduled row ≡ true
+ready-free rows row is = by (is_unscheduled row) refl is where
+  by : (b : Bool) → is_unscheduled row ≡ b → is_ready rows row ≡ true → is_unscheduled row ≡ true
+  by true free is = free
+  by false busy is = let no_ : false ≡ true = rw busy at is in cc

@@ -76,7 +76,7 @@ step-fewer contents moment at is = by (list_any (meets_deadline at) contents.row
 abbrev pub stepped : Contents → ℕ → Contents
 stepped contents at = settled (resolved_at contents at) at
 
-turn-fewer : (contents : Contents) (moment at : ℕ) → first_due contents moment ≡ Some at → length (all_due_moments (stepped contents at).rows) < length (all_due_moments contents.rows)
+pub turn-fewer : (contents : Contents) (moment at : ℕ) → first_due contents moment ≡ Some at → length (all_due_moments (stepped contents at).rows) < length (all_due_moments contents.rows)
 turn-fewer contents moment at is =
     let fewer = step-fewer contents moment at is in
     let same = ap length (settled-due (resolved_at contents at) at) in

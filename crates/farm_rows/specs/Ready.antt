@@ -26,6 +26,10 @@ started test number at [] = []
 started test number at (row ∷ rows) =
     if test row then scheduled number at row ∷ started test (number + 1) at rows else row ∷ started test number at rows
 
+-- a task that is added to these as it stands once they have settled: pending with the next number, where it is ready
+abbrev pub settled_row : Contents → ℕ → Row → Row
+settled_row contents at row = if is_ready contents.rows row then scheduled contents.next at row else row
+
 -- the tasks settle at a moment: each that is ready becomes pending (and serves nobody by that, so that no other becomes ready)
 unfoldable pub settled : Contents → ℕ → Contents
 settled contents at = record contents {

@@ -15,7 +15,7 @@ use run_states::TaskRow;
 ///
 /// No task waits for others, so that none settles: first the tasks whose deadlines come next, in one pass, and then claim by claim, each with
 /// the deadline behind it.
-pub(crate) fn resolve_due(rows: &mut [TaskRow], first: u64, moment: Moment) -> u64
+pub(crate) fn sweep_due(rows: &mut [TaskRow], first: u64, moment: Moment) -> u64
     requires few { length rows.old ≤ 1_000_000 }
     requires fit { list_all fits rows.old ≡ true }
     requires busy { list_any is_unscheduled rows.old ≡ false }
@@ -100,7 +100,7 @@ fn lose_first(rows: &mut [TaskRow], at: Moment, moment: Moment, number: u64) -> 
 }
 
 /// The place of the first task whose claim ends at this moment or before.
-fn lost_place(rows: &[TaskRow], at: Moment) -> Option<usize>
+pub(crate) fn lost_place(rows: &[TaskRow], at: Moment) -> Option<usize>
     ensures { result ≡ position (loses_claim at) rows.now }
 {
     rows.iter().position(|row| row.loses_claim(at))

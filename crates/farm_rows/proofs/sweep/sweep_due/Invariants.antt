@@ -3,7 +3,7 @@ use Rattle.std.specs.List.{list_any, list_all}
 use Rattle.run_states.specs.Rows.{is_unscheduled}
 use Rattle.farm_rows.specs.Due.{all_due_moments}
 use Rattle.farm_rows.specs.Sweep.{swept, numbered, all_turns, runs_made, fits}
-use Rattle.farm_rows.proofs.sweep.resolve_due.Given as goal
+use Rattle.farm_rows.proofs.sweep.sweep_due.Given as goal
 
 -- no deadline comes before the next claim ends, and what is left to be resolved makes the whole
 abbrev pub invariant-claims : goal.invariant-claims

@@ -7,8 +7,8 @@ use Rattle.farm_rows.specs.Sweep.{swept, lost, numbered, all_turns, runs_made, f
 use Rattle.farm_rows.proofs.ClaimLemmas.{round-is, rounds-end, pass-fixed}
 use Rattle.farm_rows.proofs.FitLemmas.{lost-fits, lost-more, change-fits, change-made, swept-all, swept-made, made-few, draws-few}
 use Rattle.farm_rows.proofs.SweepLemmas.{busy-swept, pass-same}
-use Rattle.farm_rows.proofs.ShownLemmas.{all-own}
-use Rattle.farm_rows.proofs.sweep.resolve_due.Goals as goal
+use Rattle.farm_rows.proofs.SharedLemmas.{all-own}
+use Rattle.farm_rows.proofs.sweep.sweep_due.Goals as goal
 
 pub claims-init : goal.claims-init
 claims-init c =
