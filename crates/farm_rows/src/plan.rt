@@ -12,7 +12,6 @@ use std::slice;
 pub(crate) enum Deed {
     /// This task is created, as it will be.
     Create(TaskRow),
-    Schedule(SlugId),
     Rerun(SlugId),
     Cancel(SlugId),
     Claim(Claim),
@@ -56,8 +55,7 @@ impl TaskPlan {
     {
         match &self.deed {
             Deed::Create(row) => slice::from_ref(row),
-            Deed::Schedule(_)
-            | Deed::Rerun(_)
+            Deed::Rerun(_)
             | Deed::Cancel(_)
             | Deed::Claim(_)
             | Deed::Reclaim(_)

@@ -2,4 +2,3 @@ pub mod LaterLemmas
 pub mod RunLemmas
 pub mod NameLemmas
 pub mod ClaimLemmas
-pub mod ServeLemmas

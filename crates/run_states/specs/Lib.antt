@@ -3,4 +3,3 @@ pub mod Runs
 pub mod Rows
 pub mod Moves
 pub mod Later
-pub mod Serving
