@@ -1,5 +1,0 @@
-pub mod Walks
-pub mod MachineLemmas
-pub mod CallLemmas
-pub mod OneValue
-pub mod PieceLemmas
