@@ -3,7 +3,7 @@ use super::rows::{Row, first_other};
 use super::tasks::farm;
 use super::*;
 
-const ROWS: [Row; 51] = [
+const FIRST: [Row; 9] = [
     (
         0,
         "POST /api/queue/v1/claim-work/prov%2Fwt",
@@ -67,6 +67,9 @@ const ROWS: [Row; 51] = [
         "409 Conflict",
         r#"{"code":"RequestConflict","details":{"rule":3,"status":{"deadline":"2024-01-02T00:00:00.000Z","expires":"2025-01-01T00:00:00.000Z","projectId":"none","provisionerId":"prov","retriesLeft":1,"runs":[{"reasonCreated":"scheduled","runId":0,"scheduled":"2024-01-01T00:00:00.000Z","state":"pending"}],"schedulerId":"-","state":"pending","taskGroupId":"AAAAAAAAQACAAAAAAAAAAA","taskId":"AAAAAAAAQACAAAAAAAAAAA","taskQueueId":"prov/wt","workerType":"wt"}},"message":"the state forbids it"}"#,
     ),
+];
+
+const SECOND: [Row; 9] = [
     (
         1_000,
         "POST /api/queue/v1/task/AAAAAAAAQACAAAAAAAAAAA/runs/1/reclaim",
@@ -130,6 +133,9 @@ const ROWS: [Row; 51] = [
         "409 Conflict",
         r#"{"code":"RequestConflict","details":{"rule":3,"status":{"deadline":"2024-01-02T00:00:00.000Z","expires":"2025-01-01T00:00:00.000Z","projectId":"none","provisionerId":"prov","retriesLeft":5,"runs":[{"reasonCreated":"scheduled","reasonResolved":"completed","resolved":"2024-01-01T00:06:00.000Z","runId":0,"scheduled":"2024-01-01T00:00:00.001Z","started":"2024-01-01T00:00:10.000Z","state":"completed","takenUntil":"2024-01-01T00:25:00.000Z","workerGroup":"g","workerId":"a"}],"schedulerId":"-","state":"completed","taskGroupId":"AAAAAAAAQACAAAAAAAAAAQ","taskId":"AAAAAAAAQACAAAAAAAAAAQ","taskQueueId":"prov/wt","workerType":"wt"}},"message":"the state forbids it"}"#,
     ),
+];
+
+const THIRD: [Row; 9] = [
     (
         420_000,
         "POST /api/queue/v1/task/AAAAAAAAQACAAAAAAAAAAA/runs/0/exception",
@@ -193,6 +199,9 @@ const ROWS: [Row; 51] = [
         "200 OK",
         r#"{"status":{"deadline":"2024-01-02T00:00:00.000Z","expires":"2025-01-01T00:00:00.000Z","projectId":"none","provisionerId":"prov","retriesLeft":0,"runs":[{"reasonCreated":"scheduled","reasonResolved":"claim-expired","resolved":"2024-01-01T00:20:11.000Z","runId":0,"scheduled":"2024-01-01T00:00:00.002Z","started":"2024-01-01T00:00:11.000Z","state":"exception","takenUntil":"2024-01-01T00:20:11.000Z","workerGroup":"g","workerId":"b"},{"reasonCreated":"rerun","runId":1,"scheduled":"2024-01-01T00:21:00.000Z","state":"pending"}],"schedulerId":"-","state":"pending","taskGroupId":"AAAAAAAAQACAAAAAAAAAAg","taskId":"AAAAAAAAQACAAAAAAAAAAg","taskQueueId":"prov/wt","workerType":"wt"}}"#,
     ),
+];
+
+const FOURTH: [Row; 8] = [
     (
         1_320_000,
         "POST /api/queue/v1/claim-work/prov%2Fwt",
@@ -249,6 +258,9 @@ const ROWS: [Row; 51] = [
         "200 OK",
         r#"{"tasks":[{"runId":1,"status":{"deadline":"2024-01-02T00:00:00.000Z","expires":"2025-01-01T00:00:00.000Z","projectId":"none","provisionerId":"prov","retriesLeft":5,"runs":[{"reasonCreated":"scheduled","reasonResolved":"completed","resolved":"2024-01-01T00:06:00.000Z","runId":0,"scheduled":"2024-01-01T00:00:00.001Z","started":"2024-01-01T00:00:10.000Z","state":"completed","takenUntil":"2024-01-01T00:25:00.000Z","workerGroup":"g","workerId":"a"},{"reasonCreated":"rerun","runId":1,"scheduled":"2024-01-01T00:24:00.000Z","started":"2024-01-01T00:25:00.000Z","state":"running","takenUntil":"2024-01-01T00:45:00.000Z","workerGroup":"g","workerId":"b"}],"schedulerId":"-","state":"running","taskGroupId":"AAAAAAAAQACAAAAAAAAAAQ","taskId":"AAAAAAAAQACAAAAAAAAAAQ","taskQueueId":"prov/wt","workerType":"wt"},"takenUntil":"2024-01-01T00:45:00.000Z","task":{"created":"2024-01-01T00:00:00.000Z","deadline":"2024-01-02T00:00:00.000Z","dependencies":[],"expires":"2025-01-01T00:00:00.000Z","extra":{},"metadata":{"description":"d","name":"n","owner":"o@example.com","source":"https://example.com/"},"payload":{},"priority":"high","projectId":"none","provisionerId":"prov","requires":"all-completed","retries":5,"routes":[],"schedulerId":"-","scopes":[],"tags":{},"taskGroupId":"AAAAAAAAQACAAAAAAAAAAQ","taskQueueId":"prov/wt","workerType":"wt"},"workerGroup":"g","workerId":"b"},{"runId":0,"status":{"deadline":"2024-01-01T00:30:00.000Z","expires":"2024-12-31T00:30:00.000Z","projectId":"none","provisionerId":"prov","retriesLeft":0,"runs":[{"reasonCreated":"scheduled","runId":0,"scheduled":"2024-01-01T00:24:00.000Z","started":"2024-01-01T00:25:00.000Z","state":"running","takenUntil":"2024-01-01T00:45:00.000Z","workerGroup":"g","workerId":"b"}],"schedulerId":"-","state":"running","taskGroupId":"AAAAAAAAQACAAAAAAAAAAw","taskId":"AAAAAAAAQACAAAAAAAAAAw","taskQueueId":"prov/wt","workerType":"wt"},"takenUntil":"2024-01-01T00:45:00.000Z","task":{"created":"2024-01-01T00:00:00.000Z","deadline":"2024-01-01T00:30:00.000Z","dependencies":[],"expires":"2024-12-31T00:30:00.000Z","extra":{},"metadata":{"description":"d","name":"n","owner":"o@example.com","source":"https://example.com/"},"payload":{},"priority":"medium","projectId":"none","provisionerId":"prov","requires":"all-completed","retries":0,"routes":[],"schedulerId":"-","scopes":[],"tags":{},"taskGroupId":"AAAAAAAAQACAAAAAAAAAAw","taskQueueId":"prov/wt","workerType":"wt"},"workerGroup":"g","workerId":"b"}]}"#,
     ),
+];
+
+const FIFTH: [Row; 8] = [
     (
         0,
         "GET /api/queue/v1/task/AAAAAAAAQACAAAAAAAAAAw/status",
@@ -305,6 +317,9 @@ const ROWS: [Row; 51] = [
         "409 Conflict",
         r#"{"code":"RequestConflict","details":{"rule":3,"status":{"deadline":"2024-01-01T00:30:00.000Z","expires":"2024-12-31T00:30:00.000Z","projectId":"none","provisionerId":"prov","retriesLeft":0,"runs":[{"reasonCreated":"scheduled","reasonResolved":"deadline-exceeded","resolved":"2024-01-01T00:30:00.000Z","runId":0,"scheduled":"2024-01-01T00:24:00.000Z","started":"2024-01-01T00:25:00.000Z","state":"exception","takenUntil":"2024-01-01T00:45:00.000Z","workerGroup":"g","workerId":"b"}],"schedulerId":"-","state":"exception","taskGroupId":"AAAAAAAAQACAAAAAAAAAAw","taskId":"AAAAAAAAQACAAAAAAAAAAw","taskQueueId":"prov/wt","workerType":"wt"}},"message":"the state forbids it"}"#,
     ),
+];
+
+const SIXTH: [Row; 8] = [
     (
         1_860_000,
         "POST /api/queue/v1/task/x/cancel",
@@ -363,9 +378,38 @@ const ROWS: [Row; 51] = [
     ),
 ];
 
+fn first(alloc: Global, desk: &mut Solo<Bare>) -> Result<usize, Fail> {
+    first_other(alloc, desk, &FIRST)
+}
+
+fn second(alloc: Global, desk: &mut Solo<Bare>) -> Result<usize, Fail> {
+    first_other(alloc, desk, &SECOND)
+}
+
+fn third(alloc: Global, desk: &mut Solo<Bare>) -> Result<usize, Fail> {
+    first_other(alloc, desk, &THIRD)
+}
+
+fn fourth(alloc: Global, desk: &mut Solo<Bare>) -> Result<usize, Fail> {
+    first_other(alloc, desk, &FOURTH)
+}
+
+fn fifth(alloc: Global, desk: &mut Solo<Bare>) -> Result<usize, Fail> {
+    first_other(alloc, desk, &FIFTH)
+}
+
+fn sixth(alloc: Global, desk: &mut Solo<Bare>) -> Result<usize, Fail> {
+    first_other(alloc, desk, &SIXTH)
+}
+
 #[test]
 fn two_workers_share_a_queue(rt: HostRuntime) -> Result<(), Fail> {
     let mut desk = farm(rt.alloc(), &["*"], 1_000_000)?;
-    assert_eq!(rt; first_other(rt.alloc(), &mut desk, &ROWS)?, 51);
+    assert_eq!(rt; first(rt.alloc(), &mut desk)?, 9);
+    assert_eq!(rt; second(rt.alloc(), &mut desk)?, 9);
+    assert_eq!(rt; third(rt.alloc(), &mut desk)?, 9);
+    assert_eq!(rt; fourth(rt.alloc(), &mut desk)?, 8);
+    assert_eq!(rt; fifth(rt.alloc(), &mut desk)?, 8);
+    assert_eq!(rt; sixth(rt.alloc(), &mut desk)?, 8);
     Ok(())
 }
