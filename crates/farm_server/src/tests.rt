@@ -25,6 +25,7 @@ mod clients;
 mod rows;
 mod runs;
 mod tasks;
+mod work;
 
 const PING: &[u8] = b"GET /api/queue/v1/ping HTTP/1.1\r\n\r\n";
 
