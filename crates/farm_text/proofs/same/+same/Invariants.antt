@@ -2,7 +2,7 @@ use Rattle.std.proofs.Common.{◌≡◌, ◌↔◌, drop}
 use Rattle.std.specs.Slice.Iter.{iter_rest}
 use Rattle.farm_text.specs.Document.{items_of, members_of}
 use Rattle.farm_text.specs.Doc.{documents, entries_of}
-use Rattle.task_defs.proofs.documents.+same.Given as goal
+use Rattle.farm_text.proofs.same.+same.Given as goal
 
 abbrev pub invariant-same_items-loop-item : goal.invariant-same_items-loop-item
 invariant-same_items-loop-item l =

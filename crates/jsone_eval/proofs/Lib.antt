@@ -1,0 +1,5 @@
+pub mod Walks
+pub mod MachineLemmas
+pub mod CallLemmas
+pub mod OneValue
+pub mod PieceLemmas
