@@ -161,8 +161,19 @@ fn host_objects(rt: HostRuntime) -> Result<(), Fail> {
     let mut link = StreamLink::new(Cursor::new(Vec::from_slice(alloc, b"hi")?));
     assert_eq!(rt; link.read(&mut buf), Ok(2));
     assert_eq!(rt; link.write(b"hello"), Ok(5));
-    assert_eq!(rt; HostSource::new(Broken).read(&mut buf), Err(Failed));
-    assert_eq!(rt; HostSink::new(Broken).write(b"hello"), Err(Failed));
+    Ok(())
+}
+
+#[test]
+fn host_objects_keep_the_reason_of_a_fault(rt: HostRuntime) -> Result<(), Fail> {
+    let mut source = HostSource::new(Broken);
+    assert_eq!(rt; source.why(), None);
+    assert_eq!(rt; source.read(&mut [0; 8]), Err(Failed));
+    assert_eq!(rt; source.why(), Some(ErrorKind::BrokenPipe));
+    let mut sink = HostSink::new(Broken);
+    assert_eq!(rt; sink.why(), None);
+    assert_eq!(rt; sink.write(b"hello"), Err(Failed));
+    assert_eq!(rt; sink.why(), Some(ErrorKind::WriteZero));
     Ok(())
 }
 

@@ -1,7 +1,7 @@
 use Rattle.std.proofs.lemmas.Bool.{false≢true}
 use Rattle.toml.specs.View.{table_view}
 use Rattle.farm_files.proofs.FarmLemmas.{says_farm, first_long, first_not_toml, never_toml}
-use Rattle.farm_files.proofs.reading.read_farm.Goals as goal
+use Rattle.farm_files.proofs.reading.read_farm_with.Goals as goal
 
 pub returns-in-Ok : goal.returns-in-Ok
 returns-in-Ok c =
