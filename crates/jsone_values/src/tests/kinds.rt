@@ -1,11 +1,8 @@
 //! Operators and functions that take values of any kind.
 use crate::faults::Stop;
 use crate::indexes::{index_of, slice_by};
-use crate::letters::{
-    left_strip_of, lowercase_of, right_strip_of, strip_of, uppercase_of,
-};
-use crate::lists::{absolute_of, greatest_of, join_of, least_of, number_of};
-use crate::maps::map_of;
+use crate::letters::{left_strip_of, lowercase_of, right_strip_of, strip_of, uppercase_of};
+use crate::lists::{absolute_of, greatest_of, least_of, number_of};
 use crate::operators::{
     difference_of, kept_number_of, membership_of, negation_of, power_of, product_of, quotient_of,
     sum_of,
@@ -15,8 +12,8 @@ use farm_text::Doc;
 use std::alloc::{AllocError, Global};
 use std::test::Fail;
 
-/// Whether this compact text is the value's, or `!` and this digit the fault's.
-fn is(alloc: Global, made: Result<Doc, Stop>, wanted: &str) -> Result<bool, AllocError> {
+/// Whether this compact text is the value's, or `!` and these digits the fault's.
+pub(super) fn is(alloc: Global, made: Result<Doc, Stop>, wanted: &str) -> Result<bool, AllocError> {
     match made {
         Ok(value) => Ok(value.write(alloc)?.as_str() == wanted),
         Err(Stop::Fault(fault)) => {
@@ -125,7 +122,7 @@ fn functions_take_a_value_of_any_kind(rt: HostRuntime) -> Result<(), Fail> {
 }
 
 /// The items of a JSON text's list.
-fn items(alloc: Global, text: &str) -> Result<Vec<Doc>, Fail> {
+pub(super) fn items(alloc: Global, text: &str) -> Result<Vec<Doc>, Fail> {
     match read(alloc, text)? {
         Doc::List(items) => Ok(items),
         _ => Err(Fail::from("no list")),
@@ -142,7 +139,10 @@ fn several_numbers_have_a_least_and_a_greatest(rt: HostRuntime) -> Result<(), Fa
     ] {
         let values = items(rt.alloc(), values)?;
         assert!(rt; is(rt.alloc(), least_of(&values), least)?, "{least}");
-        assert!(rt; is(rt.alloc(), greatest_of(&values), greatest)?, "{greatest}");
+        assert!(rt;
+            is(rt.alloc(), greatest_of(&values), greatest)?,
+            "{greatest}"
+        );
     }
     Ok(())
 }
