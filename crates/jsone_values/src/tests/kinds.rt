@@ -37,6 +37,18 @@ fn operated(alloc: Global, operator: &str, left: &Doc, right: &Doc) -> Result<Do
     }
 }
 
+fn operates(
+    alloc: Global,
+    operator: &str,
+    left: &str,
+    right: &str,
+    wanted: &str,
+) -> Result<bool, Fail> {
+    let left = read(alloc, left)?;
+    let right = read(alloc, right)?;
+    Ok(is(alloc, operated(alloc, operator, &left, &right), wanted)?)
+}
+
 #[test]
 fn operators_take_values_of_any_kind(rt: HostRuntime) -> Result<(), Fail> {
     for (left, operator, right, wanted) in [
@@ -69,10 +81,10 @@ fn operators_take_values_of_any_kind(rt: HostRuntime) -> Result<(), Fail> {
         ("\"abc\"", "[:]", "-1", "\"c\""),
         ("[10]", "[:]", "null", "!3"),
     ] {
-        let left = read(rt.alloc(), left)?;
-        let right = read(rt.alloc(), right)?;
-        let made = operated(rt.alloc(), operator, &left, &right);
-        assert!(rt; is(rt.alloc(), made, wanted)?, "{operator} {wanted}");
+        assert!(rt;
+            operates(rt.alloc(), operator, left, right, wanted)?,
+            "{operator} {wanted}"
+        );
     }
     Ok(())
 }
@@ -89,6 +101,11 @@ fn answered(alloc: Global, function: &str, value: &Doc) -> Result<Doc, Stop> {
         "lstrip" => left_strip_of(alloc, value),
         _ => right_strip_of(alloc, value),
     }
+}
+
+fn answers(alloc: Global, function: &str, value: &str, wanted: &str) -> Result<bool, Fail> {
+    let value = read(alloc, value)?;
+    Ok(is(alloc, answered(alloc, function, &value), wanted)?)
 }
 
 #[test]
@@ -114,19 +131,26 @@ fn functions_take_a_value_of_any_kind(rt: HostRuntime) -> Result<(), Fail> {
         ("rstrip", "\" a \"", "\" a\""),
         ("rstrip", "null", "!3"),
     ] {
-        let value = read(rt.alloc(), value)?;
-        let made = answered(rt.alloc(), function, &value);
-        assert!(rt; is(rt.alloc(), made, wanted)?, "{function} {wanted}");
+        assert!(rt;
+            answers(rt.alloc(), function, value, wanted)?,
+            "{function} {wanted}"
+        );
     }
     Ok(())
 }
 
 /// The items of a JSON text's list.
-pub(super) fn items(alloc: Global, text: &str) -> Result<Vec<Doc>, Fail> {
+fn items(alloc: Global, text: &str) -> Result<Vec<Doc>, Fail> {
     match read(alloc, text)? {
         Doc::List(items) => Ok(items),
         _ => Err(Fail::from("no list")),
     }
+}
+
+fn picks(alloc: Global, values: &str, least: &str, greatest: &str) -> Result<bool, Fail> {
+    let values = items(alloc, values)?;
+    let is_least = is(alloc, least_of(&values), least)?;
+    Ok(is_least && is(alloc, greatest_of(&values), greatest)?)
 }
 
 #[test]

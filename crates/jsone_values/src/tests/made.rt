@@ -20,8 +20,14 @@ fn or_null(made: Result<Option<Doc>, Stop>) -> Result<Doc, Stop> {
     }
 }
 
+fn splits(alloc: Global, text: &str, separator: &str, pieces: &str) -> Result<bool, Fail> {
+    let text = read(alloc, text)?;
+    let separator = read(alloc, separator)?;
+    Ok(is(alloc, split_of(alloc, &text, &separator), pieces)?)
+}
+
 #[test]
-fn texts_are_split_and_joined(rt: HostRuntime) -> Result<(), Fail> {
+fn texts_are_split(rt: HostRuntime) -> Result<(), Fail> {
     for (text, separator, pieces) in [
         ("\"a,b,c\"", "\",\"", "[\"a\",\"b\",\"c\"]"),
         ("\",a,,\"", "\",\"", "[\"\",\"a\",\"\",\"\"]"),
@@ -33,13 +39,26 @@ fn texts_are_split_and_joined(rt: HostRuntime) -> Result<(), Fail> {
         ("\"a\"", "1", "!3"),
         ("[]", "\"a\"", "!3"),
     ] {
-        let text = read(rt.alloc(), text)?;
-        let separator = read(rt.alloc(), separator)?;
-        assert!(rt;
-            is(rt.alloc(), split_of(rt.alloc(), &text, &separator), pieces)?,
-            "{pieces}"
-        );
+        assert!(rt; splits(rt.alloc(), text, separator, pieces)?, "{pieces}");
     }
+    Ok(())
+}
+
+fn joins(
+    alloc: Global,
+    parts: &str,
+    separator: &str,
+    most: usize,
+    whole: &str,
+) -> Result<bool, Fail> {
+    let parts = read(alloc, parts)?;
+    let separator = read(alloc, separator)?;
+    let made = or_null(join_of(alloc, &parts, &separator, most));
+    Ok(is(alloc, made, whole)?)
+}
+
+#[test]
+fn lists_are_joined(rt: HostRuntime) -> Result<(), Fail> {
     for (parts, separator, most, whole) in [
         ("[\"a\",1,\"b\"]", "\", \"", 9, "\"a, 1, b\""),
         ("[\"a\",1,\"b\"]", "\", \"", 6, "null"),
@@ -49,10 +68,10 @@ fn texts_are_split_and_joined(rt: HostRuntime) -> Result<(), Fail> {
         ("[\"a\"]", "1", 9, "!3"),
         ("\"ab\"", "\"x\"", 9, "!3"),
     ] {
-        let parts = read(rt.alloc(), parts)?;
-        let separator = read(rt.alloc(), separator)?;
-        let made = or_null(join_of(rt.alloc(), &parts, &separator, most));
-        assert!(rt; is(rt.alloc(), made, whole)?, "{whole}");
+        assert!(rt;
+            joins(rt.alloc(), parts, separator, most, whole)?,
+            "{whole}"
+        );
     }
     Ok(())
 }
@@ -119,6 +138,11 @@ fn a_map_has_no_key_twice(rt: HostRuntime) -> Result<(), Fail> {
     Ok(())
 }
 
+fn leads(alloc: Global, span: &str, from: &Doc, moment: &str) -> Result<bool, AllocError> {
+    let span = Doc::text(alloc, span)?;
+    is(alloc, from_now_of(alloc, &span, Some(from)), moment)
+}
+
 #[test]
 fn spans_lead_from_moment_to_moment(rt: HostRuntime) -> Result<(), Fail> {
     let from = Doc::text(rt.alloc(), "2024-02-28T12:00:00.250Z")?;
@@ -143,33 +167,34 @@ fn spans_lead_from_moment_to_moment(rt: HostRuntime) -> Result<(), Fail> {
         ("99999999999999999999999 weeks", "!4"),
         ("-99999 weeks", "!4"),
     ] {
-        let span = Doc::text(rt.alloc(), span)?;
-        let made = from_now_of(rt.alloc(), &span, Some(&from));
-        assert!(rt; is(rt.alloc(), made, moment)?, "{moment}");
+        assert!(rt; leads(rt.alloc(), span, &from, moment)?, "{moment}");
     }
     Ok(())
 }
 
+fn begins(alloc: Global, span: &str, from: &str, fault: &str) -> Result<bool, Fail> {
+    let span = read(alloc, span)?;
+    let from = read(alloc, from)?;
+    Ok(is(alloc, from_now_of(alloc, &span, Some(&from)), fault)?)
+}
+
+fn begins_nowhere(alloc: Global, span: &str, fault: &str) -> Result<bool, Fail> {
+    let span = read(alloc, span)?;
+    Ok(is(alloc, from_now_of(alloc, &span, None), fault)?)
+}
+
 #[test]
 fn spans_begin_at_a_moment(rt: HostRuntime) -> Result<(), Fail> {
-    let day = Doc::text(rt.alloc(), "1 day")?;
-    let other = Doc::text(rt.alloc(), "1 dax")?;
-    assert!(rt; is(rt.alloc(), from_now_of(rt.alloc(), &day, None), "!2")?);
-    assert!(rt; is(rt.alloc(), from_now_of(rt.alloc(), &day, Some(&day)), "!3")?);
-    assert!(rt;
-        is(
-            rt.alloc(),
-            from_now_of(rt.alloc(), &day, Some(&Doc::Null)),
-            "!3"
-        )?
-    );
-    assert!(rt; is(rt.alloc(), from_now_of(rt.alloc(), &other, None), "!11")?);
-    assert!(rt;
-        is(
-            rt.alloc(),
-            from_now_of(rt.alloc(), &Doc::Int(1), None),
-            "!3"
-        )?
-    );
+    for (span, from, fault) in [
+        ("\"1 day\"", "\"1 day\"", "!3"),
+        ("\"1 day\"", "null", "!3"),
+        ("\"1 dax\"", "null", "!11"),
+        ("1", "null", "!3"),
+    ] {
+        assert!(rt; begins(rt.alloc(), span, from, fault)?, "{span} {from}");
+    }
+    for (span, fault) in [("\"1 day\"", "!2"), ("\"1 dax\"", "!11"), ("1", "!3")] {
+        assert!(rt; begins_nowhere(rt.alloc(), span, fault)?, "{span}");
+    }
     Ok(())
 }
