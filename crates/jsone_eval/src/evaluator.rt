@@ -22,6 +22,15 @@ pub struct Cost {
     pub spent: u64,
 }
 
+impl Cost {
+    /// Nothing is paid yet.
+    pub fn new() -> Cost
+        ensures { result.spent ≡ 0 }
+    {
+        Cost { spent: 0 }
+    }
+}
+
 /// Why an expression has no value.
 #[derive(Clone, Copy, Debug, PartialEq, Eq)]
 pub enum EvalFault {

@@ -3,7 +3,7 @@ use Rattle.jsone_eval.specs.Machine.{Runs, values_in, parts_in}
 use Rattle.jsone_eval.specs.Outcomes.{Outcome}
 use Rattle.jsone_eval.specs.Scopes.{scopes_of}
 use Rattle.jsone_eval.specs.Values.{Setting}
-use Rattle.jsone_eval.proofs.eval.eval.Given as goal
+use Rattle.jsone_eval.proofs.evaluator.eval.Given as goal
 
 -- what the nodes that are left come to is what all nodes come to
 abbrev pub invariant-loop-node : goal.invariant-loop-node
