@@ -1,23 +1,29 @@
 -- What is paid for is pushed, and where the machine ends.
-use Rattle.std.proofs.Common.{◌≡◌, ℕ, zero, suc, ◌+◌, ◌<◌, nat_le, Bool, true, false, arith, List, [], ◌∷◌, Option, Some, None, Result, Ok, Err, refl, sym, ap, subst, ◌∙◌}
-use Rattle.std.proofs.lemmas.Bool.Decides.{nat_tests}
-use Rattle.farm_text.specs.Document.{Document}
+use Rattle.std.proofs.Common.{◌≡◌, ℕ, zero, suc, ◌+◌, ◌-◌, ◌<◌, ◌≤◌, min, if◌then◌else◌, Bool, true, false, arith, rules, List, [], ◌∷◌, ◌++◌, map, reverse, Option, Some, None, Result, Ok, Err, refl, sym, ap, subst, ◌∙◌}
+use Rattle.std.proofs.lemmas.List.{map-append, reverse-append}
+use Rattle.std.proofs.lemmas.Bool.{le-leb, lt-leb}
+use Rattle.std.specs.Bool.{MatchBool}
+use Rattle.farm_text.specs.Document.{Document, boolean}
 use Rattle.farm_text.specs.Doc.{document}
-use Rattle.farm_text.specs.declared.doc.Doc.{Doc}
+use Rattle.farm_text.specs.declared.doc.Doc.{Doc, the_lemmas}
+use Rattle.farm_text.specs.declared.doc.Doc.TheVariants.{Bool as bool_doc}
 use Rattle.jsone_values.specs.declared.faults.Fault.{Fault}
 use Rattle.jsone_values.specs.declared.faults.Stop.{Stop}
 use Rattle.jsone_values.specs.declared.faults.Stop.TheVariants.{Fault as a_fault, NoMemory}
 use Rattle.jsone_values.specs.Meets.{Meets, MeetsWithin}
+use Rattle.jsone_values.specs.Truth.{is_true}
 use Rattle.jsone_values.specs.Weights.{weight}
+use Rattle.jsone_expr.specs.declared.marks.Operator.{Operator}
 use Rattle.jsone_expr.specs.declared.nodes.Node.{Node}
+use Rattle.jsone_expr.specs.declared.nodes.Node.TheVariants.{Left as left_node, Binary as binary_node}
 use Rattle.jsone_eval.specs.Values.{Setting}
 use Rattle.jsone_eval.specs.Outcomes.{Outcome, given, faulted, too_much, paid, at_node}
-use Rattle.jsone_eval.specs.declared.eval.EvalFault.{EvalFault}
-use Rattle.jsone_eval.specs.declared.eval.EvalFault.TheVariants.{Fault as eval_fault, TooMuchWork, NoMemory as no_memory}
+use Rattle.jsone_eval.specs.declared.evaluator.EvalFault.{EvalFault}
+use Rattle.jsone_eval.specs.declared.evaluator.EvalFault.TheVariants.{Fault as eval_fault, TooMuchWork, NoMemory as no_memory}
 use Rattle.jsone_eval.specs.declared.machine.Machine.{Machine}
-use Rattle.jsone_eval.specs.Machine.{Part, top, top_part, below, side_top, side_below, Moved, went, ended, pushed, IsPushed, IsStep, passed, Goes, Runs, values_in, parts_in, Does, Leads, Pays, Answers}
+use Rattle.jsone_eval.specs.Machine.{Part, top, top_part, below, side_top, side_below, Moved, went, ended, pushed, IsPushed, IsGathered, with_item, with_member, IsStep, one_less, passed, Goes, Runs, values_in, parts_in, Does, Leads, Pays, PaysWithin, fault_of, Answers}
 
-does_so : {A : Type 0} (P Q : Moved → Type 0) → ((p : Moved) → P p → Q p) → (r : Result A EvalFault) (m : Machine) → Does P r m → Does Q r m
+pub does_so : {A : Type 0} (P Q : Moved → Type 0) → ((p : Moved) → P p → Q p) → (r : Result A EvalFault) (m : Machine) → Does P r m → Does Q r m
 does_so P Q weaker (Ok u) m h = weaker _ h
 does_so P Q weaker (Err (eval_fault f)) m h = weaker _ h
 does_so P Q weaker (Err TooMuchWork) m h = weaker _ h
@@ -83,12 +89,118 @@ fault_answers P s x xs vs gs k n (eval_fault f) m before whole leads = (whole (f
 fault_answers P s x xs vs gs k n TooMuchWork m before whole leads = (whole too_much (leads xs), refl)
 fault_answers P s x xs vs gs k n no_memory m before whole leads = refl
 
+-- what is paid is more than may be, or is not
+abbrev paid_if : ℕ → Document → Bool → Outcome
+paid_if n d b = if b then given d (n + weight d) else too_much
+
+over_limit : (vs : List Document) (gs : List Part) (k n : ℕ) (d : Document) → 1000000 < n + weight d → ended too_much ≡ pushed vs gs k (paid n d)
+over_limit vs gs k n d more = ap (λ (b : Bool). pushed vs gs k (paid_if n d b)) (sym (lt-leb (n + weight d) 1000000 more))
+
+within_limit : (vs : List Document) (gs : List Part) (k n : ℕ) (d : Document) → n + weight d ≤ 1000000 → went (d ∷ vs) gs k (n + weight d) ≡ pushed vs gs k (paid n d)
+within_limit vs gs k n d upto = ap (λ (b : Bool). pushed vs gs k (paid_if n d b)) (sym (le-leb (n + weight d) 1000000 upto))
+
 -- a value that weighs more than may be paid in all
 pub too_heavy : (R : Result Document Fault → Type 0) (vs : List Document) (gs : List Part) (k n : ℕ) → (d : Document) × R (Ok d) × (1000000 < weight d) → IsPushed n R vs gs k (ended too_much)
-too_heavy R vs gs k n (d, is, heavy) =
-    let over : nat_le (n + weight d) 1_000_000 ≡ false = grind (arith, nat_tests) in
-    (Ok d, is, rw over refl)
+too_heavy R vs gs k n (d, is, heavy) = (Ok d, is, over_limit vs gs k n d (omega (arith, heavy)))
 
-pub stop_meets : (most : ℕ) (R : Result Document Fault → Type 0) (s : Stop) → MeetsWithin most R (Err s) → Meets R (Err s)
-stop_meets most R (a_fault f) h = h
-stop_meets most R NoMemory h = tt
+-- the same of a call, which makes nothing that weighs too much
+pays_within : {A : Type 0} (R : Result Document Fault → Type 0) (found : Result (Option Doc) Stop) (vs : List Document) (gs : List Part) (k n : ℕ) (r : Result A EvalFault) (m : Machine)
+    → MeetsWithin 1000000 R found → PaysWithin found vs gs k n r m → Does (IsPushed n R vs gs k) r m
+pays_within R (Ok (Some d)) vs gs k n r m meets pays = pays_for R (Ok d) vs gs k n r m meets pays
+pays_within R (Ok None) vs gs k n r m meets pays = subst (λ x. Does (IsPushed n R vs gs k) x m) (sym pays) (too_heavy R vs gs k n meets)
+pays_within R (Err (a_fault f)) vs gs k n r m meets pays = pays_for R (Err (a_fault f)) vs gs k n r m meets pays
+pays_within R (Err NoMemory) vs gs k n r m meets pays = pays_for R (Err NoMemory) vs gs k n r m meets pays
+
+pub pays_for_call : {A : Type 0} (R : Part → Result Document Fault → Type 0) (found : Result (Option Doc) Stop) (vs : List Document) (gs hs : List Part) (g : Part) (k n : ℕ) (r : Result A EvalFault) (m : Machine)
+    → g ≡ top_part gs → hs ≡ below gs → MeetsWithin 1000000 (R g) found → PaysWithin found vs hs k n r m → Does (IsPushed n (R (top_part gs)) vs (below gs) k) r m
+pays_for_call R found vs gs hs g k n r m last rest meets pays =
+    subst (λ x. Does (IsPushed n (R x) vs (below gs) k) r m) last (subst (λ x. Does (IsPushed n (R g) vs x k) r m) rest (pays_within (R g) found vs hs k n r m meets pays))
+
+pub charge_too_much : (vs : List Document) (gs : List Part) (k n w : ℕ) (d : Document) → w ≡ min (n + min (weight d) 18446744073709551615) 18446744073709551615 → 1000000 < w → ended too_much ≡ pushed vs gs k (paid n d)
+charge_too_much vs gs k n w d e more = over_limit vs gs k n d (omega (arith, e, more))
+
+pub charge_within : (vs : List Document) (gs : List Part) (k n w : ℕ) (d : Document) → w ≡ min (n + min (weight d) 18446744073709551615) 18446744073709551615 → w ≤ 1000000 → went (d ∷ vs) gs k w ≡ pushed vs gs k (paid n d)
+charge_within vs gs k n w d e upto =
+    let same : w ≡ n + weight d = omega (arith, e, upto) in
+    ap (went (d ∷ vs) gs k) same ∙ within_limit vs gs k n d (omega (arith, same, upto))
+
+-- one more on top
+pub last_value : {A B : Type 0} (f : A → B) (xs : List A) (x : A) → reverse (map f (xs ++ x ∷ [])) ≡ f x ∷ reverse (map f xs)
+last_value f xs x = ap reverse (map-append f xs (x ∷ [])) ∙ reverse-append (map f xs) (f x ∷ [])
+
+pub last_part : {A B : Type 0} (f : A → B) (xs : List A) (x : A) → map f (reverse (xs ++ x ∷ [])) ≡ f x ∷ map f (reverse xs)
+last_part f xs x = ap (map f) (reverse-append xs (x ∷ []))
+
+-- a value, taken from the end
+pub taken : {A B : Type 0} (f : A → B) (old new : List A) (x : A) → old ≡ new ++ x ∷ [] → reverse (map f old) ≡ f x ∷ reverse (map f new)
+taken f old new x e = ap (λ l. reverse (map f l)) e ∙ last_value f new x
+
+pub part_taken : {A B : Type 0} (f : A → B) (old new : List A) (x : A) → old ≡ new ++ x ∷ [] → map f (reverse old) ≡ f x ∷ map f (reverse new)
+part_taken f old new x e = ap (λ l. map f (reverse l)) e ∙ last_part f new x
+
+-- the left side of an operator decides, or does not
+pub undecided : (b : Bool) (P Q : Type 0) → b ≡ false → Q → MatchBool b P Q
+undecided b P Q e h = subst (λ c. MatchBool c P Q) (sym e) h
+
+decided : (b : Bool) (P Q : Type 0) → b ≡ true → P → MatchBool b P Q
+decided b P Q e h = subst (λ c. MatchBool c P Q) (sym e) h
+
+document-Bool : (b : Bool) → document (bool_doc b) ≡ boolean b
+document-Bool b = search (rules, the_lemmas)
+
+pub decides_so : {A : Type 0} (b t : Bool) (vs us : List Document) (gs : List Part) (k j n : ℕ) (r : Result A EvalFault) (m : Machine) → b ≡ true → t ≡ is_true (top vs) → us ≡ below vs → j ≡ suc k → Does (λ p. p ≡ pushed us gs j (paid n (document (bool_doc t)))) r m
+    → Does (λ p. MatchBool b (p ≡ pushed (below vs) gs (suc k) (paid n (boolean (is_true (top vs))))) (p ≡ went vs gs k n)) r m
+decides_so b t vs us gs k j n r m yes truth rest more does =
+    let value = document-Bool t ∙ ap boolean truth in
+    does_so (λ p. p ≡ pushed us gs j (paid n (document (bool_doc t)))) (λ p. MatchBool b (p ≡ pushed (below vs) gs (suc k) (paid n (boolean (is_true (top vs))))) (p ≡ went vs gs k n))
+    (λ p e.
+    decided b (p ≡ pushed (below vs) gs (suc k) (paid n (boolean (is_true (top vs))))) (p ≡ went vs gs k n) yes
+    (e ∙ ap (λ x. pushed us gs j (paid n x)) value ∙ ap (λ x. pushed us gs x (paid n (boolean (is_true (top vs))))) more ∙ ap (λ x. pushed x gs (suc k) (paid n (boolean (is_true (top vs))))) rest))
+    r m does
+
+-- one more of a list, or of a map
+pub gathers_item : {A : Type 0} (vs us : List Document) (gs hs : List Part) (d : Document) (g h : Part) (k n : ℕ) (r : Result A EvalFault) (m : Machine)
+    → d ≡ top vs → us ≡ below vs → h ≡ top_part gs → hs ≡ below gs → g ≡ (h.0 ++ d ∷ [], h.1) → Does (λ p. p ≡ went us (g ∷ hs) k n) r m → Does (λ p. p ≡ went (below vs) (with_item (top vs) gs) k n) r m
+gathers_item vs us gs hs d g h k n r m last rest part more made does =
+    does_so (λ p. p ≡ went us (g ∷ hs) k n) (λ p. p ≡ went (below vs) (with_item (top vs) gs) k n)
+    (λ p e.
+    e
+    ∙ ap (λ x. went us (x ∷ hs) k n) made
+    ∙ ap (λ (x : Part). went us ((x.0 ++ d ∷ [], x.1) ∷ hs) k n) part
+    ∙ ap (λ x. went us (((top_part gs).0 ++ x ∷ [], (top_part gs).1) ∷ hs) k n) last
+    ∙ ap (λ x. went us (((top_part gs).0 ++ top vs ∷ [], (top_part gs).1) ∷ x) k n) more
+    ∙ ap (λ x. went x (with_item (top vs) gs) k n) rest)
+    r m does
+
+pub gathers_at : {A : Type 0} (key : List ℕ) (vs us : List Document) (gs hs : List Part) (d : Document) (g h : Part) (k n : ℕ) (r : Result A EvalFault) (m : Machine)
+    → d ≡ top vs → us ≡ below vs → h ≡ top_part gs → hs ≡ below gs → g ≡ (h.0, h.1 ++ (key, d) ∷ []) → Does (λ p. p ≡ went us (g ∷ hs) k n) r m → Does (λ p. p ≡ went (below vs) (with_member key (top vs) gs) k n) r m
+gathers_at key vs us gs hs d g h k n r m last rest part more made does =
+    does_so (λ p. p ≡ went us (g ∷ hs) k n) (λ p. p ≡ went (below vs) (with_member key (top vs) gs) k n)
+    (λ p e.
+    e
+    ∙ ap (λ x. went us (x ∷ hs) k n) made
+    ∙ ap (λ (x : Part). went us ((x.0, x.1 ++ (key, d) ∷ []) ∷ hs) k n) part
+    ∙ ap (λ x. went us (((top_part gs).0, (top_part gs).1 ++ (key, x) ∷ []) ∷ hs) k n) last
+    ∙ ap (λ x. went us (((top_part gs).0, (top_part gs).1 ++ (key, top vs) ∷ []) ∷ x) k n) more
+    ∙ ap (λ x. went x (with_member key (top vs) gs) k n) rest)
+    r m does
+
+pub gathers_member : {A : Type 0} (found : Result (List ℕ) Fault) (key : List ℕ) (vs : List Document) (gs : List Part) (k n : ℕ) (r : Result A EvalFault) (m : Machine) → found ≡ Ok key → Does (λ p. p ≡ went (below vs) (with_member key (top vs) gs) k n) r m → Does (IsGathered found vs gs k n) r m
+gathers_member found key vs gs k n r m e does = subst (λ x. Does (IsGathered x vs gs k n) r m) (sym e) does
+
+pub key_fault : (found : Result (List ℕ) Fault) (f : Fault) (vs : List Document) (gs : List Part) (k n : ℕ) → found ≡ Err f → IsGathered found vs gs k n (ended (faulted f))
+key_fault found f vs gs k n e = subst (λ x. IsGathered x vs gs k n (ended (faulted f))) (sym e) refl
+
+-- a node that is passed over and is neither behind a left side nor behind a right one
+pub passed_other : (x : Node) (k : ℕ) → ((g : Operator) → x ≡ left_node g → ⊥) → ((g : Operator) → x ≡ binary_node g → ⊥) → passed x k ≡ k
+passed_other (left_node g) k left right = absurd (left g refl)
+passed_other (binary_node g) k left right = absurd (right g refl)
+passed_other _ k left right = refl
+
+-- the node is of this kind
+pub of_kind : {A : Type 0} (s : Setting) (x y : Node) (vs : List Document) (gs : List Part) (k n : ℕ) (r : Result A EvalFault) (m : Machine) → x ≡ y → Does (IsStep s y vs gs k n) r m → Does (IsStep s x vs gs k n) r m
+of_kind s x y vs gs k n r m e does = subst (λ z. Does (IsStep s z vs gs k n) r m) (sym e) does
+
+pub one_less_is : (k : ℕ) → k - 1 ≡ one_less k
+one_less_is zero = omega arith
+one_less_is (suc k) = omega arith

@@ -19,9 +19,9 @@ use Rattle.jsone_eval.specs.Calls.{IsCall}
 use Rattle.jsone_eval.specs.Operators.{IsSigned, decides, IsJoined}
 use Rattle.jsone_eval.specs.Outcomes.{Outcome, given, faulted, too_much, paid, at_node}
 use Rattle.jsone_eval.specs.Values.{Setting, bytes_at, text_at, quoted, literal_value, named, member_named, key_span}
-use Rattle.jsone_eval.specs.declared.eval.EvalFault.{EvalFault}
-use Rattle.jsone_eval.specs.declared.eval.EvalFault.TheVariants.{Fault as eval_fault, TooMuchWork, NoMemory as no_memory}
-use Rattle.jsone_eval.specs.declared.machine.Gathered.{Gathered}
+use Rattle.jsone_eval.specs.declared.evaluator.EvalFault.{EvalFault}
+use Rattle.jsone_eval.specs.declared.evaluator.EvalFault.TheVariants.{Fault as eval_fault, TooMuchWork, NoMemory as no_memory}
+use Rattle.jsone_eval.specs.declared.parts.Gathered.{Gathered}
 use Rattle.jsone_eval.specs.declared.machine.Machine.{Machine}
 
 -- what was gathered of a list, or of a map
@@ -140,11 +140,21 @@ Leads s x vs gs k n (Err (eval_fault f)) m = (xs : List Node) → Runs s (x ∷ 
 Leads s x vs gs k n (Err TooMuchWork) m = (xs : List Node) → Runs s (x ∷ xs) vs gs k n too_much
 Leads s x vs gs k n (Err no_memory) m = Unit {0}
 
+-- why nothing was made
+abbrev pub fault_of : Stop → EvalFault
+fault_of (a_fault f) = eval_fault f
+fault_of NoMemory = no_memory
+
 -- what was made of a value, or of what keeps it, by paying for it
 abbrev pub Pays : {A : Type 0} → Result Doc Stop → List Document → List Part → ℕ → ℕ → Result A EvalFault → Machine → Type 0
 Pays (Ok d) vs gs k n r m = Does (λ p. p ≡ pushed vs gs k (paid n (document d))) r m
-Pays (Err (a_fault f)) vs gs k n r m = r ≡ Err (eval_fault f)
-Pays (Err NoMemory) vs gs k n r m = r ≡ Err no_memory
+Pays (Err s) vs gs k n r m = r ≡ Err (fault_of s)
+
+-- the same where nothing is made of what weighs more than may be paid
+abbrev pub PaysWithin : {A : Type 0} → Result (Option Doc) Stop → List Document → List Part → ℕ → ℕ → Result A EvalFault → Machine → Type 0
+PaysWithin (Ok (Some d)) vs gs k n r m = Does (λ p. p ≡ pushed vs gs k (paid n (document d))) r m
+PaysWithin (Ok None) vs gs k n r m = r ≡ Err TooMuchWork
+PaysWithin (Err s) vs gs k n r m = r ≡ Err (fault_of s)
 
 -- what a machine answers at the end, or where it ended before
 abbrev pub Answers : (Outcome → Type 0) → Result Doc EvalFault → ℕ → ℕ → Type 0

@@ -5,11 +5,11 @@ ghost use Rattle.farm_text.specs.Doc.{document, documents};
 ghost use Rattle.jsone_values.specs.Builtins.{IsLengthOf, text_of, kind_of};
 ghost use Rattle.jsone_values.specs.Meets.{Meets, MeetsWithin};
 ghost use Rattle.jsone_values.specs.Operators.{IsNumber};
-ghost use Rattle.jsone_eval.specs.Calls.{as_text, defined, IsOfOne, IsOfTwo, IsOfThree, IsOfMany, IsCall, made};
+ghost use Rattle.jsone_eval.specs.Calls.{as_text, defined, IsOfOne, IsOfTwo, IsOfThree, IsOfMany, IsCalled, IsCall, made};
 ghost use Rattle.jsone_eval.specs.Scopes.{scopes_of};
 
 use crate::context::Context;
-use crate::eval::LIMIT;
+use crate::evaluator::LIMIT;
 use farm_text::Doc;
 use jsone_expr::functions::Function;
 use jsone_values::builtins::{kind_of, length_of, text_of};
@@ -134,6 +134,21 @@ fn of_many(
     }
 }
 
+fn of_function(
+    alloc: Global,
+    function: Function,
+    context: &Context,
+    arguments: &[Doc],
+) -> Result<Option<Doc>, Stop>
+    ensures { MeetsWithin 1000000 (IsCalled function (scopes_of context.now) (documents arguments.now)) result }
+{
+    match function {
+        Function::Min => made(least_of(arguments)),
+        Function::Max => made(greatest_of(arguments)),
+        _ => of_many(alloc, function, context, arguments),
+    }
+}
+
 /// What the function of a name gives for its arguments; nothing, where that weighs more than may be paid.
 pub fn called(
     alloc: Global,
@@ -144,9 +159,7 @@ pub fn called(
     ensures { MeetsWithin 1000000 (IsCall function (scopes_of context.now) (documents arguments.now)) result }
 {
     match function {
-        Some(Function::Min) => made(least_of(arguments)),
-        Some(Function::Max) => made(greatest_of(arguments)),
-        Some(function) => of_many(alloc, function, context, arguments),
+        Some(function) => of_function(alloc, function, context, arguments),
         None => Err(Stop::Fault(Fault::UnknownName)),
     }
 }

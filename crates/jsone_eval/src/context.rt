@@ -1,7 +1,7 @@
 //! What names are bound to.
 ghost use Rattle.std.specs.Prelude.{◌≡◌, ◌++◌, ◌∷◌, [], IfOk, OnOk, option_map};
 ghost use Rattle.farm_text.specs.Doc.{document, documents};
-ghost use Rattle.jsone_eval.specs.Scopes.{bound, scopes_of};
+ghost use Rattle.jsone_eval.specs.Scopes.{instead, bound, scopes_of};
 
 use farm_text::Doc;
 use std::alloc::{AllocError, Global};
@@ -11,6 +11,17 @@ use std::alloc::{AllocError, Global};
 pub struct Context<'a> {
     pub outermost: &'a Doc,
     pub bindings: Vec<Doc>,
+}
+
+/// What the nearer map has, or else what was found.
+fn nearest<'a>(nearer: Option<&'a Doc>, found: Option<&'a Doc>) -> Option<&'a Doc>
+    ensures { option_map (λ d. document d.now) result
+        ≡ instead (option_map (λ d. document d.now) nearer.entry) (option_map (λ d. document d.now) found.entry) }
+{
+    match nearer {
+        Some(_) => nearer,
+        None => found,
+    }
 }
 
 impl<'a> Context<'a> {
@@ -31,9 +42,7 @@ impl<'a> Context<'a> {
     {
         let mut found = self.outermost.get(name);
         for binding in &self.bindings {
-            if let Some(nearer) = binding.get(name) {
-                found = Some(nearer);
-            }
+            found = nearest(binding.get(name), found);
         }
         found
     }

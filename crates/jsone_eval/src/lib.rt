@@ -3,14 +3,15 @@
 
 pub mod calls;
 pub mod context;
-pub mod eval;
+pub mod evaluator;
 pub mod laws;
 mod machine;
 pub mod operators;
+mod parts;
 mod pieces;
 
 pub use context::Context;
-pub use eval::{Cost, EvalFault, eval};
+pub use evaluator::{Cost, EvalFault, eval};
 
 #[cfg(test)]
 mod tests;

@@ -1,15 +1,17 @@
 //! Evaluating node by node.
-ghost use Rattle.std.specs.Prelude.{◌≡◌, suc, MatchResult, [], ◌∷◌, ◌++◌, reverse, map, IfOk, option_map};
-ghost use Rattle.farm_text.specs.Doc.{document, documents};
+ghost use Rattle.std.specs.Prelude.{◌≡◌, [], ◌∷◌};
+ghost use Rattle.farm_text.specs.Doc.{document};
 ghost use Rattle.jsone_expr.specs.declared.nodes.Node.{Node};
-ghost use Rattle.jsone_eval.specs.Machine.{top, top_part, below, side_top, side_below, IsStep, Leads, passed, values_in, part_of, parts_in, Does, Pays, went};
+ghost use Rattle.jsone_eval.specs.Machine.{top, below, with_member, IsStep, Leads, passed, values_in, part_of, parts_in, Does, Pays, PaysWithin, fault_of, pushed, went};
+ghost use Rattle.jsone_eval.specs.Outcomes.{paid};
 ghost use Rattle.jsone_eval.specs.Scopes.{scopes_of};
 ghost use Rattle.jsone_eval.specs.Values.{Setting};
 
 use crate::calls::called;
 use crate::context::Context;
-use crate::eval::{EvalFault, LIMIT};
-use crate::operators::{decides, joined, signed};
+use crate::evaluator::{EvalFault, LIMIT};
+use crate::operators::{joined, signed};
+use crate::parts::{Gathered, left_side, take, take_gathered, take_side, with_item, with_member};
 use crate::pieces::{key_span, literal_value, member_at, named, number_at, quoted, text_at};
 use farm_text::Doc;
 use jsone_expr::marks::{Operator, Sign};
@@ -18,16 +20,8 @@ use jsone_expr::tokens::{Key, Word};
 use jsone_values::faults::Stop;
 use jsone_values::indexes::{index_of, slice_by};
 use jsone_values::maps::map_of;
-use jsone_values::truth::is_true;
 use jsone_values::weights::weight_of;
-use std::alloc::{AllocError, Global};
-
-/// What was gathered of a list or a call's arguments, or of a map.
-#[derive(Drop)]
-pub(crate) struct Gathered {
-    values: Vec<Doc>,
-    members: Vec<(String, Doc)>,
-}
+use std::alloc::Global;
 
 /// The values and the lists that are not whole yet, the innermost last.
 #[derive(Drop)]
@@ -39,70 +33,13 @@ pub(crate) struct Machine {
     spent: u64,
 }
 
-/// One more; more operators than that are in no memory.
-fn one_more(count: usize) -> Result<usize, EvalFault>
-    ensures { MatchResult result (λ more. more ≡ suc count) (λ fault. fault ≡ EvalFault.NoMemory) }
+fn fault_of(stop: Stop) -> EvalFault
+    ensures { result ≡ fault_of stop }
 {
-    match count.checked_add(1) {
-        Some(more) => Ok(more),
-        None => Err(EvalFault::NoMemory),
+    match stop {
+        Stop::Fault(fault) => EvalFault::Fault(fault),
+        Stop::NoMemory => EvalFault::NoMemory,
     }
-}
-
-fn take(values: &mut Vec<Doc>) -> Doc
-    ensures top { document result ≡ top (reverse (documents values.old.items)) }
-    ensures below { reverse (documents values.new.items) ≡ below (reverse (documents values.old.items)) }
-{
-    match values.pop() {
-        Some(value) => value,
-        None => Doc::Null,
-    }
-}
-
-/// A side of a slice, if it is there.
-fn take_side(values: &mut Vec<Doc>, is_there: bool) -> Option<Doc>
-    ensures top { option_map document result ≡ side_top is_there (reverse (documents values.old.items)) }
-    ensures below { reverse (documents values.new.items) ≡ side_below is_there (reverse (documents values.old.items)) }
-{
-    if is_there { Some(take(values)) } else { None }
-}
-
-fn take_gathered(alloc: Global, gathered: &mut Vec<Gathered>) -> Gathered
-    ensures top { part_of result ≡ top_part (map part_of (reverse gathered.old.items)) }
-    ensures below { map part_of (reverse gathered.new.items) ≡ below (map part_of (reverse gathered.old.items)) }
-{
-    match gathered.pop() {
-        Some(part) => part,
-        None => Gathered {
-            values: Vec::new(alloc),
-            members: Vec::new(alloc),
-        },
-    }
-}
-
-/// The part with another value at its end.
-fn with_item(part: Gathered, value: Doc) -> Result<Gathered, AllocError>
-    ensures { IfOk result (λ g. part_of g ≡ ((part_of part).0 ++ document value ∷ [], (part_of part).1)) }
-{
-    let Gathered {
-        mut values,
-        members,
-    } = part;
-    values.push(value)?;
-    Ok(Gathered { values, members })
-}
-
-/// The part with another member at its end.
-fn with_member(alloc: Global, part: Gathered, key: &str, value: Doc) -> Result<Gathered, AllocError>
-    ensures { IfOk result (λ g. part_of g ≡ ((part_of part).0, (part_of part).1 ++ (key.now, document value) ∷ [])) }
-{
-    let Gathered {
-        values,
-        mut members,
-    } = part;
-    let name = String::from_str(alloc, key)?;
-    members.push((name, value))?;
-    Ok(Gathered { values, members })
 }
 
 impl Machine {
@@ -136,27 +73,30 @@ impl Machine {
         (take(&mut values), spent)
     }
 
-    /// Goes past a node of a right side that is not evaluated.
+    /// Goes past a node of a right side that is not evaluated; more operators than can be counted are in no memory.
     fn pass(&mut self, node: Node) -> Result<(), EvalFault>
         ensures { Does (λ p. p ≡ went (values_in self.old) (parts_in self.old) (passed node self.old.passed) self.old.spent) result self.new }
     {
         match node {
-            Node::Left(_) => self.passed = one_more(self.passed)?,
-            Node::Binary(_) => self.passed = self.passed.saturating_sub(1),
-            _ => {}
+            Node::Left(_) => {
+                let Some(passed) = self.passed.checked_add(1) else {
+                    return Err(EvalFault::NoMemory);
+                };
+                self.passed = passed;
+                Ok(())
+            }
+            Node::Binary(_) => {
+                self.passed = self.passed.saturating_sub(1);
+                Ok(())
+            }
+            _ => Ok(()),
         }
-        Ok(())
     }
 
     /// Pays for a value and keeps it.
-    fn pay(&mut self, found: Result<Doc, Stop>) -> Result<(), EvalFault>
-        ensures { Pays found (values_in self.old) (parts_in self.old) self.old.passed self.old.spent result self.new }
+    fn charge(&mut self, value: Doc) -> Result<(), EvalFault>
+        ensures { Does (λ p. p ≡ pushed (values_in self.old) (parts_in self.old) self.old.passed (paid self.old.spent (document value))) result self.new }
     {
-        let value = match found {
-            Ok(value) => value,
-            Err(Stop::Fault(fault)) => return Err(EvalFault::Fault(fault)),
-            Err(Stop::NoMemory) => return Err(EvalFault::NoMemory),
-        };
         let spent = self.spent.saturating_add(weight_of(&value));
         if spent > LIMIT {
             return Err(EvalFault::TooMuchWork);
@@ -169,6 +109,27 @@ impl Machine {
         Ok(())
     }
 
+    /// Pays for what was found, if it is a value.
+    fn pay(&mut self, found: Result<Doc, Stop>) -> Result<(), EvalFault>
+        ensures { Pays found (values_in self.old) (parts_in self.old) self.old.passed self.old.spent result self.new }
+    {
+        match found {
+            Ok(value) => self.charge(value),
+            Err(stop) => Err(fault_of(stop)),
+        }
+    }
+
+    /// The same where nothing is found of what weighs more than may be paid.
+    fn pay_within(&mut self, found: Result<Option<Doc>, Stop>) -> Result<(), EvalFault>
+        ensures { PaysWithin found (values_in self.old) (parts_in self.old) self.old.passed self.old.spent result self.new }
+    {
+        match found {
+            Ok(Some(value)) => self.charge(value),
+            Ok(None) => Err(EvalFault::TooMuchWork),
+            Err(stop) => Err(fault_of(stop)),
+        }
+    }
+
     fn sign(&mut self, sign: Sign) -> Result<(), EvalFault>
         ensures { (s : Setting) → Does (IsStep s (Node.Unary sign) (values_in self.old) (parts_in self.old) self.old.passed self.old.spent) result self.new }
     {
@@ -176,19 +137,20 @@ impl Machine {
         self.pay(signed(sign, &value))
     }
 
-    /// Behind the left side of an operator, which may decide.
+    /// Behind the left side of an operator, which may decide: then the right side is passed over.
     fn decide(&mut self, operator: Operator) -> Result<(), EvalFault>
         ensures { (s : Setting) → Does (IsStep s (Node.Left operator) (values_in self.old) (parts_in self.old) self.old.passed self.old.spent) result self.new }
     {
-        let value = take(&mut self.values);
-        if decides(operator, &value) {
-            self.passed = one_more(self.passed)?;
-            return self.pay(Ok(Doc::Bool(is_true(&value))));
+        let (is_decided, truth) = left_side(&self.values, operator);
+        if !is_decided {
+            return Ok(());
         }
-        match self.values.push(value) {
-            Ok(()) => Ok(()),
-            Err(_) => Err(EvalFault::NoMemory),
-        }
+        take(&mut self.values);
+        let Some(passed) = self.passed.checked_add(1) else {
+            return Err(EvalFault::NoMemory);
+        };
+        self.passed = passed;
+        self.charge(Doc::Bool(truth))
     }
 
     fn join(&mut self, alloc: Global, operator: Operator) -> Result<(), EvalFault>
@@ -233,14 +195,7 @@ impl Machine {
     fn begin(&mut self, alloc: Global) -> Result<(), EvalFault>
         ensures { (s : Setting) → Does (IsStep s Node.Begin (values_in self.old) (parts_in self.old) self.old.passed self.old.spent) result self.new }
     {
-        let part = Gathered {
-            values: Vec::new(alloc),
-            members: Vec::new(alloc),
-        };
-        match self.gathered.push(part) {
-            Ok(()) => Ok(()),
-            Err(_) => Err(EvalFault::NoMemory),
-        }
+        self.keep(Gathered::new(alloc))
     }
 
     /// Puts a part back.
@@ -264,18 +219,24 @@ impl Machine {
         }
     }
 
+    /// Gathers the last value at the key.
+    fn gather_at(&mut self, alloc: Global, key: &str) -> Result<(), EvalFault>
+        ensures { Does (λ p. p ≡ went (below (values_in self.old)) (with_member key.now (top (values_in self.old)) (parts_in self.old)) self.old.passed self.old.spent) result self.new }
+    {
+        let value = take(&mut self.values);
+        let part = take_gathered(alloc, &mut self.gathered);
+        match with_member(alloc, part, key, value) {
+            Ok(part) => self.keep(part),
+            Err(_) => Err(EvalFault::NoMemory),
+        }
+    }
+
     fn gather_member(&mut self, alloc: Global, text: &[u8], key: Key) -> Result<(), EvalFault>
         ensures { (s : Setting) → s.source ≡ text.now → Does (IsStep s (Node.Field key) (values_in self.old) (parts_in self.old) self.old.passed self.old.spent) result self.new }
     {
-        let name = match text_at(text, key_span(key)) {
-            Ok(name) => name,
-            Err(fault) => return Err(EvalFault::Fault(fault)),
-        };
-        let value = take(&mut self.values);
-        let part = take_gathered(alloc, &mut self.gathered);
-        match with_member(alloc, part, name, value) {
-            Ok(part) => self.keep(part),
-            Err(_) => Err(EvalFault::NoMemory),
+        match text_at(text, key_span(key)) {
+            Ok(name) => self.gather_at(alloc, name),
+            Err(fault) => Err(EvalFault::Fault(fault)),
         }
     }
 
@@ -283,11 +244,7 @@ impl Machine {
         ensures { (s : Setting) → s.scopes ≡ scopes_of context.now → Does (IsStep s (Node.Call word) (values_in self.old) (parts_in self.old) self.old.passed self.old.spent) result self.new }
     {
         let part = take_gathered(alloc, &mut self.gathered);
-        match called(alloc, word.function, context, &part.values) {
-            Ok(Some(value)) => self.pay(Ok(value)),
-            Ok(None) => Err(EvalFault::TooMuchWork),
-            Err(stop) => self.pay(Err(stop)),
-        }
+        self.pay_within(called(alloc, word.function, context, &part.values))
     }
 
     fn close_list(&mut self, alloc: Global) -> Result<(), EvalFault>

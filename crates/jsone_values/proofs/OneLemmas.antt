@@ -31,14 +31,6 @@ one_in_range z (Ok m) (Err f) h k = absurd (k.0 h.0)
 one_in_range z (Err f) (Ok n) h k = absurd (h.0 k.0)
 one_in_range z (Err f) (Err g) h k = ap Err (h.1 ∙ sym k.1)
 
-
-
-
-
-
-
-
-
 not_both : (n : ℤ) (f : Fault) → (let r : Result ℤ Fault = Ok n in r) ≡ Err f → ⊥
 not_both n f e = cc
 
@@ -65,7 +57,7 @@ one_quotient a b r q h k = elim (zero_or_not b) [
   | inr some ↦ elim (zero_or_not (int_rem a b)) [
     | inl none ↦ one_in_range (int_div a b) r q (h.exact some none) (k.exact some none)
     | inr rest ↦ h.rest some rest ∙ sym (k.rest some rest)
-    ]
+  ]
 ]
 
 pub one_power : (base exponent : ℤ) → IsOne (IsPower base exponent)
@@ -78,7 +70,7 @@ one_number_of bs r q h k = elim (cases_Bool (are_digits bs)) [
   | inr other ↦ elim (cases_Bool (are_digits (behind_minus bs))) [
     | inl digits ↦ one_in_range _ r q (h.below_zero digits) (k.below_zero digits)
     | inr none ↦ h.no_number other none ∙ sym (k.no_number other none)
-    ]
+  ]
 ]
 
 pub one_of_numbers : (P : ℤ → ℤ → Result ℤ Fault → Type 0) → ((a b : ℤ) → IsOne (P a b)) → (d e : Document) → IsOne (IsOfNumbers P d e)
@@ -139,11 +131,11 @@ same_cut sep bs p q x y h k = elim (cases_lt (length p) (length q)) [
   | inr more ↦ elim (cases_lt (length q) (length p)) [
     | inl less ↦ absurd (h.first (length q) less y (behind sep bs q y k.spelled))
     | inr also ↦
-      let lengths : length p ≡ length q = omega arith in
-      let pieces : p ≡ q = sym (take-append_seam p (sep ++ x)) ∙ ap (take (length p)) (sym h.spelled ∙ k.spelled) ∙ ap (λ n. take n (q ++ (sep ++ y))) lengths ∙ take-append_seam q (sep ++ y) in
-      let ends : sep ++ x ≡ sep ++ y = sym (behind sep bs p x h.spelled) ∙ ap (λ n. drop n bs) lengths ∙ behind sep bs q y k.spelled in
-      (pieces, sym (drop-append_seam sep x) ∙ ap (drop (length sep)) ends ∙ drop-append_seam sep y)
-    ]
+        let lengths : length p ≡ length q = omega arith in
+        let pieces : p ≡ q = sym (take-append_seam p (sep ++ x)) ∙ ap (take (length p)) (sym h.spelled ∙ k.spelled) ∙ ap (λ n. take n (q ++ (sep ++ y))) lengths ∙ take-append_seam q (sep ++ y) in
+        let ends : sep ++ x ≡ sep ++ y = sym (behind sep bs p x h.spelled) ∙ ap (λ n. drop n bs) lengths ∙ behind sep bs q y k.spelled in
+        (pieces, sym (drop-append_seam sep x) ∙ ap (drop (length sep)) ends ∙ drop-append_seam sep y)
+  ]
 ]
 
 pub one_split : (sep bs : List ℕ) (ps qs : List (List ℕ)) → IsSplit sep bs ps → IsSplit sep bs qs → ps ≡ qs

@@ -1,7 +1,7 @@
 -- How many numbers a range has.
 use Rattle.std.proofs.Common.{◌≡◌, ◌≢◌, ℕ, zero, suc, ℤ, pos, negsuc, ◌+◌, ◌-◌, ◌/◌, ◌<◌, ◌≤◌, ◌+ℤ◌, ◌-ℤ◌, ◌≤ℤ◌, ◌<ℤ◌, List, [], ◌∷◌, ◌++◌, length, Bool, true, false, if◌then◌else◌, inl, inr, refl, sym, ap, ◌∙◌, arith, append_assoc, append-nil, length-append, int_lt, FitsSigned, Vec, Global, Result, Ok, Err}
 use Rattle.std.proofs.Math.Nat.{add-div_right, div-eq_of_lt}
-use Rattle.std.proofs.lemmas.Bool.{cases_lt, cases_Bool}
+use Rattle.std.proofs.lemmas.Bool.{cases_lt, cases_Bool, ne_eqb}
 use Rattle.std.specs.Int.{w64}
 use Rattle.farm_text.specs.Document.{Document, whole, array, items_of}
 use Rattle.farm_text.specs.Doc.{document, documents}
@@ -12,6 +12,7 @@ use Rattle.jsone_values.specs.declared.faults.Fault.{Fault}
 use Rattle.jsone_values.specs.declared.faults.Fault.TheVariants.{OutOfRange}
 use Rattle.jsone_values.proofs.JoinLemmas.{document-Int}
 use Rattle.std.proofs.lemmas.Int.{ints}
+use Rattle.jsone_values.specs.Weights.{weight, items_weight}
 use Rattle.jsone_values.specs.Ranges.{positive_part, steps_before, stepping, is_zero, ranged}
 
 -- so many of this size, rounded up
@@ -21,16 +22,16 @@ rounded_up d k = (d + k) / suc k
 rounded_one_more : (d k : ℕ) → 0 < d → rounded_up d k ≡ suc (rounded_up (d - suc k) k)
 rounded_one_more d k some = elim (cases_lt d (suc k)) [
   | inl less ↦
-    let one = add-div_right (d - 1) {k = suc k} (omega arith) in
-    let none : (d - 1) / suc k ≡ 0 = div-eq_of_lt (omega arith) in
-    let rest : (0 + k) / suc k ≡ 0 = div-eq_of_lt (omega arith) in
-    let whole : d + k ≡ (d - 1) + suc k = omega arith in
-    let nothing : d - suc k ≡ 0 = omega arith in
-    rw (whole, nothing) (omega (arith, one, none, rest))
+      let one = add-div_right (d - 1) {k = suc k} (omega arith) in
+      let none : (d - 1) / suc k ≡ 0 = div-eq_of_lt (omega arith) in
+      let rest : (0 + k) / suc k ≡ 0 = div-eq_of_lt (omega arith) in
+      let whole : d + k ≡ (d - 1) + suc k = omega arith in
+      let nothing : d - suc k ≡ 0 = omega arith in
+      rw (whole, nothing) (omega (arith, one, none, rest))
   | inr more ↦
-    let one = add-div_right ((d - suc k) + k) {k = suc k} (omega arith) in
-    let whole : d + k ≡ ((d - suc k) + k) + suc k = omega arith in
-    rw whole (omega (arith, one))
+      let one = add-div_right ((d - suc k) + k) {k = suc k} (omega arith) in
+      let whole : d + k ≡ ((d - suc k) + k) + suc k = omega arith in
+      rw whole (omega (arith, one))
 ]
 
 rounded_none : (k : ℕ) → rounded_up 0 k ≡ 0
@@ -49,8 +50,8 @@ part_less : (y z : ℤ) (k : ℕ) → pos 0 <ℤ z → y ≡ z -ℤ pos (suc k) 
 part_less y z k some e =
     let whole = part_is z (omega (arith, ints)) in
     elim (cases_lt (positive_part z) (suc k)) [
-    | inl less ↦ let none = part_none y (omega (arith, ints)) in omega arith
-    | inr more ↦ let rest = part_is y (omega (arith, ints)) in omega (arith, ints)
+      | inl less ↦ let none = part_none y (omega (arith, ints)) in omega arith
+      | inr more ↦ let rest = part_is y (omega (arith, ints)) in omega (arith, ints)
     ]
 
 one_more : (y z : ℤ) (k : ℕ) → pos 0 <ℤ z → y ≡ z -ℤ pos (suc k) → rounded_up (positive_part z) k ≡ suc (rounded_up (positive_part y) k)
@@ -93,8 +94,7 @@ steps_more from end (pos (suc k)) some h =
     let before : int_lt from end ≡ true = rw up at h in
     step_up from end k (grind (arith, ints))
 steps_more from end (negsuc k) some h =
-    let down : int_lt (pos 0) (negsuc k) ≡ false = grind (arith, ints) in
-    let before : int_lt end from ≡ true = rw down at h in
+    let before : int_lt end from ≡ true = h in
     step_down from end k (grind (arith, ints))
 
 pub steps_done : (from end step : ℤ) → (step ≡ pos 0 → ⊥) → is_before from end step ≡ false → steps_before from end step ≡ 0
@@ -104,8 +104,7 @@ steps_done from end (pos (suc k)) some h =
     let past : int_lt from end ≡ false = rw up at h in
     done_up from end k (grind (arith, ints))
 steps_done from end (negsuc k) some h =
-    let down : int_lt (pos 0) (negsuc k) ≡ false = grind (arith, ints) in
-    let past : int_lt end from ≡ false = rw down at h in
+    let past : int_lt end from ≡ false = h in
     done_down from end k (grind (arith, ints))
 
 -- a number past 64 bits is past the end
@@ -137,18 +136,34 @@ more_than_done done from end step all some before h =
     let more = ap (λ n. length (stepping from step n)) (steps_more from end step some before) in
     omega (arith, whole_length, parts, more)
 
+pub fewer : (from next end step : ℤ) → (step ≡ pos 0 → ⊥) → is_before from end step ≡ true → next ≡ from +ℤ step → steps_before next end step < steps_before from end step
+fewer from next end step some before e = let more = steps_more from end step some before in let same = ap (λ z. steps_before z end step) e in omega (arith, more, same)
+
+pub same_range : (a b y z s t : ℤ) → a ≡ b → y ≡ z → s ≡ t → stepping a s (steps_before a y s) ≡ stepping b t (steps_before b z t)
+same_range a b y z s t e f g = ap (λ x. stepping x s (steps_before x y s)) e ∙ ap (λ x. stepping b s (steps_before b x s)) f ∙ ap (λ x. stepping b x (steps_before b z x)) g
+
 abbrev ranged_if : Bool → ℤ → ℤ → ℤ → Result Document Fault
 ranged_if b from end step = if b then Err OutOfRange else Ok (array (items_of (stepping from step (steps_before from end step))))
 
-range_is : (from end step : Doc) (a z s : ℤ) (b : Bool) → from ≡ int_doc a → end ≡ int_doc z → step ≡ int_doc s → is_zero s ≡ b → ranged (document from) (document end) (document step) ≡ ranged_if b a z s
-range_is from end step a z s b e f g is =
-    ap (λ d. ranged d (document end) (document step)) (ap document e ∙ document-Int a)
-    ∙ ap (λ d. ranged (whole a) d (document step)) (ap document f ∙ document-Int z)
-    ∙ ap (λ d. ranged (whole a) (whole z) d) (ap document g ∙ document-Int s)
-    ∙ ap (λ x. ranged_if x a z s) is
+zero_is : (s : ℤ) → s ≡ pos 0 → is_zero s ≡ true
+zero_is s e = ap is_zero e
 
-pub no_step : (from end step : Doc) (a z s : ℤ) → from ≡ int_doc a → end ≡ int_doc z → step ≡ int_doc s → is_zero s ≡ true → Err OutOfRange ≡ ranged (document from) (document end) (document step)
-no_step from end step a z s e f g is = sym (range_is from end step a z s true e f g is)
+zero_is_not : (s : ℤ) → (s ≡ pos 0 → ⊥) → is_zero s ≡ false
+zero_is_not (pos zero) h = absurd (h refl)
+zero_is_not (pos (suc n)) h = ne_eqb (suc n) 0 (λ e. omega (arith, e))
+zero_is_not (negsuc n) h = refl
 
-pub numbers_made : (from end step : Doc) (a z s : ℤ) (v : Vec Doc Global) → from ≡ int_doc a → end ≡ int_doc z → step ≡ int_doc s → is_zero s ≡ false → documents v.items ≡ stepping a s (steps_before a z s) → Ok (document (list_doc v)) ≡ ranged (document from) (document end) (document step)
-numbers_made from end step a z s v e f g is h = ap Ok (document-List v ∙ ap (λ ds. array (items_of ds)) h) ∙ sym (range_is from end step a z s false e f g is)
+pub no_step : (a z s : ℤ) → s ≡ pos 0 → Err OutOfRange ≡ ranged (whole a) (whole z) (whole s)
+no_step a z s e = sym (ap (λ b. ranged_if b a z s) (zero_is s e))
+
+pub numbers_made : (a z s : ℤ) (v : Vec Doc Global) → (s ≡ pos 0 → ⊥) → documents v.items ≡ stepping a s (steps_before a z s) → Ok (document (list_doc v)) ≡ ranged (whole a) (whole z) (whole s)
+numbers_made a z s v some h = ap Ok (document-List v ∙ ap (λ ds. array (items_of ds)) h) ∙ sym (ap (λ b. ranged_if b a z s) (zero_is_not s some))
+
+-- each number weighs 1
+stepping_weight : (from step : ℤ) (n : ℕ) → items_weight (items_of (stepping from step n)) ≡ length (stepping from step n)
+stepping_weight from step zero = refl
+stepping_weight from step (suc n) = let more = stepping_weight (from +ℤ step) step n in omega (arith, more)
+
+pub numbers_too_many : (a z s : ℤ) (most : ℕ) → (s ≡ pos 0 → ⊥) → most < length (stepping a s (steps_before a z s)) → (x : Document) × (Ok x ≡ ranged (whole a) (whole z) (whole s)) × (most < weight x)
+numbers_too_many a z s most some more =
+    (array (items_of (stepping a s (steps_before a z s))), sym (ap (λ b. ranged_if b a z s) (zero_is_not s some)), omega (arith, more, stepping_weight a s (steps_before a z s)))

@@ -91,7 +91,12 @@ fn side_of(side: Option<&Doc>) -> Result<Option<i64>, Fault>
 }
 
 /// `value[from:to]`, of a list or a text; a side that is absent is an end.
-pub fn slice_by(alloc: Global, value: &Doc, from: Option<&Doc>, to: Option<&Doc>) -> Result<Doc, Stop>
+pub fn slice_by(
+    alloc: Global,
+    value: &Doc,
+    from: Option<&Doc>,
+    to: Option<&Doc>,
+) -> Result<Doc, Stop>
     ensures { Meets (λ r. r ≡ sliced (document value.now) (option_map (λ d. document d.now) from.entry) (option_map (λ d. document d.now) to.entry)) result }
 {
     match (side_of(from), side_of(to)) {

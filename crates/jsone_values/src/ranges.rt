@@ -1,5 +1,6 @@
 //! Ranges of numbers.
 ghost use Rattle.std.specs.Prelude.{◌≡◌, ◌≢◌, pos, ◌<◌, length, int_lt, if◌then◌else◌, IfOk, MatchOption};
+ghost use Rattle.farm_text.specs.Document.{whole};
 ghost use Rattle.farm_text.specs.Doc.{document, documents};
 ghost use Rattle.jsone_values.specs.Ranges.{stepping, steps_before, ranged};
 ghost use Rattle.jsone_values.specs.Meets.{MeetsWithin};
@@ -16,7 +17,6 @@ fn is_before(number: i64, end: i64, step: i64) -> bool
 }
 
 /// The numbers from the first on, a step from one to the next, before the end; none, where there are more than so many.
-#[tactic(none)]
 fn numbers_before(
     alloc: Global,
     from: i64,
@@ -44,8 +44,21 @@ fn numbers_before(
     Ok(Some(numbers))
 }
 
+/// The list of the numbers from the first on and before the second; nothing, where it weighs more than so much.
+fn ranged(alloc: Global, from: i64, end: i64, step: i64, most: usize) -> Result<Option<Doc>, Stop>
+    ensures { MeetsWithin most (λ r. r ≡ ranged (whole from) (whole end) (whole step)) result }
+{
+    if step == 0 {
+        return Err(Stop::Fault(Fault::OutOfRange));
+    }
+    match numbers_before(alloc, from, end, step, most) {
+        Ok(Some(numbers)) => Ok(Some(Doc::List(numbers))),
+        Ok(None) => Ok(None),
+        Err(_) => Err(Stop::NoMemory),
+    }
+}
+
 /// The numbers from the first on and before the second, by steps; nothing, where the list weighs more than so much.
-#[tactic(none)]
 pub fn range_of(
     alloc: Global,
     from: &Doc,
@@ -56,15 +69,8 @@ pub fn range_of(
     ensures { MeetsWithin most
         (λ r. r ≡ ranged (document from.now) (document end.now) (document step.now)) result }
 {
-    let (Doc::Int(from), Doc::Int(end), Doc::Int(step)) = (from, end, step) else {
-        return Err(Stop::Fault(Fault::WrongKind));
-    };
-    if *step == 0 {
-        return Err(Stop::Fault(Fault::OutOfRange));
-    }
-    match numbers_before(alloc, *from, *end, *step, most) {
-        Ok(Some(numbers)) => Ok(Some(Doc::List(numbers))),
-        Ok(None) => Ok(None),
-        Err(_) => Err(Stop::NoMemory),
+    match (from, end, step) {
+        (Doc::Int(from), Doc::Int(end), Doc::Int(step)) => ranged(alloc, *from, *end, *step, most),
+        _ => Err(Stop::Fault(Fault::WrongKind)),
     }
 }

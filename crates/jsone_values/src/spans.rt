@@ -1,12 +1,12 @@
 //! Spans of time, and the moments that they lead to.
-ghost use Rattle.std.specs.Prelude.{◌≡◌, ℕ, ℤ, Bool, Option, min, take, drop, slice_index, true, false, MatchOption, option_map};
+ghost use Rattle.std.specs.Prelude.{◌≡◌, ℕ, ℤ, Bool, Option, Some, min, take, drop, slice_index, true, false, MatchOption, option_map};
 ghost use Rattle.std.specs.Char.{is_ascii_digit, is_ascii_alphabetic};
 ghost use Rattle.std.specs.List.{prefix_len};
 ghost use Rattle.farm_text.specs.Doc.{document};
 ghost use Rattle.jsone_values.specs.Letters.{is_space};
 ghost use Rattle.jsone_values.specs.Meets.{Meets};
 ghost use Rattle.jsone_values.specs.Numbers.{digits_from};
-ghost use Rattle.jsone_values.specs.Spans.{units, unit_of, unspaced, front_digits, behind_digits, front_word, behind_word, begins_with_part, behind_part, parts_of, span_of, shifted, IsTextOf, IsPlaceOf, IsMovedFrom, IsMovedBy, IsFromNow};
+ghost use Rattle.jsone_values.specs.Spans.{units, unit_of, unspaced, front_digits, behind_digits, front_word, behind_word, begins_with_part, behind_part, parts_of, span_of, shifted, IsTextOf, IsPlaceOf, IsMovedFrom, IsMoved, IsMovedBy, IsFromNow};
 
 use crate::faults::{Fault, Stop};
 use crate::numbers::saturated;
@@ -113,12 +113,11 @@ fn leading_word(bytes: &[u8]) -> (&[u8], &[u8])
 }
 
 /// How many of the unit the text begins with, if it does, and what stands behind its name.
-#[tactic(none)]
 fn part(bytes: &[u8], unit: u64) -> Option<(u64, &[u8])>
     ensures { MatchOption result (begins_with_part unit bytes.now ≡ false)
         (λ p. (begins_with_part unit bytes.now ≡ true)
-            × (p.0 ≡ min (digits_from 0 (front_digits bytes.now)) 18446744073709551615)
-            × (p.1.now ≡ behind_part bytes.now)) }
+        × (p.0 ≡ min (digits_from 0 (front_digits bytes.now)) 18446744073709551615)
+        × (p.1.now ≡ behind_part bytes.now)) }
 {
     let (digits, behind) = leading_digits(bytes);
     if digits.is_empty() {
@@ -126,22 +125,30 @@ fn part(bytes: &[u8], unit: u64) -> Option<(u64, &[u8])>
     }
     let (word, rest) = leading_word(unspaced(behind));
     match unit_of(word) {
-        Some(size) if size == unit => Some((saturated(digits), rest)),
-        _ => None,
+        Some(size) => {
+            if size == unit {
+                Some((saturated(digits), rest))
+            } else {
+                None
+            }
+        }
+        None => None,
     }
 }
 
 /// The sum of the parts, of these units in order; 2^64 - 1 stands for all that is more.
-#[tactic(none)]
 fn parts_of(units: &[u64], bytes: &[u8]) -> Option<u64>
     ensures { result ≡ option_map (λ n. min n 18446744073709551615) (parts_of units.now bytes.now) }
 {
     let mut rest = bytes;
     let mut total = 0u64;
     for unit in units {
-        if let Some((count, behind)) = part(unspaced(rest), *unit) {
-            total = total.saturating_add(count.saturating_mul(*unit));
-            rest = behind;
+        match part(unspaced(rest), *unit) {
+            Some((count, behind)) => {
+                total = total.saturating_add(count.saturating_mul(*unit));
+                rest = behind;
+            }
+            None => {}
         }
     }
     if unspaced(rest).is_empty() {
@@ -166,8 +173,16 @@ fn first_byte(bytes: &[u8]) -> u8
     }
 }
 
+fn with_sign(is_back: bool, parts: Option<u64>) -> Option<(bool, u64)>
+    ensures { result ≡ option_map (λ n. (is_back, n)) parts }
+{
+    match parts {
+        Some(millis) => Some((is_back, millis)),
+        None => None,
+    }
+}
+
 /// Whether the span leads back, and its milliseconds; 2^64 - 1 stands for all that is more.
-#[tactic(none)]
 fn span_of(bytes: &[u8]) -> Option<(bool, u64)>
     ensures { result ≡ option_map (λ span. (span.0, min span.1 18446744073709551615)) (span_of bytes.now) }
 {
@@ -175,16 +190,15 @@ fn span_of(bytes: &[u8]) -> Option<(bool, u64)>
     let (_, behind) = cut(rest, 1);
     let first = first_byte(rest);
     if first == b'-' {
-        return Some((true, all_parts_of(behind)?));
+        return with_sign(true, all_parts_of(behind));
     }
     if first == b'+' {
-        return Some((false, all_parts_of(behind)?));
+        return with_sign(false, all_parts_of(behind));
     }
-    Some((false, all_parts_of(bytes)?))
+    with_sign(false, all_parts_of(bytes))
 }
 
 /// The moment so long before or after another one, if there is one.
-#[tactic(none)]
 fn moved(moment: Moment, is_back: bool, millis: u64) -> Option<Moment>
     ensures { (n : ℕ) → millis ≡ min n 18446744073709551615 → IsPlaceOf (shifted (is_back, n) moment) result }
 {
@@ -222,6 +236,17 @@ fn moved_from(alloc: Global, from: &[u8], is_back: bool, millis: u64) -> Result<
     }
 }
 
+/// The same from a value, which has to be a text.
+fn moved_from_value(alloc: Global, from: &Doc, is_back: bool, millis: u64) -> Result<Doc, Stop>
+    ensures { (n : ℕ) → millis ≡ min n 18446744073709551615
+        → Meets (IsMoved (is_back, n) (Some (document from.now))) result }
+{
+    match from {
+        Doc::Text(from) => moved_from(alloc, from.as_bytes(), is_back, millis),
+        _ => Err(Stop::Fault(Fault::WrongKind)),
+    }
+}
+
 /// The same from a value, or from nothing, by a span, if there is one.
 fn moved_by(alloc: Global, span: Option<(bool, u64)>, from: Option<&Doc>) -> Result<Doc, Stop>
     ensures { (o : Option (Bool × ℕ)) → span ≡ option_map (λ p. (p.0, min p.1 18446744073709551615)) o
@@ -230,10 +255,7 @@ fn moved_by(alloc: Global, span: Option<(bool, u64)>, from: Option<&Doc>) -> Res
     match (span, from) {
         (None, _) => Err(Stop::Fault(Fault::BadSpan)),
         (Some(_), None) => Err(Stop::Fault(Fault::UnknownName)),
-        (Some((is_back, millis)), Some(Doc::Text(from))) => {
-            moved_from(alloc, from.as_bytes(), is_back, millis)
-        }
-        (Some(_), Some(_)) => Err(Stop::Fault(Fault::WrongKind)),
+        (Some((is_back, millis)), Some(from)) => moved_from_value(alloc, from, is_back, millis),
     }
 }
 

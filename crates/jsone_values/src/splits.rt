@@ -13,7 +13,6 @@ use farm_text::Doc;
 use std::alloc::{AllocError, Global};
 
 /// The pieces of a text between the separators.
-#[tactic(none)]
 fn pieces(alloc: Global, text: &str, separator: &str) -> Result<Vec<Doc>, AllocError>
     requires { 0 < length separator.now }
     ensures { IfOk result (λ v. (ps : List (List ℕ)) × IsSplit separator.now text.now ps

@@ -14,6 +14,7 @@ use std::cmp::Ordering;
 use std::test::Fail;
 
 mod kinds;
+mod made;
 mod numbers;
 
 const GREATEST: i64 = i64::MAX;

@@ -1,6 +1,6 @@
 //! What expressions cost, and that the dearest end soon.
 use crate::context::Context;
-use crate::eval::{Cost, eval};
+use crate::evaluator::{Cost, eval};
 use crate::tests::read;
 use farm_text::{Doc, Entries};
 use jsone_expr::parse;

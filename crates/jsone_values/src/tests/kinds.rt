@@ -1,11 +1,8 @@
 //! Operators and functions that take values of any kind.
 use crate::faults::Stop;
 use crate::indexes::{index_of, slice_by};
-use crate::letters::{
-    left_strip_of, lowercase_of, right_strip_of, strip_of, uppercase_of,
-};
-use crate::lists::{absolute_of, greatest_of, join_of, least_of, number_of};
-use crate::maps::map_of;
+use crate::letters::{left_strip_of, lowercase_of, right_strip_of, strip_of, uppercase_of};
+use crate::lists::{absolute_of, greatest_of, least_of, number_of};
 use crate::operators::{
     difference_of, kept_number_of, membership_of, negation_of, power_of, product_of, quotient_of,
     sum_of,
@@ -15,8 +12,8 @@ use farm_text::Doc;
 use std::alloc::{AllocError, Global};
 use std::test::Fail;
 
-/// Whether this compact text is the value's, or `!` and this digit the fault's.
-fn is(alloc: Global, made: Result<Doc, Stop>, wanted: &str) -> Result<bool, AllocError> {
+/// Whether this compact text is the value's, or `!` and these digits the fault's.
+pub(super) fn is(alloc: Global, made: Result<Doc, Stop>, wanted: &str) -> Result<bool, AllocError> {
     match made {
         Ok(value) => Ok(value.write(alloc)?.as_str() == wanted),
         Err(Stop::Fault(fault)) => {
@@ -38,6 +35,18 @@ fn operated(alloc: Global, operator: &str, left: &Doc, right: &Doc) -> Result<Do
         "[]" => index_of(alloc, left, right),
         _ => slice_by(alloc, left, Some(right), None),
     }
+}
+
+fn operates(
+    alloc: Global,
+    operator: &str,
+    left: &str,
+    right: &str,
+    wanted: &str,
+) -> Result<bool, Fail> {
+    let left = read(alloc, left)?;
+    let right = read(alloc, right)?;
+    Ok(is(alloc, operated(alloc, operator, &left, &right), wanted)?)
 }
 
 #[test]
@@ -72,10 +81,10 @@ fn operators_take_values_of_any_kind(rt: HostRuntime) -> Result<(), Fail> {
         ("\"abc\"", "[:]", "-1", "\"c\""),
         ("[10]", "[:]", "null", "!3"),
     ] {
-        let left = read(rt.alloc(), left)?;
-        let right = read(rt.alloc(), right)?;
-        let made = operated(rt.alloc(), operator, &left, &right);
-        assert!(rt; is(rt.alloc(), made, wanted)?, "{operator} {wanted}");
+        assert!(rt;
+            operates(rt.alloc(), operator, left, right, wanted)?,
+            "{operator} {wanted}"
+        );
     }
     Ok(())
 }
@@ -92,6 +101,11 @@ fn answered(alloc: Global, function: &str, value: &Doc) -> Result<Doc, Stop> {
         "lstrip" => left_strip_of(alloc, value),
         _ => right_strip_of(alloc, value),
     }
+}
+
+fn answers(alloc: Global, function: &str, value: &str, wanted: &str) -> Result<bool, Fail> {
+    let value = read(alloc, value)?;
+    Ok(is(alloc, answered(alloc, function, &value), wanted)?)
 }
 
 #[test]
@@ -117,9 +131,10 @@ fn functions_take_a_value_of_any_kind(rt: HostRuntime) -> Result<(), Fail> {
         ("rstrip", "\" a \"", "\" a\""),
         ("rstrip", "null", "!3"),
     ] {
-        let value = read(rt.alloc(), value)?;
-        let made = answered(rt.alloc(), function, &value);
-        assert!(rt; is(rt.alloc(), made, wanted)?, "{function} {wanted}");
+        assert!(rt;
+            answers(rt.alloc(), function, value, wanted)?,
+            "{function} {wanted}"
+        );
     }
     Ok(())
 }
@@ -132,6 +147,12 @@ fn items(alloc: Global, text: &str) -> Result<Vec<Doc>, Fail> {
     }
 }
 
+fn picks(alloc: Global, values: &str, least: &str, greatest: &str) -> Result<bool, Fail> {
+    let values = items(alloc, values)?;
+    let is_least = is(alloc, least_of(&values), least)?;
+    Ok(is_least && is(alloc, greatest_of(&values), greatest)?)
+}
+
 #[test]
 fn several_numbers_have_a_least_and_a_greatest(rt: HostRuntime) -> Result<(), Fail> {
     for (values, least, greatest) in [
@@ -142,7 +163,10 @@ fn several_numbers_have_a_least_and_a_greatest(rt: HostRuntime) -> Result<(), Fa
     ] {
         let values = items(rt.alloc(), values)?;
         assert!(rt; is(rt.alloc(), least_of(&values), least)?, "{least}");
-        assert!(rt; is(rt.alloc(), greatest_of(&values), greatest)?, "{greatest}");
+        assert!(rt;
+            is(rt.alloc(), greatest_of(&values), greatest)?,
+            "{greatest}"
+        );
     }
     Ok(())
 }
