@@ -1,6 +1,0 @@
-pub mod Outcomes
-pub mod Scopes
-pub mod Operators
-pub mod Calls
-pub mod Values
-pub mod Machine
