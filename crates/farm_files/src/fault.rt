@@ -39,7 +39,7 @@ pub enum Rule {
 }
 
 impl Rule {
-    /// The number under which a rule is told: 1 to 7, and 9 for a file that is too long.
+    /// The number of a rule: 1 to 7, and 9 for a file that is too long.
     pub fn number(self) -> u8
         ensures { result ≡ rule_number self }
     {

@@ -169,10 +169,22 @@ fn unknown_key<'a>(spot: &Spot<'a>) -> Words<'a> {
     for (key, value) in spot.keys {
         let name = key.as_str();
         if !fields_of(spot.table).iter().any(|field| field.name == name) {
-            return spot.at(name, Found::Value(value), known_keys(spot.table));
+            return spot.at(
+                name,
+                found_under_unknown(spot.table, value),
+                known_keys(spot.table),
+            );
         }
     }
     spot.at("", Found::Nothing, "a key is not known")
+}
+
+/// What is shown of a value whose key is not known: of a client's nothing, since it may be a token.
+fn found_under_unknown(table: Table, value: &Value) -> Found<'_> {
+    match table {
+        Table::Client => Found::Nothing,
+        _ => Found::Value(value),
+    }
 }
 
 /// The first key that is missing.
@@ -212,7 +224,12 @@ fn wrong_value<'a>(spot: &Spot<'a>, field: &Field, value: &'a Value) -> Words<'a
             }
         }
     }
-    spot.at(field.name, Found::Value(value), kind_words(field.kind))
+    let found = if field.name == "token" {
+        Found::Nothing
+    } else {
+        Found::Value(value)
+    };
+    spot.at(field.name, found, kind_words(field.kind))
 }
 
 /// The first value that is out of its form or range.

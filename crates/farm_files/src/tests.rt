@@ -285,7 +285,7 @@ fn the_line_is_told_that_is_not_toml(rt: HostRuntime) -> Result<(), Fail> {
 
 #[test]
 fn faults_of_rows_are_told_in_a_line(rt: HostRuntime) -> Result<(), Fail> {
-    let rows: [(&[u8], &str); 9] = [
+    let rows: [(&[u8], &str); 11] = [
         (
             b"role = [{ id = 'a', scopes = [] }, { id = 'b', scopes = [] }, { id = 'a', scopes = [] }]\n",
             "[[role]] row 3 (id \"a\"): row 1 has this id, too",
@@ -309,6 +309,14 @@ fn faults_of_rows_are_told_in_a_line(rt: HostRuntime) -> Result<(), Fail> {
         (
             b"client = [{ id = 'c', token = 'secret', scopes = [], expires = '2030-01-01T00:00:00Z' }]\n",
             "[[client]] row 1 (id \"c\") token of 6 bytes: a token is 22 to 66 of [A-Za-z0-9_-]",
+        ),
+        (
+            b"client = [{ id = 'c', token = 7, scopes = [], expires = '2030-01-01T00:00:00Z' }]\n",
+            "[[client]] row 1 (id \"c\") token: it has to be a text",
+        ),
+        (
+            b"client = [{ id = 'c', toke = 'secret', scopes = [], expires = '2030-01-01T00:00:00Z' }]\n",
+            "[[client]] row 1 (id \"c\") toke: not known: the keys are id, token, scopes, expires and disabled",
         ),
         (
             b"client = [{ id = 'c', token = 'werxhqb98rpaxn39848xrunp', scopes = [], expires = '2030-01-01' }]\n",
