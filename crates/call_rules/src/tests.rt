@@ -109,10 +109,28 @@ const RECLAIM: &str = "queue:reclaim-task:AAAAAAAAQACAAAAAAAAAAA/0";
 
 const RESOLVE: &str = "queue:resolve-task:AAAAAAAAQACAAAAAAAAAAA/49";
 
+/// Whether telling a task's status asks this as a call, and creating the task does not.
+fn tells_status(alloc: Global, id: SlugId, def: &TaskDef, status: &str) -> bool {
+    asks_one(&expression(alloc, Call::Status(id)), status)
+        && !asks_one(&expression(alloc, Call::CreateTask(def)), status)
+}
+
+fn status_asks(alloc: Global, status: &str) -> Option<bool> {
+    let id = first_id()?;
+    let def = definition(alloc, SCOPED, id)?;
+    Some(tells_status(alloc, id, &def, status))
+}
+
+#[test]
+fn what_telling_a_status_asks(rt: HostRuntime) {
+    assert!(rt; status_asks(rt.alloc(), STATUS) == Some(true));
+    assert!(rt; status_asks(rt.alloc(), RECLAIM) == Some(false));
+}
+
 /// Whether telling, keeping and reporting ask these.
 fn one_task_asks(alloc: Global, status: &str, reclaim: &str, resolve: &str) -> Option<bool> {
     let id = first_id()?;
-    let told = asks_one(&expression(alloc, Call::Status(id)), status);
+    let told = asks_one(&status_scope(alloc, id), status);
     let kept = asks_one(&reclaim_scope(alloc, id, 0), reclaim);
     let reported = asks_one(&resolve_scope(alloc, id, 49), resolve);
     Some(told && kept && reported)
