@@ -11,26 +11,19 @@ use Rattle.run_states.specs.declared.run.Run.{Run}
 use Rattle.run_states.specs.Runs.{is_pending_run}
 use Rattle.run_states.specs.Rows.{Row, is_pending, new_row, scheduled}
 use Rattle.run_states.specs.Moves.{run_again, canceled, claimed, reclaimed, resolved}
-use Rattle.run_states.proofs.LaterLemmas.{again-later, claimed-later, canceled-later, reclaimed-later, resolved-later}
+use Rattle.run_states.proofs.LaterLemmas.{scheduled-later, again-later, claimed-later, canceled-later, reclaimed-later, resolved-later}
 use Rattle.farm_record.specs.declared.change.Creation.{Creation}
 use Rattle.farm_record.specs.declared.change.RunName.{RunName}
 use Rattle.farm_rows.specs.declared.plan.Deed.{Deed}
-use Rattle.farm_rows.specs.declared.plan.Deed.TheVariants.{Create, Rerun, Cancel, Claim as TakesRuns, Reclaim, Resolve}
+use Rattle.farm_rows.specs.declared.plan.Deed.TheVariants.{Create, Schedule, Rerun, Cancel, Claim as TakesRuns, Reclaim, Resolve}
 use Rattle.farm_rows.specs.Contents.{Contents, row_with, HaveOwnIds}
 use Rattle.farm_rows.specs.Changes.{change_row, reason_of, claim_of, all_claimed, may_keep, are_first, creating, may_be, may_apply, applied}
+use Rattle.farm_rows.specs.Ready.{is_ready, has_ready, settled_row}
 use Rattle.farm_rows.specs.Deeds.{kind_of, change_of, row_of, shown_of, rows_after, planned_of}
 use Rattle.farm_rows.specs.Picks.{is_same_queue, waits_in, goes_before, better, pick, picks, last_name, names_last, are_picks, without}
 use Rattle.farm_rows.specs.Plans.{room_for, rows_with, named_rows, FindsRoom, IsPlanOn}
-use Rattle.farm_rows.specs.Sweep.{all_turns}
 use Rattle.farm_rows.proofs.ChangeLemmas.{may-is, rows-applied}
 use Rattle.farm_rows.proofs.IdLemmas.{created-stands}
-use Rattle.farm_rows.proofs.TurnLemmas.{all-ids}
-
--- all turns leave each task its id
-pub all-own : (before after : Contents) (moment : ℕ) → all_turns before moment ≡ after → HaveOwnIds before.rows → HaveOwnIds after.rows
-all-own before after moment turns own =
-    let same : map (λ row. row.id) after.rows ≡ map (λ row. row.id) before.rows = ap (λ (c : Contents). map (λ row. row.id) c.rows) (sym turns) ∙ all-ids before moment in
-    subst (IsDistinct bytes_eq) (sym same) own
 
 -- ---- a change of one task
 
@@ -263,6 +256,7 @@ first-other (name ∷ names) rows are = by (row_with name.id rows) are where
 
 deed-shown : (contents : Contents) (at number : ℕ) (deed : Deed) → may_be contents at (kind_of deed) ≡ true → rows_after at number deed (named_rows (kind_of deed) contents.rows) ≡ named_rows (kind_of deed) (rows_after at number deed contents.rows)
 deed-shown contents at number (Create row) may = refl
+deed-shown contents at number (Schedule id) may = one-found id (scheduled number at) (λ row. (scheduled-later number at row).id) contents.rows
 deed-shown contents at number (Rerun id) may = one-found id (run_again number at) (λ row. (again-later number at row).id) contents.rows
 deed-shown contents at number (Cancel id) may = one-found id (canceled at) (λ row. (canceled-later at row).id) contents.rows
 deed-shown contents at number (TakesRuns claim) may =
@@ -275,6 +269,7 @@ deed-shown contents at number (Resolve r) may =
 
 shown-list : (deed : Deed) (rows : List Row) → row_of deed ≡ None → shown_of deed rows ≡ rows
 shown-list (Create row) rows none = cc
+shown-list (Schedule id) rows none = refl
 shown-list (Rerun id) rows none = refl
 shown-list (Cancel id) rows none = refl
 shown-list (TakesRuns claim) rows none = refl
@@ -283,6 +278,7 @@ shown-list (Resolve r) rows none = refl
 
 finds-room : (deed : Deed) (stand room : ℕ) → row_of deed ≡ None → FindsRoom stand room (kind_of deed)
 finds-room (Create row) stand room none = cc
+finds-room (Schedule id) stand room none = tt
 finds-room (Rerun id) stand room none = tt
 finds-room (Cancel id) stand room none = tt
 finds-room (TakesRuns claim) stand room none = tt
@@ -380,10 +376,9 @@ picks-first (suc count) queue rows name names own is = by (pick queue rows) refl
 -- ---- a creation
 
 -- a creation is planned with the task that it makes
-pub IsPlanOn-created : (contents : Contents) (at room : ℕ) (creation : Creation) (row : Row) → may_apply contents (creating at creation) ≡ true → row ≡ scheduled contents.next at (new_row creation.id creation.definition) → room_for (length contents.rows + 1) ≤ max (room_for (length contents.rows)) room → IsPlanOn contents (planned_of at (Create row) [] room)
-IsPlanOn-created contents at room creation row lawful is enough = rw is made where
-  new : Row
-  new = scheduled contents.next at (new_row creation.id creation.definition)
-
-  made : IsPlanOn contents (planned_of at (Create new) [] room)
-  made = record { lawful = lawful; shows = sym (ap (λ (o : Option Row). option_to_list o ++ []) (created-stands contents at creation lawful)); room = enough }
+pub IsPlanOn-created : (contents : Contents) (at room : ℕ) (creation : Creation) (row : Row) → has_ready contents ≡ false → may_apply contents (creating at creation) ≡ true → row ≡ settled_row contents at (new_row creation.id creation.definition)
+    → room_for (length contents.rows + 1) ≤ max (room_for (length contents.rows)) room → IsPlanOn contents (planned_of at (Create row) [] room)
+IsPlanOn-created contents at room creation row none lawful is enough = rw is (new-planned (is_ready contents.rows (new_row creation.id creation.definition)) refl) where
+  new-planned : (b : Bool) → is_ready contents.rows (new_row creation.id creation.definition) ≡ b → IsPlanOn contents (planned_of at (Create (settled_row contents at (new_row creation.id creation.definition))) [] room)
+  new-planned true ready = rw ready (record { lawful = lawful; shows = sym (ap (λ (o : Option Row). option_to_list o ++ []) (rw ready at created-stands contents at creation none lawful)); room = enough })
+  new-planned false ready = rw ready (record { lawful = lawful; shows = sym (ap (λ (o : Option Row). option_to_list o ++ []) (rw ready at created-stands contents at creation none lawful)); room = enough })

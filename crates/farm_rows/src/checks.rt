@@ -1,10 +1,13 @@
 //! Which changes may be made of one task.
-ghost use Rattle.std.specs.Prelude.{◌≡◌, not};
-ghost use Rattle.run_states.specs.Rows.{is_resolved, is_running_at};
+ghost use Rattle.std.specs.Prelude.{◌≡◌, not, nat_le, false, find, bytes_eq, option_copied};
+ghost use Rattle.std.specs.Option.{option_map_or};
+ghost use Rattle.run_states.specs.Rows.{is_unscheduled, is_resolved, is_running_at};
 ghost use Rattle.run_states.specs.Moves.{may_rerun};
-ghost use Rattle.farm_rows.specs.Changes.{on_row, may_keep};
+ghost use Rattle.farm_rows.specs.Changes.{on_row, may_keep, waits_well, may_join};
+ghost use Rattle.farm_rows.specs.Contents.{row_with};
 
 use crate::moves::row_with;
+use farm_record::Creation;
 use farm_text::{Moment, SlugId};
 use run_states::{MOST_RUNS, TaskRow};
 
@@ -52,4 +55,52 @@ pub(crate) fn is_running(rows: &[TaskRow], id: SlugId, run: u8) -> bool
         Some(row) => row.is_running_at(run),
         None => false,
     }
+}
+
+/// Whether the task with this id stands and is unscheduled.
+pub(crate) fn may_schedule(rows: &[TaskRow], id: SlugId) -> bool
+    ensures { result ≡ on_row is_unscheduled id rows.now }
+{
+    match row_with(rows, id) {
+        Some(row) => row.is_unscheduled(),
+        None => false,
+    }
+}
+
+/// Whether each task that a new one waits for stands, and expires no earlier than its deadline; or is the task itself.
+pub(crate) fn waits_well(rows: &[TaskRow], creation: &Creation) -> bool
+    ensures { result ≡ waits_well creation.now rows.now }
+{
+    let deadline = creation.definition.deadline;
+    creation.definition.dependencies.list().iter().all(|id| *id == creation.id
+        || stands_until(rows, *id, deadline))
+}
+
+/// Whether the task with this id stands, and expires no earlier than this.
+fn stands_until(rows: &[TaskRow], id: SlugId, moment: Moment) -> bool
+    ensures { result ≡ option_map_or (λ row. nat_le moment row.definition.expires) (row_with id rows.now) false }
+{
+    match row_with(rows, id) {
+        Some(row) => moment <= row.definition().expires,
+        None => false,
+    }
+}
+
+/// Whether a new task has the scheduler of its group, where that has tasks.
+pub(crate) fn may_join(rows: &[TaskRow], creation: &Creation) -> bool
+    ensures { result ≡ may_join creation.now rows.now }
+{
+    match first_of(rows, creation.definition.task_group_id) {
+        Some(row) => row.definition().scheduler_id.as_str()
+            == creation.definition.scheduler_id.as_str(),
+        None => true,
+    }
+}
+
+/// The first task of a group.
+fn first_of(rows: &[TaskRow], group: SlugId) -> Option<&TaskRow>
+    ensures { option_copied result ≡ find (λ row. bytes_eq row.definition.task_group_id group) rows.now }
+{
+    rows.iter()
+        .find(|row| row.definition().task_group_id == group)
 }

@@ -4,21 +4,25 @@ ghost use Rattle.farm_text.specs.declared.moment.TheConstants.{LAST_TOLD_MOMENT}
 ghost use Rattle.farm_rows.specs.Contents.{no_contents, row_with, counts_of, HaveOwnIds};
 ghost use Rattle.farm_rows.specs.Due.{is_due, advance};
 ghost use Rattle.farm_rows.specs.Picks.{waits_in, picks};
-ghost use Rattle.farm_rows.specs.Changes.{is_alone, creating, may_create, may_be, may_apply, applied};
+ghost use Rattle.farm_rows.specs.Changes.{creating, may_create, may_be, may_apply, applied};
 ghost use Rattle.farm_rows.specs.Plans.{named_rows, IsPlanOn};
 ghost use Rattle.farm_rows.specs.Deeds.{kind_of, change_of, row_of, planned_of, claims_of, rows_after};
 ghost use Rattle.farm_rows.specs.Sweep.{all_turns};
 
-use crate::checks::{is_running, may_cancel, may_keep, may_rerun};
+use crate::checks::{
+    is_running, may_cancel, may_join, may_keep, may_rerun, may_schedule, waits_well,
+};
 use crate::copies::claims;
 use crate::counts::RowCounts;
 use crate::moves::row_with;
 use crate::picks::{may_claim, pending, picks};
 use crate::plan::{Deed, TaskPlan};
 use crate::room::{add, grown};
+use crate::settle::settle_new;
 use crate::shown::shown;
-use crate::sweep::{resolve_due, soonest, soonest_with};
-use crate::work::make;
+use crate::sweep::{soonest, soonest_with};
+use crate::turns::resolve_due;
+use crate::work::change;
 use farm_record::{Change, Creation, Kind, RunName};
 use farm_text::{LAST_TOLD_MOMENT, Moment, SlugId};
 use run_states::{Claim as RunClaim, TaskRow};
@@ -176,11 +180,12 @@ impl TaskTables {
         match kind {
             Kind::Create(creation) => Ok(Some(self.plan_creation(alloc, at, creation)?)),
             Kind::Claim(claim) => Ok(Some(self.plan_of(alloc, at, Deed::Claim(claim))?)),
+            Kind::Schedule(id) => Ok(Some(self.plan_of(alloc, at, Deed::Schedule(id))?)),
             Kind::Rerun(id) => Ok(Some(self.plan_of(alloc, at, Deed::Rerun(id))?)),
             Kind::Cancel(id) => Ok(Some(self.plan_of(alloc, at, Deed::Cancel(id))?)),
             Kind::Reclaim(r) => Ok(Some(self.plan_of(alloc, at, Deed::Reclaim(r))?)),
             Kind::Resolve(r) => Ok(Some(self.plan_of(alloc, at, Deed::Resolve(r))?)),
-            _ => Ok(None),
+            Kind::Tick => Ok(None),
         }
     }
 
@@ -197,7 +202,7 @@ impl TaskTables {
     {
         let grown = grown(alloc, self.rows.len())?;
         let mut row = TaskRow::make(alloc, creation.id, creation.definition)?;
-        row.schedule(at, self.next);
+        settle_new(&self.rows, &mut row, at, self.next);
         Ok(TaskPlan {
             at,
             deed: Deed::Create(row),
@@ -257,11 +262,12 @@ impl TaskTables {
         match kind {
             Kind::Create(creation) => self.may_create(at, creation),
             Kind::Claim(claim) => may_claim(&self.rows, at, claim),
+            Kind::Schedule(id) => may_schedule(&self.rows, *id),
             Kind::Rerun(id) => may_rerun(&self.rows, *id, at),
             Kind::Cancel(id) => may_cancel(&self.rows, *id),
             Kind::Reclaim(r) => may_keep(at, r.taken_until) && is_running(&self.rows, r.id, r.run),
             Kind::Resolve(r) => is_running(&self.rows, r.id, r.run),
-            _ => false,
+            Kind::Tick => false,
         }
     }
 
@@ -270,8 +276,9 @@ impl TaskTables {
         ensures { result ≡ may_create self.now at creation.now }
     {
         self.row(creation.id).is_none()
-            && is_alone(creation)
             && at < creation.definition.deadline
+            && waits_well(&self.rows, creation)
+            && may_join(&self.rows, creation)
             && self.rows.len() < MOST_TASKS
     }
 
@@ -300,9 +307,10 @@ impl TaskTables {
         ensures { self.new ≡ applied self.old (change_of at (Deed.Create row)) }
     {
         let soonest = soonest_with(self.soonest, &row);
+        let drawn = row.runs().len() as u64;
         add(&mut self.rows, grown, row);
         self.soonest = soonest;
-        self.next += 1;
+        self.next += drawn;
         self.last = at;
     }
 
@@ -313,17 +321,9 @@ impl TaskTables {
         requires lawful { may_apply self.old (change_of at deed.now) ≡ true }
         ensures { self.new ≡ applied self.old (change_of at deed.now) }
     {
-        let drawn = make(&mut self.rows, at, self.next, deed, claims);
+        let drawn = change(&mut self.rows, at, self.next, deed, claims);
         self.soonest = soonest(&self.rows);
         self.next += drawn;
         self.last = at;
     }
-}
-
-/// Whether a task's group is its own, and it waits for no task.
-fn is_alone(creation: &Creation) -> bool
-    ensures { result ≡ is_alone creation.now.id creation.now.definition }
-{
-    creation.definition.task_group_id == creation.id
-        && creation.definition.dependencies.list().is_empty()
 }
