@@ -31,12 +31,12 @@ abbrev contents_of : List Row → ℕ → ℕ → Contents
 contents_of rows last next = record { rows = rows; last = last; next = next }
 
 -- the task with an id that passes a test
-record Found (test : Row → Bool) (id : List ℕ) (rows : List Row) : Type 0 where
-  row : Row
-  is : row_with id rows ≡ Some row
-  passes : test row ≡ true
+pub record Found (test : Row → Bool) (id : List ℕ) (rows : List Row) : Type 0 where
+  pub row : Row
+  pub is : row_with id rows ≡ Some row
+  pub passes : test row ≡ true
 
-found : (test : Row → Bool) (id : List ℕ) (rows : List Row) → on_row test id rows ≡ true → Found test id rows
+pub found : (test : Row → Bool) (id : List ℕ) (rows : List Row) → on_row test id rows ≡ true → Found test id rows
 found test id rows holds = by (row_with id rows) refl holds where
   by : (o : Option Row) → row_with id rows ≡ o → option_map_or test o false ≡ true → Found test id rows
   by None is holds = cc

@@ -100,7 +100,7 @@ claimed-ids claim [] rows = refl
 claimed-ids claim (name ∷ names) rows =
     claimed-ids claim names (change_row name.id (claimed claim) rows) ∙ change-ids (has_id name.id) (claimed claim) (claimed-later claim) rows
 
-claimed-stays : (claim : RunClaim) (names : List RunName) (rows : List Row) → RowsLater rows (all_claimed claim names rows)
+pub claimed-stays : (claim : RunClaim) (names : List RunName) (rows : List Row) → RowsLater rows (all_claimed claim names rows)
 claimed-stays claim [] rows = RowsLater-refl rows
 claimed-stays claim (name ∷ names) rows =
     let next : List Row = change_row name.id (claimed claim) rows in

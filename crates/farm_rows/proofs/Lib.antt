@@ -19,3 +19,9 @@ pub mod SettleLemmas
 pub mod StepLemmas
 pub mod SharedLemmas
 pub mod CreateLemmas
+pub mod BusyLemmas
+pub mod PlanLemmas
+pub mod WaitLemmas
+pub mod PageLemmas
+pub mod ListLemmas
+pub mod ServedLemmas

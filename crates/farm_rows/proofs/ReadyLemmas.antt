@@ -264,7 +264,7 @@ settled-first contents at some_ =
 
 -- ---- what stays
 
-settled-alike : (contents : Contents) (at : ℕ) → AreAlike contents.rows (settled contents at).rows
+pub settled-alike : (contents : Contents) (at : ℕ) → AreAlike contents.rows (settled contents at).rows
 unfolding settled
 settled-alike contents at = started-alike (is_ready contents.rows) contents.next at contents.rows
 

@@ -4,6 +4,8 @@ pub mod Due
 pub mod Picks
 pub mod Left
 pub mod Changes
+pub mod Waits
+pub mod Lists
 pub mod Starts
 pub mod Plans
 pub mod Deeds

@@ -1,15 +1,15 @@
 //! Which changes may be made of one task.
-ghost use Rattle.std.specs.Prelude.{◌≡◌, not, nat_le, false, find, bytes_eq, option_copied};
+ghost use Rattle.std.specs.Prelude.{◌≡◌, not, false, find, bytes_eq, option_copied};
 ghost use Rattle.std.specs.Option.{option_map_or};
 ghost use Rattle.run_states.specs.Rows.{is_unscheduled, is_resolved, is_running_at};
 ghost use Rattle.run_states.specs.Moves.{may_rerun};
-ghost use Rattle.farm_rows.specs.Changes.{on_row, may_keep, waits_well, may_join};
-ghost use Rattle.farm_rows.specs.Contents.{row_with};
+ghost use Rattle.farm_rows.specs.Changes.{on_row, may_keep, kept_scheduler, may_join};
 
 use crate::moves::row_with;
 use farm_record::Creation;
 use farm_text::{Moment, SlugId};
 use run_states::{MOST_RUNS, TaskRow};
+use task_defs::Identifier;
 
 /// How long a run is kept at most, in milliseconds: a day.
 const LONGEST_CLAIM: u64 = 86_400_000;
@@ -67,33 +67,23 @@ pub(crate) fn may_schedule(rows: &[TaskRow], id: SlugId) -> bool
     }
 }
 
-/// Whether each task that a new one waits for stands, and expires no earlier than its deadline; or is the task itself.
-pub(crate) fn waits_well(rows: &[TaskRow], creation: &Creation) -> bool
-    ensures { result ≡ waits_well creation.now rows.now }
-{
-    let deadline = creation.definition.deadline;
-    creation.definition.dependencies.list().iter().all(|id| *id == creation.id
-        || stands_until(rows, *id, deadline))
-}
-
-/// Whether the task with this id stands, and expires no earlier than this.
-fn stands_until(rows: &[TaskRow], id: SlugId, moment: Moment) -> bool
-    ensures { result ≡ option_map_or (λ row. nat_le moment row.definition.expires) (row_with id rows.now) false }
-{
-    match row_with(rows, id) {
-        Some(row) => moment <= row.definition().expires,
-        None => false,
-    }
-}
-
 /// Whether a new task has the scheduler of its group, where that has tasks.
 pub(crate) fn may_join(rows: &[TaskRow], creation: &Creation) -> bool
     ensures { result ≡ may_join creation.now rows.now }
 {
-    match first_of(rows, creation.definition.task_group_id) {
-        Some(row) => row.definition().scheduler_id.as_str()
-            == creation.definition.scheduler_id.as_str(),
+    match kept_scheduler(rows, creation.definition.task_group_id) {
+        Some(kept) => kept.as_str() == creation.definition.scheduler_id.as_str(),
         None => true,
+    }
+}
+
+/// The scheduler that the tasks of a group have, as the first of them has it.
+pub(crate) fn kept_scheduler(rows: &[TaskRow], group: SlugId) -> Option<&Identifier>
+    ensures { option_copied result ≡ kept_scheduler group rows.now }
+{
+    match first_of(rows, group) {
+        Some(row) => Some(&row.definition().scheduler_id),
+        None => None,
     }
 }
 

@@ -1,14 +1,20 @@
 //! Laws of what falls due and of the changes: empty functions, whose contracts are the laws.
-ghost use Rattle.std.specs.Prelude.{◌≡◌, ◌<◌, ◌≤◌, ◌+◌, ℕ, List, max, count_by, true, false, Some};
+ghost use Rattle.std.specs.Prelude.{◌≡◌, ◌<◌, ◌≤◌, ◌+◌, ◌++◌, ◌&&◌, ℕ, List, Option, max, length, count_by, is_none, true, false, Some};
 ghost use Rattle.run_states.specs.Rows.{Row, claim_due, new_row, scheduled};
 ghost use Rattle.run_states.specs.Later.{RowsLater};
 ghost use Rattle.farm_record.specs.declared.change.Change.{Change};
 ghost use Rattle.farm_record.specs.declared.change.Creation.{Creation};
 ghost use Rattle.farm_record.specs.declared.change.Kind.{Kind};
+ghost use Rattle.farm_record.specs.declared.change.Kind.TheVariants.{Rerun};
+ghost use Rattle.task_defs.specs.declared.choices.Requires.{Requires};
+ghost use Rattle.task_defs.specs.declared.choices.Requires.TheVariants.{AllCompleted};
 ghost use Rattle.farm_rows.specs.Contents.{Contents, row_with, HaveOwnIds};
-ghost use Rattle.farm_rows.specs.Ready.{is_ready, has_ready, settled_row, settled};
+ghost use Rattle.farm_rows.specs.Ready.{id_serves, is_ready, has_ready, settled_row, settled};
 ghost use Rattle.farm_rows.specs.Due.{all_due_moments, is_due, first_due, change_first, resolved_at, advance};
-ghost use Rattle.farm_rows.specs.Changes.{creating, may_apply, after_kind, applied};
+ghost use Rattle.farm_rows.specs.Changes.{waits_well, creating, may_apply, after_kind, applied};
+ghost use Rattle.farm_rows.specs.Waits.{missing_dependency, early_dependency};
+ghost use Rattle.farm_rows.specs.Lists.{listed, behind, page_rows, next_token, pages};
+ghost use Rattle.farm_rows.specs.declared.lists.TaskList.{TaskList};
 ghost use Rattle.farm_rows.specs.Starts.{all_starts, starts_once, may_start};
 
 /// Settling starts the first task that is ready, again and again, with the number that is next; where none is ready, it changes nothing;
@@ -58,6 +64,16 @@ pub fn a_task_is_scheduled_once()
         → starts_once (applied contents change).rows ≡ true }
 {}
 
+/// What a task serves those that wait for it, no advance takes back, and no rerun; and of a run that completed, nothing does.
+pub fn what_is_served_stays()
+    ensures completed { (contents : Contents) (change : Change) (id : List ℕ) → id_serves AllCompleted contents.rows id ≡ true
+        → id_serves AllCompleted (applied contents change).rows id ≡ true }
+    ensures advanced { (needs : Requires) (contents : Contents) (moment : ℕ) (id : List ℕ) → id_serves needs contents.rows id ≡ true
+        → id_serves needs (advance contents moment).rows id ≡ true }
+    ensures rerun { (needs : Requires) (contents : Contents) (at : ℕ) (task id : List ℕ) → id_serves needs contents.rows id ≡ true
+        → id_serves needs (applied contents (record { at = at; kind = Rerun task })).rows id ≡ true }
+{}
+
 /// To advance to a moment and then to a later one is to advance to the later one: when ticks come does not matter.
 pub fn advances_go_together()
     ensures { (contents : Contents) (early late : ℕ) → early ≤ late → advance (advance contents early) late ≡ advance contents late }
@@ -87,4 +103,19 @@ pub fn a_task_is_created_once()
 pub fn a_change_comes_before_the_ends_of_claims()
     ensures { (contents : Contents) (change : Change) (id : List ℕ) (row : Row) (end : ℕ) → may_apply contents change ≡ true
         → row_with id contents.rows ≡ Some row → claim_due row ≡ Some end → change.at < end }
+{}
+
+/// A task waits well for others exactly where none of them is missing, and none expires too early.
+pub fn a_task_waits_well()
+    ensures { (creation : Creation) (rows : List Row) → waits_well creation rows
+        ≡ (is_none (missing_dependency creation rows) && is_none (early_dependency creation rows)) }
+{}
+
+/// A page, and what comes behind it, are what comes behind its token; and so the pages of a list, put together, are the whole list: there are
+/// as many as tasks stand at most.
+pub fn pages_are_the_whole_list()
+    ensures page { (list : TaskList) (after : Option (List ℕ)) (limit : ℕ) (rows : List Row) → HaveOwnIds rows → behind after (listed list rows)
+        ≡ page_rows after limit (listed list rows) ++ behind (next_token after limit (listed list rows)) (listed list rows) }
+    ensures whole { (list : TaskList) (count limit : ℕ) (after : Option (List ℕ)) (rows : List Row) → HaveOwnIds rows → 0 < limit
+        → length rows ≤ count → pages count after limit (listed list rows) ≡ behind after (listed list rows) }
 {}

@@ -12,7 +12,7 @@ use farm_text::{Moment, SlugId};
 use run_states::{Claim as RunClaim, ReasonResolved, TaskRow};
 
 /// The place of the task with this id.
-fn place_of(rows: &[TaskRow], id: SlugId) -> Option<usize>
+pub(crate) fn place_of(rows: &[TaskRow], id: SlugId) -> Option<usize>
     ensures { result ≡ position (has_id id) rows.now }
 {
     rows.iter().position(|row| row.id() == id)

@@ -1,19 +1,22 @@
 //! The tables of a farm's tasks.
-ghost use Rattle.std.specs.Prelude.{◌≡◌, ◌<◌, ◌≤◌, [], true, false, Some, None, length, vec_capacity, slice_get, count_by, option_copied, IfOk, MatchOption};
+ghost use Rattle.std.specs.Prelude.{◌≡◌, ◌<◌, ◌≤◌, [], true, true, false, map, Some, None, length, vec_capacity, slice_get, count_by, option_copied, IfOk, MatchOption};
 ghost use Rattle.farm_text.specs.declared.moment.TheConstants.{LAST_TOLD_MOMENT};
 ghost use Rattle.farm_rows.specs.Contents.{no_contents, row_with, counts_of, HaveOwnIds};
 ghost use Rattle.farm_rows.specs.Due.{is_due, advance};
 ghost use Rattle.farm_rows.specs.Picks.{waits_in, picks};
-ghost use Rattle.farm_rows.specs.Changes.{creating, may_create, may_be, may_apply, applied};
+ghost use Rattle.farm_rows.specs.Changes.{on_row, kept_scheduler, creating, may_create, may_be, may_apply, applied};
+ghost use Rattle.farm_rows.specs.Waits.{missing_dependency, early_dependency};
+ghost use Rattle.farm_rows.specs.Lists.{is_listed, listed, names_listed, page_rows, has_more};
 ghost use Rattle.farm_rows.specs.Plans.{named_rows, IsPlanOn};
 ghost use Rattle.farm_rows.specs.Deeds.{kind_of, change_of, row_of, planned_of, claims_of, rows_after};
 ghost use Rattle.farm_rows.specs.Sweep.{all_turns};
 
 use crate::checks::{
-    is_running, may_cancel, may_join, may_keep, may_rerun, may_schedule, waits_well,
+    is_running, kept_scheduler, may_cancel, may_join, may_keep, may_rerun, may_schedule,
 };
 use crate::copies::claims;
 use crate::counts::RowCounts;
+use crate::lists::{Page, TaskList, lists, page_behind};
 use crate::moves::row_with;
 use crate::picks::{may_claim, pending, picks};
 use crate::plan::{Deed, TaskPlan};
@@ -22,13 +25,14 @@ use crate::settle::settle_new;
 use crate::shown::shown;
 use crate::sweep::{soonest, soonest_with};
 use crate::turns::resolve_due;
+use crate::waits::{early_dependency, missing_dependency, waits_well};
 use crate::work::change;
 use farm_record::{Change, Creation, Kind, RunName};
 use farm_text::{LAST_TOLD_MOMENT, Moment, SlugId};
 use run_states::{Claim as RunClaim, TaskRow};
 use std::alloc::{AllocError, Global};
 use std::marker::Model;
-use task_defs::TaskQueue;
+use task_defs::{Identifier, TaskQueue};
 
 /// How many tasks stand at most.
 pub const MOST_TASKS: usize = 1_000_000;
@@ -152,6 +156,52 @@ impl TaskTables {
         picks(alloc, &self.rows, queue, most)
     }
 
+    /// The scheduler that the tasks of a group have, as the first of them has it; none where the group has no task.
+    pub fn kept_scheduler(&self, group: SlugId) -> Option<&Identifier>
+        ensures { option_copied result ≡ kept_scheduler group self.now.rows }
+    {
+        kept_scheduler(&self.rows, group)
+    }
+
+    /// The first task that a new one waits for, in the order of its definition, that is not the task itself and does not stand.
+    pub fn missing_dependency(&self, creation: &Creation) -> Option<SlugId>
+        ensures { result ≡ missing_dependency creation.now self.now.rows }
+    {
+        missing_dependency(&self.rows, creation)
+    }
+
+    /// The first task that a new one waits for, in the order of its definition, that is not the task itself, and stands, but expires before
+    /// the deadline of the new one.
+    pub fn early_dependency(&self, creation: &Creation) -> Option<SlugId>
+        ensures { result ≡ early_dependency creation.now self.now.rows }
+    {
+        early_dependency(&self.rows, creation)
+    }
+
+    /// Whether the task with this id stands, and is on a list.
+    pub fn lists(&self, list: &TaskList, id: SlugId) -> bool
+        ensures { result ≡ on_row (is_listed list.now) id self.now.rows }
+    {
+        lists(&self.rows, list, id)
+    }
+
+    /// The page of a list behind the task that a token names, or the first page where there is no token, with so many tasks at most; or none,
+    /// where the token names no task of the list.
+    pub fn page(
+        &self,
+        alloc: Global,
+        list: &TaskList,
+        after: Option<SlugId>,
+        limit: u16,
+    ) -> Result<Option<Page<'_>>, AllocError>
+        ensures { IfOk result (λ page. MatchOption page (names_listed list.now after self.now.rows ≡ false)
+            (λ p. (names_listed list.now after self.now.rows ≡ true)
+            × (map (λ row. row.now) p.rows.items ≡ page_rows after limit (listed list.now self.now.rows))
+            × (p.more ≡ has_more after limit (listed list.now self.now.rows)))) }
+    {
+        page_behind(alloc, &self.rows, list, after, limit)
+    }
+
     /// The plan of a change, with all the memory that it takes, or none where the change may not be made. The tables stay as they were,
     /// also where memory runs out.
     pub fn plan(&mut self, alloc: Global, change: Change) -> Result<Option<TaskPlan>, AllocError>
@@ -229,13 +279,14 @@ impl TaskTables {
         })
     }
 
-    /// The claims that a change makes, and the tasks that it names, as they will be.
+    /// The claims that a change makes, and the tasks that it names, as they will be. (Each task has an id of its own.)
     fn parts(
         &self,
         alloc: Global,
         at: Moment,
         deed: &Deed,
     ) -> Result<(Vec<RunClaim>, Vec<TaskRow>), AllocError>
+        ensures own { HaveOwnIds self.now.rows }
         ensures claims { IfOk result (λ p. p.0.items ≡ claims_of at deed.now) }
         ensures rows { IfOk result (λ p. p.1.items ≡ rows_after at self.now.next deed.now (named_rows (kind_of deed.now) self.now.rows)) }
     {

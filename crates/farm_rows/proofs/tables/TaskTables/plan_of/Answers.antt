@@ -1,5 +1,5 @@
 use Rattle.std.proofs.Common.{vec_capacity}
-use Rattle.farm_rows.proofs.ShownLemmas.{IsPlanOn-shown}
+use Rattle.farm_rows.proofs.PlanLemmas.{IsPlanOn-shown}
 use Rattle.farm_rows.proofs.tables.TaskTables.plan_of.Goals as goal
 
 pub returns-clause-plan : goal.returns-clause-plan
