@@ -1,5 +1,5 @@
 -- A task that is created: as it stands once it has settled.
-use Rattle.std.proofs.Common.{◌≡◌, ℕ, ◌+◌, ◌≤◌, min, Bool, true, false, List, [], ◌∷◌, ◌++◌, length, count_by, refl, ap, sym, ◌∙◌, arith}
+use Rattle.std.proofs.Common.{◌≡◌, ℕ, ◌+◌, ◌≤◌, min, Bool, true, false, cond, List, [], ◌∷◌, ◌++◌, length, count_by, refl, ap, sym, ◌∙◌, arith}
 use Rattle.std.specs.List.{list_any}
 use Rattle.std.proofs.lemmas.List.Sums.{sum_by_push}
 use Rattle.task_defs.specs.declared.task_def.TaskDef.{TaskDef}
@@ -20,9 +20,21 @@ pub record NewRow (contents : Contents) (at : ℕ) (id : List ℕ) (definition :
 
 pub new-is : (contents : Contents) (at : ℕ) (id : List ℕ) (definition : TaskDef) → NewRow contents at id definition
 new-is contents at id definition = by (is_ready contents.rows (new_row id definition)) refl where
+  row : Row
+  row = new_row id definition
+
+  stands : (b : Bool) → is_ready contents.rows row ≡ b → settled_row contents at row ≡ cond b (scheduled contents.next at row) row
+  stands b is = ap (λ b. cond b (scheduled contents.next at row) row) is
+
   by : (b : Bool) → is_ready contents.rows (new_row id definition) ≡ b → NewRow contents at id definition
-  by true is = rw is (record { fit = rw is (fits-of (scheduled contents.next at (new_row id definition)) (omega arith) (omega arith)); runs = rw is refl })
-  by false is = rw is (record { fit = rw is (fits-of (new_row id definition) (omega arith) (omega arith)); runs = rw is refl })
+  by true is = record {
+    fit = ap fits (stands true is) ∙ fits-of (scheduled contents.next at (new_row id definition)) (omega arith) (omega arith);
+    runs = ap (λ (r : Row). length r.runs) (stands true is) ∙ sym (ap one_if is);
+  }
+  by false is = record {
+    fit = ap fits (stands false is) ∙ fits-of (new_row id definition) (omega arith) (omega arith);
+    runs = ap (λ (r : Row). length r.runs) (stands false is) ∙ sym (ap one_if is);
+  }
 
 -- as many numbers are drawn
 settled-drawn : (contents : Contents) (last at : ℕ) (id : List ℕ) (definition : TaskDef) → has_ready contents ≡ false

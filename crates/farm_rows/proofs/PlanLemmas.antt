@@ -1,5 +1,5 @@
 -- A change is planned.
-use Rattle.std.proofs.Common.{◌≡◌, ℕ, ◌+◌, ◌≤◌, max, Bool, true, false, List, [], ◌∷◌, ◌++◌, length, Option, Some, None, refl, ap, sym, ◌∙◌}
+use Rattle.std.proofs.Common.{◌≡◌, ℕ, ◌+◌, ◌≤◌, max, Bool, true, false, cond, List, [], ◌∷◌, ◌++◌, length, Option, Some, None, refl, ap, sym, ◌∙◌, subst}
 use Rattle.std.specs.Option.{option_to_list}
 use Rattle.run_states.specs.Rows.{Row, new_row, scheduled}
 use Rattle.farm_record.specs.declared.change.Creation.{Creation}
@@ -9,7 +9,7 @@ use Rattle.farm_rows.specs.Contents.{Contents, row_with, HaveOwnIds}
 use Rattle.farm_rows.specs.Changes.{creating, may_apply, applied}
 use Rattle.farm_rows.specs.Ready.{is_ready, has_ready, settled_row}
 use Rattle.farm_rows.specs.Deeds.{kind_of, change_of, row_of, shown_of, rows_after, planned_of}
-use Rattle.farm_rows.specs.Plans.{room_for, names_of, rows_with, named_rows, FindsRoom, IsPlanOn}
+use Rattle.farm_rows.specs.Plans.{Planned, room_for, names_of, rows_with, named_rows, FindsRoom, IsPlanOn}
 use Rattle.farm_rows.proofs.BusyLemmas.{AreBusy, settled-shown, deed-busy}
 use Rattle.farm_rows.proofs.ChangeLemmas.{may-is, unsettled, rows-applied}
 use Rattle.farm_rows.proofs.IdLemmas.{created-stands}
@@ -56,7 +56,22 @@ IsPlanOn-shown contents at room deed rows none own lawful made =
 -- a creation is planned with the task that it makes
 pub IsPlanOn-created : (contents : Contents) (at room : ℕ) (creation : Creation) (row : Row) → has_ready contents ≡ false → may_apply contents (creating at creation) ≡ true → row ≡ settled_row contents at (new_row creation.id creation.definition)
     → room_for (length contents.rows + 1) ≤ max (room_for (length contents.rows)) room → IsPlanOn contents (planned_of at (Create row) [] room)
-IsPlanOn-created contents at room creation row none lawful is enough = rw is (new-planned (is_ready contents.rows (new_row creation.id creation.definition)) refl) where
-  new-planned : (b : Bool) → is_ready contents.rows (new_row creation.id creation.definition) ≡ b → IsPlanOn contents (planned_of at (Create (settled_row contents at (new_row creation.id creation.definition))) [] room)
-  new-planned true ready = rw ready (record { lawful = lawful; shows = sym (ap (λ (o : Option Row). option_to_list o ++ []) (rw ready at created-stands contents at creation none lawful)); room = enough })
-  new-planned false ready = rw ready (record { lawful = lawful; shows = sym (ap (λ (o : Option Row). option_to_list o ++ []) (rw ready at created-stands contents at creation none lawful)); room = enough })
+IsPlanOn-created contents at room creation row none lawful is enough =
+    subst (λ (r : Row). IsPlanOn contents (planned_of at (Create r) [] room)) (sym is) (named_so (is_ready contents.rows new) shown)
+  where
+    new : Row
+    new = new_row creation.id creation.definition
+
+    made : Row → Planned
+    made r = record { change = creating at creation; rows = r ∷ []; room = room }
+
+    shown : IsPlanOn contents (made (settled_row contents at new))
+    shown = record {
+      lawful = lawful;
+      shows = sym (ap (λ (o : Option Row). option_to_list o ++ []) (created-stands contents at creation none lawful));
+      room = enough;
+    }
+
+    named_so : (b : Bool) → IsPlanOn contents (made (cond b (scheduled contents.next at new) new)) → IsPlanOn contents (planned_of at (Create (cond b (scheduled contents.next at new) new)) [] room)
+    named_so true plan = plan
+    named_so false plan = plan

@@ -29,7 +29,7 @@ use Rattle.farm_rows.proofs.RoomLemmas.{room-enough}
 use Rattle.farm_rows.proofs.TurnLemmas.{with_last, idle-first, all-idle, all-last, all-keeps}
 
 -- the contents of these parts
-abbrev contents_of : List Row → ℕ → ℕ → Contents
+abbrev pub contents_of : List Row → ℕ → ℕ → Contents
 contents_of rows last next = record { rows = rows; last = last; next = next }
 
 -- ---- a tick

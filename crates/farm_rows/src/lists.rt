@@ -89,7 +89,9 @@ fn behind_id<'a>(rows: &'a [TaskRow], list: &TaskList, token: SlugId) -> Option<
     ensures { MatchOption result (on_row (is_listed list.now) token rows.now ≡ false)
         (λ rest. (on_row (is_listed list.now) token rows.now ≡ true) × (listed list.now rest.now ≡ behind_id token (listed list.now rows.now))) }
 {
-    let place = place_of(rows, token)?;
+    let Some(place) = place_of(rows, token) else {
+        return None;
+    };
     if is_listed(list, &rows[place]) {
         Some(&rows[place + 1..])
     } else {

@@ -1,7 +1,8 @@
 //! The tables of a farm's tasks.
-ghost use Rattle.std.specs.Prelude.{◌≡◌, ◌<◌, ◌≤◌, [], true, true, false, map, Some, None, length, vec_capacity, slice_get, count_by, option_copied, IfOk, MatchOption};
+ghost use Rattle.std.specs.Prelude.{◌≡◌, ◌<◌, ◌≤◌, [], true, true, false, map, Some, None, length, vec_capacity, slice_get, count_by, option_copied, IfOk, OnOk, MatchOption};
 ghost use Rattle.farm_text.specs.declared.moment.TheConstants.{LAST_TOLD_MOMENT};
 ghost use Rattle.farm_rows.specs.Contents.{no_contents, row_with, counts_of, HaveOwnIds};
+ghost use Rattle.farm_rows.specs.Ready.{settled_row};
 ghost use Rattle.farm_rows.specs.Due.{is_due, advance};
 ghost use Rattle.farm_rows.specs.Picks.{waits_in, picks};
 ghost use Rattle.farm_rows.specs.Changes.{on_row, kept_scheduler, creating, may_create, may_be, may_apply, applied};
@@ -252,7 +253,7 @@ impl TaskTables {
     {
         let grown = grown(alloc, self.rows.len())?;
         let mut row = TaskRow::make(alloc, creation.id, creation.definition)?;
-        settle_new(&self.rows, &mut row, at, self.next);
+        self.settle_in(&mut row, at);
         Ok(TaskPlan {
             at,
             deed: Deed::Create(row),
@@ -260,6 +261,13 @@ impl TaskTables {
             grown,
             claims: Vec::new(alloc),
         })
+    }
+
+    /// Makes a new task pending, where it is ready among those that stand.
+    fn settle_in(&self, row: &mut TaskRow, at: Moment)
+        ensures { row.new ≡ settled_row self.now at row.old }
+    {
+        settle_new(&self.rows, row, at, self.next);
     }
 
     /// The plan of a change of tasks that stand, which may be made.
@@ -286,7 +294,7 @@ impl TaskTables {
         at: Moment,
         deed: &Deed,
     ) -> Result<(Vec<RunClaim>, Vec<TaskRow>), AllocError>
-        ensures own { HaveOwnIds self.now.rows }
+        ensures own { OnOk result (HaveOwnIds self.now.rows) }
         ensures claims { IfOk result (λ p. p.0.items ≡ claims_of at deed.now) }
         ensures rows { IfOk result (λ p. p.1.items ≡ rows_after at self.now.next deed.now (named_rows (kind_of deed.now) self.now.rows)) }
     {

@@ -1,5 +1,5 @@
 //! The tasks that a new one waits for.
-ghost use Rattle.std.specs.Prelude.{◌≡◌, nat_le, nat_lt, false};
+ghost use Rattle.std.specs.Prelude.{◌≡◌, nat_le, nat_lt, false, option_copied};
 ghost use Rattle.std.specs.Option.{option_map_or};
 ghost use Rattle.farm_rows.specs.Contents.{row_with};
 ghost use Rattle.farm_rows.specs.Changes.{waits_well};
@@ -33,20 +33,34 @@ fn stands_until(rows: &[TaskRow], id: SlugId, moment: Moment) -> bool
 pub(crate) fn missing_dependency(rows: &[TaskRow], creation: &Creation) -> Option<SlugId>
     ensures { result ≡ missing_dependency creation.now rows.now }
 {
-    let ids = creation.definition.dependencies.list();
-    ids.iter()
-        .find(|id| is_missing(rows, creation, **id))
-        .copied()
+    match find_missing(rows, creation) {
+        Some(id) => Some(*id),
+        None => None,
+    }
 }
 
 /// The first task that a new one waits for, that is not the task itself and expires before its deadline.
 pub(crate) fn early_dependency(rows: &[TaskRow], creation: &Creation) -> Option<SlugId>
     ensures { result ≡ early_dependency creation.now rows.now }
 {
+    match find_early(rows, creation) {
+        Some(id) => Some(*id),
+        None => None,
+    }
+}
+
+fn find_missing<'a>(rows: &[TaskRow], creation: &'a Creation) -> Option<&'a SlugId>
+    ensures { option_copied result ≡ missing_dependency creation.now rows.now }
+{
     let ids = creation.definition.dependencies.list();
-    ids.iter()
-        .find(|id| is_early(rows, creation, **id))
-        .copied()
+    ids.iter().find(|id| is_missing(rows, creation, **id))
+}
+
+fn find_early<'a>(rows: &[TaskRow], creation: &'a Creation) -> Option<&'a SlugId>
+    ensures { option_copied result ≡ early_dependency creation.now rows.now }
+{
+    let ids = creation.definition.dependencies.list();
+    ids.iter().find(|id| is_early(rows, creation, **id))
 }
 
 fn is_missing(rows: &[TaskRow], creation: &Creation, id: SlugId) -> bool

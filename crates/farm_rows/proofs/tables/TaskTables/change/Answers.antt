@@ -9,6 +9,13 @@ use Rattle.farm_rows.proofs.FitLemmas.{made-few}
 use Rattle.farm_rows.proofs.ChangeLemmas.{kept-after, changed-applied}
 use Rattle.farm_rows.proofs.tables.TaskTables.change.Goals as goal
 
+pub change-drawn-requires-clause-drawn : goal.change-drawn-requires-clause-drawn
+change-drawn-requires-clause-drawn c =
+    let few = made-few c.self.inside.rows.items c.self.invariant.fit in
+    let stand = c.self.invariant.few in
+    let h = c.self.invariant.drawn in
+    omega arith
+
 pub overflow_add-self : goal.overflow_add-self
 overflow_add-self c =
     let few = made-few c.self.inside.rows.items c.self.invariant.fit in
