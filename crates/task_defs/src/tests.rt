@@ -1,5 +1,5 @@
 //! Definitions that were worked by hand, in full form or with the first rule that they break.
-use crate::{DefError, TaskDef, check_alone, read_task, same};
+use crate::{DefError, TaskDef, read_task, same};
 use farm_text::{Doc, SlugId};
 use std::alloc::{AllocError, Global};
 
@@ -307,38 +307,5 @@ fn definitions_that_differ(rt: HostRuntime) {
             "",
             ",\"retries\":5,\"tags\":{},\"priority\":\"normal\""
         )
-    );
-}
-
-/// The rule that a definition breaks while the first task stands alone, or 0.
-fn alone_rule(alloc: Global, def: &TaskDef) -> u8 {
-    match SlugId::read(FIRST_TASK) {
-        Some(id) => match check_alone(alloc, def, id) {
-            Ok(()) => 0,
-            Err(DefError::Fault(fault)) => fault.rule,
-            Err(DefError::NoMemory) => 98,
-        },
-        None => 99,
-    }
-}
-
-/// The same of a row's definition.
-fn alone(alloc: Global, row: &str) -> u8 {
-    match read(alloc, row) {
-        Ok(def) => alone_rule(alloc, &def),
-        Err(_) => 97,
-    }
-}
-
-#[test]
-fn tasks_that_are_not_alone(rt: HostRuntime) {
-    assert_eq!(rt; alone(rt.alloc(), ""), 0);
-    assert_eq!(rt;
-        alone(rt.alloc(), ",\"taskGroupId\":\"AAAAAAAAQACAAAAAAAAAAQ\""),
-        4
-    );
-    assert_eq!(rt;
-        alone(rt.alloc(), ",\"dependencies\":[\"AAAAAAAAQACAAAAAAAAAAw\"]"),
-        5
     );
 }
