@@ -14,6 +14,8 @@ pub mod Laws
 pub mod Order
 pub mod Planned
 pub mod Refused
+pub mod Replay
+pub mod Replayed
 pub mod Replies
 pub mod RunLaws
 pub mod State
@@ -22,3 +24,4 @@ pub mod Tellings
 pub mod Told
 pub mod Verdict
 pub mod Works
+pub mod Written

@@ -9,6 +9,8 @@ use farm_rows::TaskPlan;
 pub(crate) struct Judged {
     pub(crate) answer: Answer,
     pub(crate) change: Option<TaskPlan>,
+    /// What is written of the change.
+    pub(crate) written: Option<Vec<u8>>,
 }
 
 impl Judged {
@@ -16,10 +18,12 @@ impl Judged {
     pub(crate) fn only(answer: Answer) -> Judged
         ensures answer { result.answer ≡ answer }
         ensures change { result.change ≡ None }
+        ensures written { result.written ≡ None }
     {
         Judged {
             answer,
             change: None,
+            written: None,
         }
     }
 }
