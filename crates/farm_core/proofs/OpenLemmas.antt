@@ -1,7 +1,8 @@
 -- What replaying bodies leaves, and where one is broken.
 use Rattle.std.proofs.Common.{◌≡◌, ◌≢◌, ℕ, zero, suc, ◌+◌, ◌<◌, ◌≤◌, true, false, Bool, List, [], ◌∷◌, ◌++◌, length, take, drop, cond, slice_index_or, Option, Some, None, Result, Ok, Err, refl, sym, ap, ◌∙◌, subst, arith, append_assoc, inl, inr, add-one}
 use Rattle.std.proofs.Math.ListN.{length-append}
-use Rattle.std.proofs.lemmas.List.{take-append-drop}
+use Rattle.std.proofs.Math.Seq.{drop-cons}
+use Rattle.std.proofs.lemmas.List.{take-append-drop, take_more}
 use Rattle.disk_journal.specs.Records.{sized, records, Opens, IsDamaged, placed}
 use Rattle.disk_journal.specs.Images.{IsImage, IsWithin}
 use Rattle.disk_journal.proofs.LawLemmas.{opens_one, opens_whole, image_opens, within_image}
@@ -111,3 +112,30 @@ within-sound one file bodies more last place whole within damaged =
     let cut : take count more ++ drop count more ≡ more = take-append-drop count more in
     let all : bodies ++ more ≡ (bodies ++ take count more) ++ drop count more = ap (λ (l : List (List ℕ)). bodies ++ l) (sym cut) ∙ sym (append_assoc bodies (take count more) (drop count more)) in
     image-sound one file (bodies ++ take count more) (drop count more) last place (subst (λ (l : List (List ℕ)). Replays l last) all whole) opens damaged
+
+-- ---- the loop over all bodies
+
+-- one body more was replayed
+pub replays-more : (bodies : List (List ℕ)) (index : ℕ) (old new : Contents) (body : List ℕ) → index < length bodies → body ≡ slice_index_or bodies index [] → Replays (take index bodies) old
+    → (change : Change) × IsRecord change body × (may_replay old change ≡ true) × (new ≡ after_change old change) → Replays (take (index + 1) bodies) new
+replays-more bodies index old new body within body_is r (change, is, may, new_is) =
+    let front : take (index + 1) bodies ≡ take index bodies ++ body ∷ [] = take_more bodies index [] within ∙ ap (λ (b : List ℕ). take index bodies ++ b ∷ []) (sym body_is) in
+    let more = replays-push (take index bodies) old body change r is may in
+    subst (λ (l : List (List ℕ)). Replays l new) (sym front) (subst (λ (c : Contents). Replays (take index bodies ++ body ∷ []) c) (sym new_is) more)
+
+-- one is broken
+pub broken-at : (bodies : List (List ℕ)) (index place : ℕ) (contents : Contents) (body : List ℕ) → index < length bodies → body ≡ slice_index_or bodies index [] → place ≡ (slice_index_or (placed 0 bodies) index (0, [])).0
+    → Replays (take index bodies) contents → ((change : Change) → IsRecord change body → may_replay contents change ≡ false) → IsBroken bodies place
+broken-at bodies index place contents body within body_is place_is_at r broken =
+    let behind : drop index bodies ≡ body ∷ drop (suc index) bodies = drop-cons bodies index [] within ∙ ap (λ (b : List ℕ). b ∷ drop (suc index) bodies) (sym body_is) in
+    let gate : (slice_index_or (placed 0 bodies) index (0, [])).0 ≡ 0 + length (records (take index bodies)) = place-is 0 bodies index within in
+    record {
+      before = take index bodies;
+      body = body;
+      after = drop (suc index) bodies;
+      are = sym (take-append-drop index bodies) ∙ ap (λ (l : List (List ℕ)). take index bodies ++ l) behind;
+      at = omega (arith, place_is_at, gate);
+      contents = contents;
+      replays = r;
+      broken = broken;
+    }

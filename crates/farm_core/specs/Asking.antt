@@ -1,15 +1,13 @@
 -- What the parts of an ask of a farm over a disk do, for private clauses.
-use Rattle.std.specs.Prelude.{◌≡◌, ℕ, true, false, Bool, List, [], ◌∷◌, ◌++◌, length, Option, Some, None, Result, Ok, Err}
+use Rattle.std.specs.Prelude.{◌≡◌, ℕ, true, false, Bool, List, [], ◌∷◌, Option, Some, None, Result, Ok, Err}
 use Rattle.std.specs.Option.{option_to_list}
 use Rattle.disk_base.specs.Contents.{Contents as Disk}
-use Rattle.disk_journal.specs.Keeping.{IsReady}
 use Rattle.farm_record.specs.declared.change.Change.{Change}
 use Rattle.farm_record.specs.Records.{tick_at}
 use Rattle.farm_rows.specs.Contents.{Contents}
 use Rattle.farm_rows.specs.Due.{is_due}
 use Rattle.farm_machine.specs.declared.config.Config.{Config}
 use Rattle.farm_machine.specs.declared.reply.Reply.{Reply}
-use Rattle.farm_machine.specs.declared.reply.Reply.TheVariants.{DiskFault}
 use Rattle.farm_machine.specs.Entry.{Asking, Outcome, disk_failed, call}
 use Rattle.farm_machine.specs.Replay.{records_by}
 use Rattle.farm_machine.specs.State.{working}
@@ -19,11 +17,6 @@ use Rattle.farm_core.specs.declared.asking.Kept.TheVariants as kept
 use Rattle.farm_core.specs.Bare.{IsResolved}
 use Rattle.farm_core.specs.Farm.{state_of}
 use Rattle.farm_core.specs.Records.{KeepsRecords}
-
--- the records are kept, and counted
-pub record KeepsCounted (old : Disk) (old_end old_count : ℕ) (new : Disk) (new_end new_count : ℕ) (made failed : List Change) : Type 0 where
-  pub records : KeepsRecords old old_end new new_end made failed
-  pub counted : failed ≡ [] → (bodies : List (List ℕ)) → IsReady [] old old_end bodies → old_count ≡ length bodies → new_count ≡ length (bodies ++ records.bodies)
 
 -- what was due at a moment was resolved, and it is said whether anything was; or the disk failed, and nothing was
 abbrev pub IsResolvedBy : {E : Type 0} → Contents → ℕ → Result Bool E → Contents → Type 0
@@ -58,18 +51,14 @@ is_failed kept.Done = false
 is_failed kept.NoMemory = false
 is_failed kept.Failed = true
 
--- the reply says that the disk failed
-abbrev pub has_failed : Reply → Bool
-has_failed DiskFault = true
-has_failed reply = false
-
--- a call was performed at whose moment nothing is due: it became what it may, its change is kept, or is the one that failed
-pub record Performs (tells : Type 0) (config : Config) (old : Contents) (asking : Asking) (reply : Reply) (new : Contents) (disk : Disk) (end count : ℕ) (disk_now : Disk) (end_now count_now : ℕ) : Type 0 where
+-- A call was performed at whose moment nothing is due: it became what it may, its change is kept, or is the one that failed; and it is said
+-- whether the farm has halted.
+pub record Performs (tells : Type 0) (config : Config) (old : Contents) (asking : Asking) (reply : Reply) (new : Contents) (disk : Disk) (end : ℕ) (disk_now : Disk) (end_now : ℕ) (halted : Bool) : Type 0 where
   pub outcome : Outcome
   pub became : MayBecome (working config old) asking outcome
-  pub leads : state_of config new (has_failed reply) ≡ after_call (working config old) asking outcome
+  pub leads : state_of config new halted ≡ after_call (working config old) asking outcome
   pub told : reply ≡ reply_to outcome
   pub failed : List Change
-  pub whole : has_failed reply ≡ false → failed ≡ []
-  pub lost : has_failed reply ≡ true → (change : Change) × (outcome ≡ disk_failed) × IsToKeep (working config old) asking change × (failed ≡ change ∷ [])
-  pub keeps : tells → KeepsCounted disk end count disk_now end_now count_now (records_by (call asking outcome)) failed
+  pub whole : halted ≡ false → failed ≡ []
+  pub lost : halted ≡ true → (change : Change) × (outcome ≡ disk_failed) × IsToKeep (working config old) asking change × (failed ≡ change ∷ [])
+  pub keeps : tells → KeepsRecords disk end disk_now end_now (records_by (call asking outcome)) failed

@@ -1,5 +1,5 @@
 -- Which changes the bodies of a journal tell, and what a farm's disk has of them.
-use Rattle.std.specs.Prelude.{◌≡◌, ℕ, false, List, [], ◌∷◌, ◌++◌}
+use Rattle.std.specs.Prelude.{◌≡◌, ℕ, Bool, false, List, [], ◌∷◌, ◌++◌}
 use Rattle.disk_base.specs.Contents.{Contents, LeftNow}
 use Rattle.disk_journal.specs.Images.{IsWithin}
 use Rattle.disk_journal.specs.Keeping.{IsReady, Keeps}
@@ -9,6 +9,13 @@ use Rattle.history.specs.Histories.{end_state}
 use Rattle.farm_machine.specs.Entry.{Asking, Entry, call, disk_failed}
 use Rattle.farm_machine.specs.State.{State}
 use Rattle.farm_machine.specs.Step.{IsToKeep, farm_rules}
+
+-- what a contract sees of the records of a farm: their disk, the place behind them, how many there are, and whether a call of the disk failed
+pub record Recorded (D : Type 0) : Type 0 where
+  pub disk : D
+  pub end : ℕ
+  pub count : ℕ
+  pub halted : Bool
 
 -- the bodies are the records of these changes, one for one and in order
 abbrev pub AreRecords : List Change → List (List ℕ) → Type 0

@@ -1,7 +1,6 @@
 //! The two parts of an ask of a farm over a disk: what is due is kept and resolved, and the call is judged, kept and made.
-ghost use Rattle.std.specs.Prelude.{◌≡◌, ◌≤◌, true, false, ℕ, List, [], Some, None, IfOk, MatchOption};
+ghost use Rattle.std.specs.Prelude.{◌≡◌, ◌≤◌, true, false, Some, None, IfOk, OnOk, OnErr, MatchOption};
 ghost use Rattle.causes.specs.Causes.{HasCause};
-ghost use Rattle.disk_journal.specs.Keeping.{IsReady};
 ghost use Rattle.farm_record.specs.declared.change.Change.{Change};
 ghost use Rattle.farm_record.specs.Records.{IsRecord};
 ghost use Rattle.farm_text.specs.declared.moment.TheConstants.{LAST_TOLD_MOMENT};
@@ -10,8 +9,9 @@ ghost use Rattle.farm_machine.specs.Planned.{IsPlanOf, IsPlanOn};
 ghost use Rattle.farm_machine.specs.Entry.{Asking};
 ghost use Rattle.farm_machine.specs.declared.config.Config.{Config as AnyConfig};
 ghost use Rattle.farm_rows.specs.Due.{is_due};
-ghost use Rattle.farm_core.specs.Asking.{KeepsCounted, IsResolvedBy, ticks_kept, ticks_failed, changes_kept, changes_failed, is_failed, has_failed, Performs};
+ghost use Rattle.farm_core.specs.Asking.{IsResolvedBy, ticks_kept, ticks_failed, changes_kept, changes_failed, is_failed, Performs};
 ghost use Rattle.farm_core.specs.Farm.{TellsFaults};
+ghost use Rattle.farm_core.specs.Records.{KeepsRecords};
 
 use crate::records::Records;
 use disk_base::Disk;
@@ -34,16 +34,6 @@ pub(crate) enum Kept {
     Failed,
 }
 
-/// Whether the reply says that the disk failed.
-pub(crate) fn has_failed(reply: &Reply) -> bool
-    ensures { result ≡ has_failed reply.now }
-{
-    match reply {
-        Reply::DiskFault => true,
-        _ => false,
-    }
-}
-
 /// Keeps a tick where something is due at this moment, and resolves it; and says whether anything was due. It takes no memory.
 pub(crate) fn keep_due<D: Disk>(
     tables: &mut Tables,
@@ -51,11 +41,13 @@ pub(crate) fn keep_due<D: Disk>(
     moment: Moment,
 ) -> Result<bool, DiskFault>
     requires told { moment ≤ LAST_TOLD_MOMENT }
-    requires ready { D.tells → (bodies : List (List ℕ)) × IsReady [] (D.contents records.old.journal.disk) records.old.journal.end bodies }
+    requires works { records.old.halted ≡ false }
     ensures resolved { IsResolvedBy tables.old moment result tables.new }
-    ensures keeps { D.tells → KeepsCounted (D.contents records.old.journal.disk) records.old.journal.end records.old.count
-        (D.contents records.new.journal.disk) records.new.journal.end records.new.count (ticks_kept moment result) (ticks_failed moment result) }
-    ensures cause { HasCause (D.faults records.old.journal.disk) (D.faults records.new.journal.disk) result }
+    ensures keeps { D.tells → KeepsRecords (D.contents records.old.disk) records.old.end
+        (D.contents records.new.disk) records.new.end (ticks_kept moment result) (ticks_failed moment result) }
+    ensures works { OnOk result (records.new.halted ≡ false) }
+    ensures halts { OnErr result (records.new.halted ≡ true) }
+    ensures cause { HasCause (D.faults records.old.disk) (D.faults records.new.disk) result }
 {
     if !due(tables, moment) {
         return Ok(false);
@@ -84,12 +76,12 @@ fn framed_record(alloc: Global, plan: &Plan) -> Result<Option<Framed>, AllocErro
 
 /// Keeps the record of a planned change, if there is a change.
 fn keep_change<D: Disk>(alloc: Global, records: &mut Records<D>, plan: &Plan) -> Kept
-    requires { D.tells → (bodies : List (List ℕ)) × IsReady [] (D.contents records.old.journal.disk) records.old.journal.end bodies }
-    ensures keeps { D.tells → KeepsCounted (D.contents records.old.journal.disk) records.old.journal.end records.old.count
-        (D.contents records.new.journal.disk) records.new.journal.end records.new.count
+    requires { records.old.halted ≡ false }
+    ensures keeps { D.tells → KeepsRecords (D.contents records.old.disk) records.old.end (D.contents records.new.disk) records.new.end
         (changes_kept result plan.now.judgement.change) (changes_failed result plan.now.judgement.change) }
     ensures some { is_failed result ≡ true → (change : Change) × (plan.now.judgement.change ≡ Some change) }
-    ensures faults { TellsFaults (D.faults records.old.journal.disk) (D.faults records.new.journal.disk) (is_failed result) }
+    ensures halts { records.new.halted ≡ is_failed result }
+    ensures faults { TellsFaults (D.faults records.old.disk) (D.faults records.new.disk) records.new.halted }
 {
     match framed_record(alloc, plan) {
         Ok(Some(framed)) => match records.keep(&framed) {
@@ -112,11 +104,12 @@ fn finish<D: Disk>(
     requires planned { IsPlanOn tables.old plan }
     requires moment { moment ≡ plan.moment }
     requires told { moment ≤ LAST_TOLD_MOMENT }
-    requires ready { D.tells → (bodies : List (List ℕ)) × IsReady [] (D.contents records.old.journal.disk) records.old.journal.end bodies }
+    requires works { records.old.halted ≡ false }
     ensures performs { (config : AnyConfig) (asking : Asking) → IsPlanOf config tables.old asking plan
-        → Performs D.tells config tables.old asking result tables.new (D.contents records.old.journal.disk) records.old.journal.end
-        records.old.count (D.contents records.new.journal.disk) records.new.journal.end records.new.count }
-    ensures faults { TellsFaults (D.faults records.old.journal.disk) (D.faults records.new.journal.disk) (has_failed result) }
+        → Performs D.tells config tables.old asking result tables.new (D.contents records.old.disk) records.old.end
+        (D.contents records.new.disk) records.new.end records.new.halted }
+    ensures faults { TellsFaults (D.faults records.old.disk) (D.faults records.new.disk) records.new.halted }
+    ensures halts { result ≡ Reply.DiskFault → records.new.halted ≡ true }
 {
     match keep_change(alloc, records, &plan) {
         Kept::Done => apply(tables, plan),
@@ -137,10 +130,11 @@ pub(crate) fn perform<D: Disk>(
     question: Question,
 ) -> Reply
     requires idle { is_due tables.old (moment_by tables.old question) ≡ false }
-    requires ready { D.tells → (bodies : List (List ℕ)) × IsReady [] (D.contents records.old.journal.disk) records.old.journal.end bodies }
-    ensures performs { Performs D.tells config.now tables.old question result tables.new (D.contents records.old.journal.disk) records.old.journal.end
-        records.old.count (D.contents records.new.journal.disk) records.new.journal.end records.new.count }
-    ensures faults { TellsFaults (D.faults records.old.journal.disk) (D.faults records.new.journal.disk) (has_failed result) }
+    requires works { records.old.halted ≡ false }
+    ensures performs { Performs D.tells config.now tables.old question result tables.new (D.contents records.old.disk) records.old.end
+        (D.contents records.new.disk) records.new.end records.new.halted }
+    ensures faults { TellsFaults (D.faults records.old.disk) (D.faults records.new.disk) records.new.halted }
+    ensures halts { result ≡ Reply.DiskFault → records.new.halted ≡ true }
 {
     let moment = moment_of(tables, &question);
     match plan(alloc, tables, config, question) {

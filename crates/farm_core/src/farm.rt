@@ -3,13 +3,12 @@ ghost use Rattle.std.specs.Prelude.{◌≡◌, ◌≤◌, ◌^◌, ◌-◌, fals
 ghost use Rattle.causes.specs.Causes.{HasCause, Rose};
 ghost use Rattle.disk_base.specs.Contents.{StopsLeave};
 ghost use Rattle.disk_journal.specs.Images.{IsImage, IsWithin};
-ghost use Rattle.disk_journal.specs.Keeping.{IsReady};
 ghost use Rattle.disk_journal.specs.declared.fault.OpenFault.TheVariants.{Disk, Damaged};
 ghost use Rattle.farm_rows.specs.Contents.{Contents};
 ghost use Rattle.farm_core.specs.Farm.{state_of, AsksDisk, TellsFaults, HoldsHistory};
 ghost use Rattle.farm_core.specs.Opened.{HasOpened, IsFarmDamaged, disk_left};
 
-use crate::asking::{has_failed, keep_due, perform};
+use crate::asking::{keep_due, perform};
 use crate::records::Records;
 use crate::restoring::restore;
 use disk_base::Disk;
@@ -39,25 +38,24 @@ pub struct Farm<D: Disk> {
     config: Config,
     tables: Tables,
     records: Records<D>,
-    halted: bool,
-    ghost ready: { halted ≡ false → D.tells → (bodies : List (List ℕ)) × IsReady [] (D.contents records.journal.disk) records.journal.end bodies × (records.count ≡ length bodies) },
 }
 
 /// Opens the journal on a disk, and replays it.
 fn open_records<D: Disk>(alloc: Global, disk: D) -> Result<(Tables, Records<D>), (OpenFault, D)>
-    ensures opened { D.tells → IfOk result (λ o. HasOpened (D.contents disk).bytes (D.contents o.1.journal.disk) o.1.journal.end o.1.count o.0) }
+    ensures works { IfOk result (λ o. o.1.halted ≡ false) }
+    ensures opened { D.tells → IfOk result (λ o. HasOpened (D.contents disk).bytes (D.contents o.1.disk) o.1.end o.1.count o.0) }
     ensures damaged { D.tells → (place : ℕ) → IfErr result (λ e. e.0 ≡ Damaged place → IsFarmDamaged (D.contents disk).bytes place) }
     ensures any_moment { D.tells → (bodies : List (List ℕ)) (pending : Option (List ℕ)) → IsImage [] bodies pending (D.contents disk).bytes
-        → StopsLeave (D.contents disk) (D.contents (disk_left (λ o. o.1.journal.disk) result)) (IsWithin [] bodies (option_to_list pending)) }
+        → StopsLeave (D.contents disk) (D.contents (disk_left (λ o. o.1.disk) result)) (IsWithin [] bodies (option_to_list pending)) }
     ensures cause { IfErr result (λ e. e.0 ≡ Disk → Rose (D.faults disk) (D.faults e.1)) }
-    ensures later { D.faults disk ≤ D.faults (disk_left (λ o. o.1.journal.disk) result) }
-    ensures kept { IfOk result (λ o. D.faults o.1.journal.disk ≡ D.faults disk) }
+    ensures later { D.faults disk ≤ D.faults (disk_left (λ o. o.1.disk) result) }
+    ensures kept { IfOk result (λ o. D.faults o.1.disk ≡ D.faults disk) }
 {
     match Journal::open(alloc, disk) {
         Ok((journal, bodies)) => match restore(alloc, &bodies) {
             Ok(tables) => {
                 let count = bodies.len() as u64;
-                Ok((tables, Records { journal, count }))
+                Ok((tables, Records::new(journal, count)))
             }
             Err(fault) => Err((fault, journal.into_disk())),
         },
@@ -70,14 +68,14 @@ impl<D: Disk> Farm<D> {
     ///
     /// A stop in it leaves what a stop at its start might have left, or the same records, or these and the one pending behind them.
     pub fn open(alloc: Global, disk: D, config: Config) -> Result<Self, (OpenFault, D)>
-        ensures opened { D.tells → IfOk result (λ farm. HasOpened (D.contents disk).bytes (D.contents farm.records.journal.disk) farm.records.journal.end farm.records.count farm.tables) }
-        ensures state { IfOk result (λ farm. (farm.config ≡ config) × (farm.halted ≡ false)) }
+        ensures opened { D.tells → IfOk result (λ farm. HasOpened (D.contents disk).bytes (D.contents farm.records.disk) farm.records.end farm.records.count farm.tables) }
+        ensures state { IfOk result (λ farm. (farm.config ≡ config) × (farm.records.halted ≡ false)) }
         ensures damaged { D.tells → (place : ℕ) → IfErr result (λ e. e.0 ≡ Damaged place → IsFarmDamaged (D.contents disk).bytes place) }
         ensures any_moment { D.tells → (bodies : List (List ℕ)) (pending : Option (List ℕ)) → IsImage [] bodies pending (D.contents disk).bytes
-            → StopsLeave (D.contents disk) (D.contents (disk_left (λ farm. farm.records.journal.disk) result)) (IsWithin [] bodies (option_to_list pending)) }
+            → StopsLeave (D.contents disk) (D.contents (disk_left (λ farm. farm.records.disk) result)) (IsWithin [] bodies (option_to_list pending)) }
         ensures cause { IfErr result (λ e. e.0 ≡ Disk → Rose (D.faults disk) (D.faults e.1)) }
-        ensures later { D.faults disk ≤ D.faults (disk_left (λ farm. farm.records.journal.disk) result) }
-        ensures kept { IfOk result (λ farm. D.faults farm.records.journal.disk ≡ D.faults disk) }
+        ensures later { D.faults disk ≤ D.faults (disk_left (λ farm. farm.records.disk) result) }
+        ensures kept { IfOk result (λ farm. D.faults farm.records.disk ≡ D.faults disk) }
     {
         match open_records(alloc, disk) {
             Ok((tables, records)) => Ok(Farm {
@@ -85,7 +83,6 @@ impl<D: Disk> Farm<D> {
                 config,
                 tables,
                 records,
-                halted: false,
             }),
             Err(refused) => Err(refused),
         }
@@ -97,31 +94,31 @@ impl<D: Disk> Farm<D> {
         ensures tasks { result.tasks ≡ length self.now.tables.rows }
     {
         Counts {
-            records: self.records.count,
+            records: self.records.count(),
             tasks: self.tables.len(),
         }
     }
 
     /// The disk.
     pub fn into_disk(self) -> D
-        ensures { result ≡ self.records.journal.disk }
+        ensures { result ≡ self.records.disk }
     {
-        self.records.journal.into_disk()
+        self.records.into_disk()
     }
 
     /// Asks one question: what is due at its moment is kept as a tick and resolved, and then the call is judged, its change kept, and made.
     ///
     /// A farm that has halted answers so, and touches nothing.
     pub fn answer(&mut self, question: Question) -> Asked
-        ensures asked { self.old.halted ≡ false → AsksDisk D.tells
-            (state_of self.old.config self.old.tables self.old.halted) (D.contents self.old.records.journal.disk) self.old.records.journal.end question result
-            (state_of self.new.config self.new.tables self.new.halted) (D.contents self.new.records.journal.disk) self.new.records.journal.end }
-        ensures halted { self.old.halted ≡ true → (self.new ≡ self.old) × (result ≡ record { reply = Reply.Halted; ticked = false }) }
-        ensures cause { result.reply ≡ Reply.DiskFault → Rose (D.faults self.old.records.journal.disk) (D.faults self.new.records.journal.disk) }
-        ensures faults { self.old.halted ≡ false → TellsFaults (D.faults self.old.records.journal.disk) (D.faults self.new.records.journal.disk) self.new.halted }
-        ensures later { D.faults self.old.records.journal.disk ≤ D.faults self.new.records.journal.disk }
+        ensures asked { self.old.records.halted ≡ false → AsksDisk D.tells
+            (state_of self.old.config self.old.tables self.old.records.halted) (D.contents self.old.records.disk) self.old.records.end question result
+            (state_of self.new.config self.new.tables self.new.records.halted) (D.contents self.new.records.disk) self.new.records.end }
+        ensures halted { self.old.records.halted ≡ true → (self.new ≡ self.old) × (result ≡ record { reply = Reply.Halted; ticked = false }) }
+        ensures cause { result.reply ≡ Reply.DiskFault → Rose (D.faults self.old.records.disk) (D.faults self.new.records.disk) }
+        ensures faults { self.old.records.halted ≡ false → TellsFaults (D.faults self.old.records.disk) (D.faults self.new.records.disk) self.new.records.halted }
+        ensures later { D.faults self.old.records.disk ≤ D.faults self.new.records.disk }
     {
-        if self.halted {
+        if self.records.halted() {
             return Asked {
                 reply: Reply::Halted,
                 ticked: false,
@@ -137,16 +134,12 @@ impl<D: Disk> Farm<D> {
                     &self.config,
                     question,
                 );
-                self.halted = has_failed(&reply);
                 Asked { reply, ticked }
             }
-            Err(DiskFault) => {
-                self.halted = true;
-                Asked {
-                    reply: Reply::DiskFault,
-                    ticked: false,
-                }
-            }
+            Err(DiskFault) => Asked {
+                reply: Reply::DiskFault,
+                ticked: false,
+            },
         }
     }
 }
@@ -158,10 +151,10 @@ impl<D: Disk> Object for Farm<D> {
 
     type Law = Law;
 
-    ghost state = { λ farm. state_of farm.config farm.tables farm.halted };
+    ghost state = { λ farm. state_of farm.config farm.tables farm.records.halted };
 
-    ghost holds = { λ farm opening seen. HoldsHistory D.tells (D.contents farm.records.journal.disk) farm.records.journal.end (D.faults farm.records.journal.disk)
-        (state_of farm.config farm.tables farm.halted) opening seen };
+    ghost holds = { λ farm opening seen. HoldsHistory D.tells (D.contents farm.records.disk) farm.records.end (D.faults farm.records.disk)
+        (state_of farm.config farm.tables farm.records.halted) opening seen };
 
     fn ask(&mut self, question: Question) -> Asked {
         self.answer(question)
