@@ -1,8 +1,10 @@
 -- Records one for one, and what asks keep of them one after the other.
-use Rattle.std.proofs.Common.{◌≡◌, ℕ, List, [], ◌∷◌, ◌++◌, refl, subst}
+use Rattle.std.proofs.Common.{◌≡◌, ℕ, ◌+◌, ◌-◌, ◌^◌, ◌<◌, ◌≤◌, min, List, [], ◌∷◌, ◌++◌, length, refl, subst, arith}
+use Rattle.std.proofs.Math.ListN.{length-append}
 use Rattle.disk_base.specs.Contents.{Contents}
-use Rattle.disk_journal.specs.Keeping.{Keeps}
-use Rattle.disk_journal.proofs.KeepsLemmas.{Keeps-none, Keeps-then}
+use Rattle.disk_journal.specs.Keeping.{IsReady, Keeps}
+use Rattle.disk_journal.specs.Records.{records}
+use Rattle.disk_journal.proofs.KeepsLemmas.{Keeps-none, Keeps-then, few-records}
 use Rattle.farm_record.specs.declared.change.Change.{Change}
 use Rattle.farm_record.specs.Records.{IsRecord}
 use Rattle.farm_core.specs.Records.{AreRecords, KeepsRecords}
@@ -42,3 +44,13 @@ KeepsRecords-then a a_end b b_end c c_end first second failed p q =
       pending = q.pending;
       keeps = Keeps-then [] a a_end b b_end c c_end p.bodies q.bodies q.others whole q.keeps;
     }
+
+-- a journal that kept one more is ready behind it, and has one more: it has no more records than bytes
+pub one-more : (old : Contents) (old_end old_count : ℕ) (new : Contents) (new_end new_count : ℕ) (body : List ℕ) → Keeps [] old old_end new new_end (body ∷ []) [] → new_count ≡ min (old_count + 1) (2 ^ 64 - 1) → new_end < 2 ^ 63
+    → (bodies : List (List ℕ)) × IsReady [] old old_end bodies × (old_count ≡ length bodies) → (bodies : List (List ℕ)) × IsReady [] new new_end bodies × (new_count ≡ length bodies)
+one-more old old_end old_count new new_end new_count body keeps counts within (bodies, ready, had) =
+    let now = keeps.ready refl bodies ready in
+    let place : new_end ≡ length (records (bodies ++ body ∷ [])) = omega (arith, now.place) in
+    let few : length (bodies ++ body ∷ []) ≤ length (records (bodies ++ body ∷ [])) = few-records (bodies ++ body ∷ []) in
+    let long : length (bodies ++ body ∷ []) ≡ length bodies + 1 = length-append bodies (body ∷ []) in
+    (bodies ++ body ∷ [], now, omega arith)
