@@ -1,5 +1,6 @@
-ghost use Rattle.std.specs.Prelude.{◌≡◌, Some, None};
+ghost use Rattle.std.specs.Prelude.{◌≡◌, Some, None, option_map};
 ghost use Rattle.farm_machine.specs.Judgement.{only_answer};
+ghost use Rattle.farm_machine.specs.Written.{AreWritten};
 
 use crate::reply::Answer;
 use farm_rows::TaskPlan;
@@ -18,7 +19,7 @@ impl Judged {
     pub(crate) fn only(answer: Answer) -> Judged
         ensures answer { result.answer ≡ answer }
         ensures change { result.change ≡ None }
-        ensures written { result.written ≡ None }
+        ensures written { AreWritten result.change (option_map (λ r. r.items) result.written) }
     {
         Judged {
             answer,

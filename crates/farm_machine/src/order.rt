@@ -143,7 +143,7 @@ fn makes_task(kind: &Kind) -> bool
 fn refuse_full(alloc: Global, count: u32) -> Result<Judged, AllocError>
     ensures answer { IfOk result (λ judged. judged.answer ≡ farm_full count) }
     ensures change { IfOk result (λ judged. judged.change ≡ None) }
-    ensures written { IfOk result (λ judged. judged.written ≡ None) }
+    ensures written { IfOk result (λ judged. AreWritten judged.change (option_map (λ r. r.items) judged.written)) }
 {
     Ok(Judged::only(answers::farm_full(alloc, count)?))
 }
@@ -170,9 +170,10 @@ fn tell(
     plan: TaskPlan,
     text: Vec<u8>,
 ) -> Result<Judged, AllocError>
+    requires { IsWritten plan.change text.items }
     ensures answer { IfOk result (λ judged. judged.answer ≡ ok (document_text (told_by telling plan.rows))) }
     ensures change { IfOk result (λ judged. judged.change ≡ Some plan) }
-    ensures written { IfOk result (λ judged. judged.written ≡ Some text) }
+    ensures written { IfOk result (λ judged. AreWritten judged.change (option_map (λ r. r.items) judged.written)) }
 {
     let answer = told_answer(alloc, telling, plan.rows())?;
     Ok(Judged {

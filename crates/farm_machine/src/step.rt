@@ -143,7 +143,7 @@ fn judgement_of(
 fn refused_body(alloc: Global, fault: BodyFault) -> Result<Judged, AllocError>
     ensures answer { IfOk result (λ judged. judged.answer ≡ bad_body fault) }
     ensures change { IfOk result (λ judged. judged.change ≡ None) }
-    ensures written { IfOk result (λ judged. judged.written ≡ None) }
+    ensures written { IfOk result (λ judged. AreWritten judged.change (option_map (λ r. r.items) judged.written)) }
 {
     Ok(Judged::only(answers::bad_body(alloc, &fault)?))
 }
