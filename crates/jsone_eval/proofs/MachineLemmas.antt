@@ -83,11 +83,11 @@ pass_leads s x vs gs (suc k) n (Err TooMuchWork) m some does = absurd cc
 pass_leads s x vs gs (suc k) n (Err no_memory) m some does = tt
 
 -- a fault is the answer of the whole
-pub fault_answers : {A : Type 0} (P : Outcome → Type 0) (s : Setting) (x : Node) (xs : List Node) (vs : List Document) (gs : List Part) (k n : ℕ) (fault : EvalFault) (m : Machine) (before : ℕ)
+pub fault_answers : (A : Type 0) (P : Outcome → Type 0) (s : Setting) (x : Node) (xs : List Node) (vs : List Document) (gs : List Part) (k n : ℕ) (fault : EvalFault) (m : Machine) (before : ℕ)
     → ((o : Outcome) → Runs s (x ∷ xs) vs gs k n o → P o) → Leads {A = A} s x vs gs k n (Err fault) m → Answers P (Err fault) before before
-fault_answers P s x xs vs gs k n (eval_fault f) m before whole leads = (whole (faulted f) (leads xs), refl)
-fault_answers P s x xs vs gs k n TooMuchWork m before whole leads = (whole too_much (leads xs), refl)
-fault_answers P s x xs vs gs k n no_memory m before whole leads = refl
+fault_answers A P s x xs vs gs k n (eval_fault f) m before whole leads = (whole (faulted f) (leads xs), refl)
+fault_answers A P s x xs vs gs k n TooMuchWork m before whole leads = (whole too_much (leads xs), refl)
+fault_answers A P s x xs vs gs k n no_memory m before whole leads = refl
 
 -- what is paid is more than may be, or is not
 abbrev paid_if : ℕ → Document → Bool → Outcome
@@ -150,11 +150,11 @@ document-Bool b = search (rules, the_lemmas)
 
 pub decides_so : {A : Type 0} (b t : Bool) (vs us : List Document) (gs : List Part) (k j n : ℕ) (r : Result A EvalFault) (m : Machine) → b ≡ true → t ≡ is_true (top vs) → us ≡ below vs → j ≡ suc k → Does (λ p. p ≡ pushed us gs j (paid n (document (bool_doc t)))) r m
     → Does (λ p. MatchBool b (p ≡ pushed (below vs) gs (suc k) (paid n (boolean (is_true (top vs))))) (p ≡ went vs gs k n)) r m
-decides_so b t vs us gs k j n r m yes truth rest more does =
+decides_so b t vs us gs k j n r m holds truth rest more does =
     let value = document-Bool t ∙ ap boolean truth in
     does_so (λ p. p ≡ pushed us gs j (paid n (document (bool_doc t)))) (λ p. MatchBool b (p ≡ pushed (below vs) gs (suc k) (paid n (boolean (is_true (top vs))))) (p ≡ went vs gs k n))
     (λ p e.
-    decided b (p ≡ pushed (below vs) gs (suc k) (paid n (boolean (is_true (top vs))))) (p ≡ went vs gs k n) yes
+    decided b (p ≡ pushed (below vs) gs (suc k) (paid n (boolean (is_true (top vs))))) (p ≡ went vs gs k n) holds
     (e ∙ ap (λ x. pushed us gs j (paid n x)) value ∙ ap (λ x. pushed us gs x (paid n (boolean (is_true (top vs))))) more ∙ ap (λ x. pushed x gs (suc k) (paid n (boolean (is_true (top vs))))) rest))
     r m does
 

@@ -8,6 +8,9 @@ use Rattle.jsone_values.specs.declared.faults.Fault.TheVariants.{Syntax}
 use Rattle.jsone_expr.specs.declared.tokens.Span.{Span}
 use Rattle.jsone_eval.specs.Values.{bytes_at, text_at}
 
+take_none : (m n : ℕ) (xs : List ℕ) → length xs ≤ 0 → take m xs ≡ take n xs
+take_none m n xs none = take_all m xs (omega (arith, none)) ∙ sym (take_all n xs (omega (arith, none)))
+
 -- cut to the ends it is the same part
 pub cut_within : (xs : List ℕ) (from to : ℕ) → take (min to (length xs) - min from (min to (length xs))) (drop (min from (min to (length xs))) xs) ≡ take (to - from) (drop from xs)
 cut_within xs from to = elim (cases_lt (length xs) to) [
@@ -16,7 +19,7 @@ cut_within xs from to = elim (cases_lt (length xs) to) [
       rw end (elim (cases_lt (length xs) from) [
         | inl none ↦
             let start : min from (length xs) ≡ length xs = omega arith in
-            rw (start, drop_all (length xs) xs (omega arith), drop_all from xs (omega arith)) (nothing _ _)
+            rw (start, drop_all (length xs) xs (omega arith), drop_all from xs (omega arith)) (take_none _ _ [] (omega arith))
         | inr some ↦
             let start : min from (length xs) ≡ from = omega arith in
             rw start (take_all (length xs - from) (drop from xs) (omega (arith, length-drop from xs)) ∙ sym (take_all (to - from) (drop from xs) (omega (arith, length-drop from xs))))
@@ -34,9 +37,13 @@ cut_within xs from to = elim (cases_lt (length xs) to) [
             rw start refl
       ])
 ]
-  where
-    nothing : (m n : ℕ) → take m [] ≡ take n []
-    nothing m n = take_all m [] (omega arith) ∙ sym (take_all n [] (omega arith))
+
+-- the same where the ends are computed one after the other
+pub cut_is : (xs : List ℕ) (from to a b : ℕ) → a ≡ min to (length xs) → b ≡ min from a → take (a - b) (drop b xs) ≡ take (to - from) (drop from xs)
+cut_is xs from to a b e f =
+    ap (λ z. take (a - z) (drop z xs)) (f ∙ ap (min from) e)
+    ∙ ap (λ z. take (z - min from (min to (length xs))) (drop (min from (min to (length xs))) xs)) e
+    ∙ cut_within xs from to
 
 pub text_found : (source bs found : List ℕ) (place : Span) → bs ≡ bytes_at source place → found ≡ bs → IsUtf8 bs → text_at source place ≡ Ok found
 text_found source bs found place e f utf8 =

@@ -203,9 +203,10 @@ impl Machine {
         ensures { Does (λ p. p ≡ went (values_in self.old) (part_of part ∷ parts_in self.old) self.old.passed self.old.spent) result self.new }
     {
         match self.gathered.push(part) {
-            Ok(()) => Ok(()),
-            Err(_) => Err(EvalFault::NoMemory),
+            Ok(()) => {}
+            Err(_) => return Err(EvalFault::NoMemory),
         }
+        Ok(())
     }
 
     fn gather_item(&mut self, alloc: Global) -> Result<(), EvalFault>

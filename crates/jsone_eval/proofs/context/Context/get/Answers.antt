@@ -12,7 +12,7 @@ loop-binding-init c =
 
 pub loop-binding-preserved : goal.loop-binding-preserved
 loop-binding-preserved c =
-    one_binding _ _ _ _ c.args.name.now c.deref-binding-items.result.now c.loop-binding.binding-index c.binding-item.result c.loop-binding-test.true c.binding-item.is c.get.ensures c.nearest.ensures c.loop-binding.invariant
+    one_binding _ _ _ _ c.args.name.now c.deref-binding-items.result.now c.loop-binding.binding-index c.binding-item.result c.loop-binding-test.true c.binding-item.is c.get.ensures c.nearest-found.ensures c.loop-binding.invariant
 
 pub returns : goal.returns
 returns c = no_binding_left _ _ c.args.name.now c.deref-binding-items.result.now c.loop-binding.binding-index c.loop-binding-test.false c.loop-binding.invariant

@@ -9,6 +9,6 @@ use Rattle.jsone_eval.proofs.machine.Machine.close_list.Goals as goal
 pub returns : goal.returns
 returns c = λ s.
     let self = c.args.self.now in
-    let v = c.take_gathered.result.values in
-    pays_for_part (λ g r. r ≡ Ok (array (items_of g.0))) (Ok (list_doc v)) (values_in self) (parts_in self) (map part_of (reverse c.take_gathered.new.gathered.items)) (part_of c.take_gathered.result) self.passed self.spent c.pay.result c.pay.new.self
-    c.take_gathered.ensures.top c.take_gathered.ensures.below (ap Ok (document-List v)) c.pay.ensures
+    let v = c.take_gathered-values.result.values in
+    pays_for_part (λ g r. r ≡ Ok (array (items_of g.0))) (Ok (list_doc v)) (values_in self) (parts_in self) (map part_of (reverse c.take_gathered-values.new.gathered.items)) (part_of c.take_gathered-values.result) self.passed self.spent c.pay.result c.pay.new.self
+    c.take_gathered-values.ensures.top c.take_gathered-values.ensures.below (ap Ok (document-List v)) c.pay.ensures

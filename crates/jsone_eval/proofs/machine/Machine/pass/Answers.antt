@@ -12,7 +12,7 @@ returns-in-Some c =
 pub returns-in-Binary : goal.returns-in-Binary
 returns-in-Binary c =
     let self = c.args.self.now in
-    ap (λ (k : ℕ). went (values_in self) (parts_in self) k self.spent) (c.saturating_sub.ensures ∙ one_less_is self.passed ∙ ap (λ (x : Node). passed x self.passed) (sym c.in-Binary.is))
+    ap (λ (k : ℕ). went (values_in self) (parts_in self) k self.spent) (c.saturating_sub-self.ensures ∙ one_less_is self.passed ∙ ap (λ (x : Node). passed x self.passed) (sym c.in-Binary.is))
 
 pub returns-in_default : goal.returns-in_default
 returns-in_default c =
