@@ -13,4 +13,4 @@ returns c =
     ap (part (documents c.args.part.values.items))
     (ap entries_of c.in_ok-push.ensures.items
     ∙ entries_of-append c.args.part.members.items ((c.in_ok-name.name, c.args.value) ∷ [])
-    ∙ ap (λ (k : List ℕ). entries_of c.args.part.members.items ++ (k, document c.args.value) ∷ []) c.in_ok-name.ensures)
+    ∙ ap (λ (k : List ℕ). entries_of c.args.part.members.items ++ (k, document c.args.value) ∷ []) c.in_ok-name.ensures.ok)
