@@ -14,7 +14,6 @@ mod expressions;
 pub mod grants;
 mod judged;
 pub mod law;
-mod named;
 mod order;
 pub mod plan;
 pub mod question;
@@ -23,4 +22,3 @@ pub mod step;
 pub mod tables;
 #[cfg(test)]
 mod tests;
-mod works;

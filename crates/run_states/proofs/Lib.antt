@@ -1,4 +1,2 @@
 pub mod LaterLemmas
 pub mod RunLemmas
-pub mod NameLemmas
-pub mod ClaimLemmas

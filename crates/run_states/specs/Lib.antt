@@ -1,5 +1,3 @@
-pub mod Reasons
 pub mod Runs
 pub mod Rows
-pub mod Moves
 pub mod Later

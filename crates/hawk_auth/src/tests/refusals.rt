@@ -1,58 +1,53 @@
 //! Each refusal alone, and each with its neighbour in the order.
-use super::{TOKEN, answer, book_of};
+use super::{TOKEN, book_of, client_of, moment, name_of, roles};
 use crate::{AuthHead, Parts, payload_hash, sign};
-use farm_text::Moment;
 use std::alloc::Global;
 use std::str;
+use std::test::Fail;
 
 /// A request with these flaws: what its check answers.
-fn refusal(alloc: Global, flaws: &str) -> Option<&'static str> {
-    let hash = if flaws.contains("BadHash") {
-        payload_hash(None, b"other")
+fn refusal(alloc: Global, flaws: &str) -> Result<&'static str, Fail> {
+    let hash = payload_hash(
+        None,
+        if flaws.contains("BadHash") {
+            b"other"
+        } else {
+            b"body"
+        },
+    );
+    let hash = str::from_utf8(&hash).ok().ok_or("no text")?;
+    let header = sign(alloc, &flawed_parts(flaws, hash))?;
+    let value = header.as_str();
+    let value = if flaws.contains("BadHeader") {
+        value.strip_prefix("H").unwrap_or(value)
     } else {
-        payload_hash(None, b"body")
+        value
     };
-    let hash = str::from_utf8(&hash).ok()?;
-    let header = sign(alloc, &flawed_parts(flaws, hash)).ok()?;
-    checked(alloc, flaws, sent(flaws, header.as_str()))
-}
-
-/// The header as it is sent: without its first letter where it is to be bad.
-fn sent<'a>(flaws: &str, header: &'a str) -> &'a str {
-    if flaws.contains("BadHeader") {
-        header.strip_prefix("H").unwrap_or(header)
-    } else {
-        header
-    }
-}
-
-fn ext_of(flaws: &str) -> &'static str {
-    if flaws.contains("BadExt") {
-        // {"authorizedScopes":["*"],"certificate":1}
-        "eyJhdXRob3JpemVkU2NvcGVzIjpbIioiXSwiY2VydGlmaWNhdGUiOjF9"
-    } else if flaws.contains("Oversteps") {
-        // {"authorizedScopes":["*"]}
-        "eyJhdXRob3JpemVkU2NvcGVzIjpbIioiXX0="
-    } else {
-        // {"authorizedScopes":["a"]}
-        "eyJhdXRob3JpemVkU2NvcGVzIjpbImEiXX0="
-    }
+    checked(alloc, flaws, value)
 }
 
 fn flawed_parts<'a>(flaws: &str, hash: &'a str) -> Parts<'a> {
-    let id = if flaws.contains("UnknownClient") {
-        "d"
+    let ext = if flaws.contains("BadExt") {
+        // {"authorizedScopes":["*"],"certificate":1}
+        Some("eyJhdXRob3JpemVkU2NvcGVzIjpbIioiXSwiY2VydGlmaWNhdGUiOjF9")
+    } else if flaws.contains("Oversteps") {
+        // {"authorizedScopes":["*"]}
+        Some("eyJhdXRob3JpemVkU2NvcGVzIjpbIioiXX0=")
     } else {
-        "c"
-    };
-    let token = if flaws.contains("BadMac") {
-        "other"
-    } else {
-        TOKEN
+        // {"authorizedScopes":["a"]}
+        Some("eyJhdXRob3JpemVkU2NvcGVzIjpbImEiXX0=")
     };
     Parts {
-        id,
-        token,
+        id: if flaws.contains("UnknownClient") {
+            "d"
+        } else {
+            "c"
+        },
+        token: if flaws.contains("BadMac") {
+            "other"
+        } else {
+            TOKEN
+        },
         ts: "1000",
         nonce: "n",
         method: b"PUT",
@@ -60,11 +55,11 @@ fn flawed_parts<'a>(flaws: &str, hash: &'a str) -> Parts<'a> {
         host: "farm",
         port: 80,
         hash: Some(hash),
-        ext: Some(ext_of(flaws)),
+        ext,
     }
 }
 
-fn checked(alloc: Global, flaws: &str, value: &str) -> Option<&'static str> {
+fn checked(alloc: Global, flaws: &str, value: &str) -> Result<&'static str, Fail> {
     let now = if flaws.contains("Skew") {
         1_901_000
     } else {
@@ -75,14 +70,11 @@ fn checked(alloc: Global, flaws: &str, value: &str) -> Option<&'static str> {
     } else {
         now + 1
     };
-    let now = Moment::from_millis(now)?;
-    let expires = Moment::from_millis(expires)?;
-    let book = book_of(alloc, "c", expires, flaws.contains("Disabled"))?;
-    answer(alloc, &book, &head_with(value), now)
-}
-
-fn head_with(value: &str) -> AuthHead<'_> {
-    AuthHead {
+    let book = book_of(
+        alloc,
+        client_of(alloc, "c", moment(expires)?, flaws.contains("Disabled"))?,
+    )?;
+    let head = AuthHead {
         header: Some(value.as_bytes()),
         count: 1,
         method: b"PUT",
@@ -91,21 +83,33 @@ fn head_with(value: &str) -> AuthHead<'_> {
         body: b"body",
         host: "farm",
         port: 80,
-    }
+    };
+    Ok(name_of(&book.check(alloc, &roles(alloc)?, &head, moment(now)?)))
 }
 
-/// The flaws of a request, and the first of them in the order.
-const REFUSALS: [(&str, &str); 18] = [
-    ("", "let in"),
-    ("BadHeader", "BadHeader"),
-    ("UnknownClient", "UnknownClient"),
-    ("Disabled", "Disabled"),
-    ("Expired", "Expired"),
-    ("Skew", "Skew"),
-    ("BadMac", "BadMac"),
-    ("BadHash", "BadHash"),
-    ("BadExt", "BadExt"),
-    ("Oversteps", "Oversteps"),
+const ORDER: [&str; 9] = [
+    "BadHeader",
+    "UnknownClient",
+    "Disabled",
+    "Expired",
+    "Skew",
+    "BadMac",
+    "BadHash",
+    "BadExt",
+    "Oversteps",
+];
+
+#[test]
+fn refusals_alone(rt: HostRuntime) -> Result<(), Fail> {
+    let alloc = rt.alloc();
+    assert_eq!(rt; refusal(alloc, "")?, "let in");
+    for flaw in ORDER {
+        assert_eq!(rt; refusal(alloc, flaw)?, flaw);
+    }
+    Ok(())
+}
+
+const NEIGHBOURS: [(&str, &str); 8] = [
     ("BadHeader UnknownClient", "BadHeader"),
     ("UnknownClient Disabled", "UnknownClient"),
     ("Disabled Expired", "Disabled"),
@@ -117,8 +121,10 @@ const REFUSALS: [(&str, &str); 18] = [
 ];
 
 #[test]
-fn refusals_alone_and_in_pairs(rt: HostRuntime) {
-    for (flaws, first) in REFUSALS {
-        assert!(rt; refusal(rt.alloc(), flaws) == Some(first), "{flaws}");
+fn refusals_in_pairs(rt: HostRuntime) -> Result<(), Fail> {
+    let alloc = rt.alloc();
+    for (flaws, first) in NEIGHBOURS {
+        assert_eq!(rt; refusal(alloc, flaws)?, first, "{flaws}");
     }
+    Ok(())
 }

@@ -1,6 +1,0 @@
-pub mod Segments
-pub mod Routes
-pub mod Fits
-pub mod Texts
-pub mod Tokens
-pub mod Contents
