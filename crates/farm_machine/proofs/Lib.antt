@@ -1,5 +1,4 @@
 pub mod AccessLemmas
-pub mod AloneLemmas
 pub mod ChangeLemmas
 pub mod DenialLemmas
 pub mod ExpressionLemmas
@@ -7,7 +6,17 @@ pub mod FaultLemmas
 pub mod OnceLemmas
 pub mod OrderLemmas
 pub mod PlanLemmas
+pub mod RunLawLemmas
 pub mod StepLemmas
 pub mod VerdictLemmas
 pub mod MakeLemmas
+pub mod MayLemmas
+pub mod JoinLemmas
+mod ReadyLawLemmas
+mod ServedLemmas
+pub mod WorkLemmas
 mod EqualLemmas
+mod LastRunLemmas
+mod DeedLemmas
+mod InTimeLemmas
+mod ClaimLawLemmas

@@ -1,3 +1,4 @@
+pub mod Absent
 pub mod Access
 pub mod Calls
 pub mod Case
@@ -12,9 +13,13 @@ pub mod Law
 pub mod Laws
 pub mod Order
 pub mod Planned
+pub mod ReadyLaws
 pub mod Refused
 pub mod Replies
+pub mod RunLaws
 pub mod State
 pub mod Step
+pub mod Tellings
 pub mod Told
 pub mod Verdict
+pub mod Works

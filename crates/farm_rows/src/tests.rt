@@ -1,4 +1,7 @@
 //! Tasks that are created and fall due, against rows that were worked by hand.
+mod claims;
+mod waiting;
+
 use super::*;
 use farm_record::{Change, Creation, Kind};
 use farm_text::{Doc, LAST_TOLD_MOMENT, Moment, SlugId};
@@ -20,10 +23,6 @@ const PLAIN: &'static str =
 /// The same, but due at noon, and with two retries.
 const DUE_AT_NOON: &'static str =
     r#"{"created":"2024-01-01T00:00:00.000Z","deadline":"2024-01-01T12:00:00.000Z","metadata":{"description":"d","name":"n","owner":"o@example.com","source":"https://example.com/"},"payload":{},"retries":2,"taskQueueId":"prov/wt"}"#;
-
-/// The plain definition in a group of another task.
-const GROUPED: &'static str =
-    r#"{"created":"2024-01-01T00:00:00.000Z","deadline":"2024-01-02T00:00:00.000Z","metadata":{"description":"d","name":"n","owner":"o@example.com","source":"https://example.com/"},"payload":{},"taskGroupId":"AAAAAAAAQACAAAAAAAAAAw","taskQueueId":"prov/wt"}"#;
 
 /// A moment, and the first one where there is none.
 fn moment(millis: u64) -> Moment {
@@ -75,23 +74,24 @@ fn reach(tables: &mut TaskTables, millis: u64) {
 
 /// Whether the task of a number has one run, with this number, which was scheduled as it was created, and has this outcome.
 fn has_run(tables: &TaskTables, id: SlugId, number: u64, outcome: Option<Outcome>) -> bool {
-    let run = Run {
-        created: ReasonCreated::Scheduled,
-        number: Some(number),
-        scheduled: moment(CREATED),
-        outcome,
-    };
     match tables.row(id) {
-        Some(row) => is_only(row.runs(), run),
+        Some(row) => has_only(row.runs(), number, outcome),
         None => false,
     }
 }
 
-fn is_only(runs: &[Run], run: Run) -> bool {
+fn has_only(runs: &[Run], number: u64, outcome: Option<Outcome>) -> bool {
     match runs {
-        [only] => *only == run,
+        [only] => is_scheduled(only, number) && only.outcome == outcome,
         _ => false,
     }
+}
+
+fn is_scheduled(run: &Run, number: u64) -> bool {
+    run.created == ReasonCreated::Scheduled
+        && run.number == Some(number)
+        && run.scheduled == moment(CREATED)
+        && run.claim.is_none()
 }
 
 /// The outcome of a task whose deadline came at this moment.
@@ -161,7 +161,6 @@ fn each_deadline_counts_in_one_tick(rt: HostRuntime) -> Result<(), Fail> {
 fn what_may_not_be_created_is_not(rt: HostRuntime) -> Result<(), Fail> {
     let mut tables = plain_tables(rt.alloc())?;
     assert!(rt; !create(rt.alloc(), &mut tables, CREATED, 1, DUE_AT_NOON)?);
-    assert!(rt; !create(rt.alloc(), &mut tables, CREATED, 2, GROUPED)?);
     assert!(rt; !create(rt.alloc(), &mut tables, NOON, 2, DUE_AT_NOON)?);
     assert!(rt; !create(rt.alloc(), &mut tables, CREATED - 1, 2, PLAIN)?);
     assert!(rt; !create(rt.alloc(), &mut tables, DEADLINE, 2, PLAIN)?);
@@ -170,7 +169,7 @@ fn what_may_not_be_created_is_not(rt: HostRuntime) -> Result<(), Fail> {
 }
 
 #[test]
-fn other_kinds_may_not_be_made_yet(rt: HostRuntime) -> Result<(), Fail> {
+fn a_pending_task_is_not_scheduled(rt: HostRuntime) -> Result<(), Fail> {
     let mut tables = plain_tables(rt.alloc())?;
     let change = Change {
         at: moment(NOON),

@@ -1,2 +1,5 @@
 pub mod LaterLemmas
 pub mod RunLemmas
+pub mod NameLemmas
+pub mod ClaimLemmas
+pub mod ServeLemmas
