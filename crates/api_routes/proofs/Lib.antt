@@ -1,4 +1,9 @@
+pub mod ApartLemmas
 pub mod CallLemmas
+pub mod FitLemmas
 pub mod HeadLemmas
+pub mod NumberLemmas
 pub mod PathLemmas
 pub mod PhraseLemmas
+pub mod PostLemmas
+pub mod QueueLemmas

@@ -15,7 +15,8 @@ use Rattle.std.proofs.lemmas.Str.{IsUtf8-from_ascii}
 use Rattle.std.proofs.lemmas.Slice.Eq.{bytes_eq-Decides}
 use Rattle.scope_sets.specs.Scopes.{IsPrintable}
 use Rattle.api_routes.specs.Parts.{is_part}
-use Rattle.api_routes.specs.Routes.{Segment, word, parameter, parameters_in, parts_of, ping_route, status_route, create_route, is_printable, route_name}
+use Rattle.api_routes.specs.Routes.{ping_route, status_route, create_route}
+use Rattle.api_routes.specs.Segments.{Segment, word, parameter, parameters_in, parts_of, is_printable, route_name}
 
 -- a slash
 abbrev pub is_slash : ℕ → Bool
@@ -131,7 +132,7 @@ pub none_from : {A : Type 0} (o : Option A) → ((found : A) → o ≡ Some foun
 none_from None impossible = refl
 none_from (Some found) impossible = absurd (impossible found refl)
 
-bytes_eq-refl : (bs : List ℕ) → bytes_eq bs bs ≡ true
+pub bytes_eq-refl : (bs : List ℕ) → bytes_eq bs bs ≡ true
 bytes_eq-refl bs = (bytes_eq-Decides bs bs).1 refl
 
 -- a list that begins so

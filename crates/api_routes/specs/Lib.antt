@@ -1,4 +1,10 @@
 pub mod Bodies
+pub mod Fitting
+pub mod Named
 pub mod Parts
+pub mod Pieces
+pub mod Posts
 pub mod ReplyText
 pub mod Routes
+pub mod Said
+pub mod Segments

@@ -1,6 +1,6 @@
 -- Which call a message makes (the queue service's routes of the Taskcluster reference).
-use Rattle.std.specs.Prelude.{◌≡◌, ℕ, List, [], ◌∷◌, Bool, ◌&&◌, ◌==◌, nat_le, codes, bytes_eq, Option, Some, None, option_map, if◌then◌else◌}
-use Rattle.std.specs.List.{slice_split, before_first, list_all}
+use Rattle.std.specs.Prelude.{◌≡◌, ℕ, List, [], ◌∷◌, ◌==◌, codes, bytes_eq, Option, Some, None}
+use Rattle.std.specs.List.{before_first}
 use Rattle.percent_encoding.specs.Percent.{percent_decode}
 use Rattle.http_wire.specs.declared.message.Message.{Message}
 use Rattle.farm_text.specs.Slug.{slug_of}
@@ -8,6 +8,8 @@ use Rattle.farm_machine.specs.declared.question.Call.{Call}
 use Rattle.farm_machine.specs.declared.question.Call.TheVariants.{NoRoute, BadParameter, Ping, Status}
 use Rattle.std.specs.Bool.{MatchBool}
 use Rattle.api_routes.specs.Bodies.{IsCreateCall}
+use Rattle.api_routes.specs.Posts.{IsPostCall}
+use Rattle.api_routes.specs.Segments.{Segment, word, parameter, parameters_in, parts_of, queue_route, route_name}
 use Rattle.farm_machine.specs.declared.question.Parameter.TheVariants.{TaskId}
 use Rattle.farm_machine.specs.declared.question.Caller.{Caller}
 use Rattle.farm_machine.specs.declared.question.Caller.TheVariants.{Anonymous, Signed}
@@ -17,28 +19,6 @@ use Rattle.farm_machine.specs.Entry.{Asking}
 -- the target before its query (RFC 3986, section 3.4)
 abbrev pub path_of : List ℕ → List ℕ
 path_of target = before_first (λ b. b == 63) target
-
--- the parts of a path, between its slashes
-abbrev pub parts_of : List ℕ → List (List ℕ)
-parts_of path = slice_split (λ b. b == 47) path
-
--- a part of a route: this word, or any part that is not empty
-pub data Segment : Type 0 where
-  word : List ℕ → Segment
-  parameter : Segment
-
--- the parts that stand for the route's parameters, where the parts of a path fit the route
-abbrev pub parameters_in : List Segment → List (List ℕ) → Option (List (List ℕ))
-parameters_in [] [] = Some []
-parameters_in [] (part ∷ parts) = None
-parameters_in (segment ∷ segments) [] = None
-parameters_in (word w ∷ segments) (part ∷ parts) = if bytes_eq part w then parameters_in segments parts else None
-parameters_in (parameter ∷ segments) ([] ∷ parts) = None
-parameters_in (parameter ∷ segments) ((b ∷ bs) ∷ parts) = option_map (λ found. (b ∷ bs) ∷ found) (parameters_in segments parts)
-
--- a route of the queue service
-abbrev pub queue_route : List Segment → List Segment
-queue_route segments = word [] ∷ word (codes "api") ∷ word (codes "queue") ∷ word (codes "v1") ∷ segments
 
 -- `/ping`
 abbrev pub ping_route : List Segment
@@ -51,14 +31,6 @@ status_route = queue_route (word (codes "task") ∷ parameter ∷ word (codes "s
 -- `/task/{taskId}`
 abbrev pub create_route : List Segment
 create_route = queue_route (word (codes "task") ∷ parameter ∷ [])
-
--- a byte of printable ASCII
-abbrev pub is_printable : ℕ → Bool
-is_printable b = nat_le 32 b && nat_le b 126
-
--- the name by which a reply tells of a path that has no route
-abbrev pub route_name : List ℕ → List ℕ
-route_name path = if list_all is_printable path then path else codes "-"
 
 -- the status call of a task, whose id is percent-encoded (RFC 3986, section 2.1)
 abbrev pub status_call : Option (List ℕ) → Call
@@ -94,7 +66,8 @@ IsPutCall path body call = IsPutOr (parameters_in create_route (parts_of path)) 
 abbrev pub IsRouted : List ℕ → List ℕ → List ℕ → Call → Type 0
 IsRouted method path body call =
     MatchBool (bytes_eq method (codes "GET")) (call ≡ get_call path)
-    (MatchBool (bytes_eq method (codes "PUT")) (IsPutCall path body call) (call ≡ NoRoute (route_name path)))
+    (MatchBool (bytes_eq method (codes "PUT")) (IsPutCall path body call)
+    (MatchBool (bytes_eq method (codes "POST")) (IsPostCall path body call) (call ≡ NoRoute (route_name path))))
 
 -- what a message calls
 unfoldable pub IsCallOf : Message → Call → Type 0

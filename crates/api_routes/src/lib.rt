@@ -3,10 +3,15 @@
 
 mod bodies;
 mod head;
+mod laws;
+mod paths;
+mod posts;
+mod requests;
 mod routes;
 mod wire_replies;
 
 pub use head::{Head, reply_head};
+pub use laws::a_path_fits_one_route;
 pub use routes::{call_of, caller_of};
 pub use wire_replies::own_reply;
 

@@ -4,10 +4,12 @@ ghost use Rattle.farm_text.specs.Slug.{slug_of};
 ghost use Rattle.percent_encoding.specs.Percent.{percent_decode};
 ghost use Rattle.std.specs.List.{position, list_all};
 ghost use Rattle.api_routes.specs.Routes as routes;
+ghost use Rattle.api_routes.specs.Segments as segments;
 ghost use Rattle.api_routes.specs.Bodies.{IsCreateCall};
 ghost use Rattle.api_routes.specs.Parts.{is_part};
 
 use crate::bodies::task_call;
+use crate::posts::post_call;
 use farm_machine::question::{Call, Caller, Credentials, Parameter};
 use farm_text::{SlugId, Text};
 use http_wire::Message;
@@ -26,6 +28,9 @@ pub fn call_of(alloc: Global, message: &Message) -> Result<Call, AllocError>
     }
     if method == b"PUT".as_slice() {
         return put_call(alloc, path, message.body.as_slice());
+    }
+    if method == b"POST".as_slice() {
+        return post_call(alloc, path, message.body.as_slice());
     }
     no_route(alloc, path)
 }
@@ -99,8 +104,8 @@ fn query_place(target: &[u8]) -> Option<usize>
 
 /// The id in the path of a task's status, as it stands there.
 fn status_id(path: &[u8]) -> Option<&[u8]>
-    ensures { MatchOption result (routes.parameters_in routes.status_route (routes.parts_of path.now) ≡ None)
-        (λ id. routes.parameters_in routes.status_route (routes.parts_of path.now) ≡ Some (id.now ∷ [])) }
+    ensures { MatchOption result (segments.parameters_in routes.status_route (segments.parts_of path.now) ≡ None)
+        (λ id. segments.parameters_in routes.status_route (segments.parts_of path.now) ≡ Some (id.now ∷ [])) }
 {
     let Some(task) = path.strip_prefix(b"/api/queue/v1/task/") else {
         return None;
@@ -113,8 +118,8 @@ fn status_id(path: &[u8]) -> Option<&[u8]>
 
 /// The id in the path of a task's making, as it stands there.
 fn create_id(path: &[u8]) -> Option<&[u8]>
-    ensures { MatchOption result (routes.parameters_in routes.create_route (routes.parts_of path.now) ≡ None)
-        (λ id. routes.parameters_in routes.create_route (routes.parts_of path.now) ≡ Some (id.now ∷ [])) }
+    ensures { MatchOption result (segments.parameters_in routes.create_route (segments.parts_of path.now) ≡ None)
+        (λ id. segments.parameters_in routes.create_route (segments.parts_of path.now) ≡ Some (id.now ∷ [])) }
 {
     match path.strip_prefix(b"/api/queue/v1/task/") {
         Some(id) if is_part(id) => Some(id),
@@ -130,7 +135,7 @@ fn is_part(bytes: &[u8]) -> bool
 }
 
 /// The id that is percent-encoded in a path, where it is a slugid.
-fn decoded_id(alloc: Global, id: &[u8]) -> Result<Option<SlugId>, AllocError>
+pub(crate) fn decoded_id(alloc: Global, id: &[u8]) -> Result<Option<SlugId>, AllocError>
     ensures { IfOk result (λ decoded. decoded ≡ slug_of (percent_decode id.now)) }
 {
     let mut text = Vec::new(alloc);
@@ -159,15 +164,15 @@ fn create_call(alloc: Global, id: &[u8], body: &[u8]) -> Result<Call, AllocError
 }
 
 /// The call of a path that has no route.
-fn no_route(alloc: Global, path: &[u8]) -> Result<Call, AllocError>
-    ensures { IfOk result (λ c. c ≡ Call.NoRoute (routes.route_name path.now)) }
+pub(crate) fn no_route(alloc: Global, path: &[u8]) -> Result<Call, AllocError>
+    ensures { IfOk result (λ c. c ≡ Call.NoRoute (segments.route_name path.now)) }
 {
     Ok(Call::NoRoute(Text::from_str(alloc, route_name(path))?))
 }
 
 /// The path where it is printable ASCII, else `-`.
 fn route_name(path: &[u8]) -> &str
-    ensures { result.now ≡ routes.route_name path.now }
+    ensures { result.now ≡ segments.route_name path.now }
 {
     match str::from_utf8(path) {
         Ok(name) if is_printable(path) => name,

@@ -1,10 +1,12 @@
 -- The texts of scopes are printable, and how their lists grow.
-use Rattle.std.proofs.Common.{◌≡◌, ℕ, ◌+◌, ◌<◌, ◌≤◌, true, inl, inr, List, [], ◌∷◌, ◌++◌, length, take, get_or, map, refl, sym, ap, ◌∙◌, All, arith, append_assoc, leb, take_all, rules}
+use Rattle.std.proofs.Common.{◌≡◌, ℕ, ◌+◌, ◌%◌, ◌^◌, ◌<◌, ◌≤◌, true, inl, inr, List, [], ◌∷◌, ◌++◌, length, take, get_or, map, refl, sym, ap, ◌∙◌, All, arith, append_assoc, leb, take_all, rules}
 use Rattle.std.specs.List.{list_all}
 use Rattle.std.specs.Char.{IsAsciiAlphanumeric}
 use Rattle.std.proofs.lemmas.Bool.{and_parts, leb-true}
 use Rattle.std.proofs.lemmas.List.{map-append, take_more}
-use Rattle.std.proofs.lemmas.List.Elements.{All-nil, All-cons, All-contains, All-weaker}
+use Rattle.std.specs.Fmt.{decimal}
+use Rattle.std.proofs.lemmas.Fmt.{decimal_by_steps}
+use Rattle.std.proofs.lemmas.List.Elements.{All-nil, All-cons, All-append, All-contains, All-weaker}
 use Rattle.farm_text.specs.Slug.{IsUuid4, slug_text, slug_pattern, Matches, IsSlug}
 use Rattle.farm_text.proofs.SlugLemmas.{slug_of_uuid}
 use Rattle.scope_sets.specs.Scopes.{IsPrintable}
@@ -56,6 +58,27 @@ matching_printable (class ∷ classes) (c ∷ text) all matches =
 pub slug_printable : (uuid : List ℕ) → IsUuid4 uuid → All IsPrintable (slug_text uuid)
 unfolding IsSlug
 slug_printable uuid is = matching_printable slug_pattern (slug_text uuid) refl (slug_of_uuid uuid is)
+
+-- two printable texts with a slash between them
+pub joined_printable : (a b : List ℕ) → All IsPrintable a → All IsPrintable b → All IsPrintable (a ++ 47 ∷ b)
+joined_printable a b front rest = All-append IsPrintable a (47 ∷ b) front (All-cons IsPrintable 47 b (omega arith, omega arith) rest)
+
+-- the text that three pieces make
+pub three_pieces : (a b s0 s1 s2 : List ℕ) → s0 ≡ a → s1 ≡ s0 ++ 47 ∷ [] → s2 ≡ s1 ++ b → s2 ≡ a ++ 47 ∷ b
+three_pieces a b s0 s1 s2 first second third = third ∙ ap (λ t. t ++ b) (second ∙ ap (λ t. t ++ 47 ∷ []) first) ∙ append_assoc a (47 ∷ []) b
+
+-- a number is printable
+pub decimal_printable : (n : ℕ) → n < 2 ^ 64 → All IsPrintable (decimal n)
+decimal_printable n small =
+    decimal_by_steps (λ (m : ℕ) (ds : List ℕ). All IsPrintable ds)
+    (λ m lt. All-cons IsPrintable (48 + m) [] (omega arith, omega arith) (All-nil IsPrintable))
+    (λ m ds ge front. All-append IsPrintable ds ((48 + m % 10) ∷ []) front (All-cons IsPrintable (48 + m % 10) [] (omega arith, omega arith) (All-nil IsPrintable)))
+    n small
+
+-- two members
+pub two_members : (a b : Expr) (es0 es1 es2 : List Expr) (x y : Expression) → es0 ≡ [] → es1 ≡ es0 ++ a ∷ [] → es2 ≡ es1 ++ b ∷ [] → view a ≡ x → view b ≡ y → map view es2 ≡ x ∷ y ∷ []
+two_members a b es0 es1 es2 x y empty first second left right =
+    ap (map view) (second ∙ ap (λ es. es ++ b ∷ []) (first ∙ ap (λ es. es ++ a ∷ []) empty)) ∙ ap (λ e. e ∷ view b ∷ []) left ∙ ap (λ e. x ∷ e ∷ []) right
 
 -- ---- members that were added one by one
 

@@ -1,5 +1,5 @@
 -- What each call asks of its caller's scopes: the table of calls (this project's profile, formed after the scopes of the Taskcluster reference's queue service).
-use Rattle.std.specs.Prelude.{ℕ, nat_le, List, [], ◌∷◌, ◌++◌, map, codes}
+use Rattle.std.specs.Prelude.{ℕ, nat_le, List, [], ◌∷◌, ◌++◌, map, codes, decimal}
 use Rattle.std.specs.List.{filter}
 use Rattle.farm_text.specs.Slug.{slug_text}
 use Rattle.scope_sets.specs.Expressions.{Expression, one, all_of, any_of, no_members, members_of}
@@ -10,7 +10,7 @@ use Rattle.task_defs.specs.declared.choices.Priority.TheVariants.{Highest, VeryH
 use Rattle.task_defs.specs.declared.names.TaskQueue.{TaskQueue}
 use Rattle.task_defs.specs.declared.task_def.TaskDef.{TaskDef}
 use Rattle.call_rules.specs.declared.calls.Call.{Call}
-use Rattle.call_rules.specs.declared.calls.Call.TheVariants.{Ping, Status, CreateTask}
+use Rattle.call_rules.specs.declared.calls.Call.TheVariants.{Ping, Status, CreateTask, ClaimWork, ReclaimTask, ResolveRun, ScheduleTask, RerunTask, CancelTask}
 
 -- the place of a priority, from the highest
 abbrev pub rank : Priority → ℕ
@@ -45,8 +45,53 @@ create_policy def =
 abbrev pub status_policy : List ℕ → Expression
 status_policy id = one (codes "queue:status:" ++ slug_text id)
 
+-- what claimWork asks: to claim work of the queue, as this worker
+abbrev pub claim_policy : TaskQueue → List ℕ → List ℕ → Expression
+claim_policy queue group id =
+    all_of (members_of (
+    one (codes "queue:claim-work:" ++ queue_name queue.provisioner_id queue.worker_type)
+    ∷ one (codes "queue:worker-id:" ++ (group ++ 47 ∷ id))
+    ∷ []))
+
+-- a run as scopes name it: its task, a slash and its number
+abbrev pub run_name : List ℕ → ℕ → List ℕ
+run_name id run = slug_text id ++ 47 ∷ decimal run
+
+-- what reclaimTask asks
+abbrev pub reclaim_policy : List ℕ → ℕ → Expression
+reclaim_policy id run = one (codes "queue:reclaim-task:" ++ run_name id run)
+
+-- what each report of a run asks
+abbrev pub resolve_policy : List ℕ → ℕ → Expression
+resolve_policy id run = one (codes "queue:resolve-task:" ++ run_name id run)
+
+-- a task as scopes name it: its scheduler, its group and its id, with slashes between them
+abbrev pub task_name : List ℕ → TaskDef → List ℕ
+task_name id def = def.scheduler_id ++ 47 ∷ (slug_text def.task_group_id ++ 47 ∷ slug_text id)
+
+-- what managing a task asks, given the texts before the task's name and before its project: one of the two
+abbrev pub manage_policy : List ℕ → List ℕ → List ℕ → TaskDef → Expression
+manage_policy task project id def =
+    any_of (members_of (one (task ++ task_name id def) ∷ one (project ++ def.project_id) ∷ []))
+
+-- what scheduleTask, rerunTask and cancelTask ask
+abbrev pub schedule_policy : List ℕ → TaskDef → Expression
+schedule_policy id def = manage_policy (codes "queue:schedule-task:") (codes "queue:schedule-task-in-project:") id def
+
+abbrev pub rerun_policy : List ℕ → TaskDef → Expression
+rerun_policy id def = manage_policy (codes "queue:rerun-task:") (codes "queue:rerun-task-in-project:") id def
+
+abbrev pub cancel_policy : List ℕ → TaskDef → Expression
+cancel_policy id def = manage_policy (codes "queue:cancel-task:") (codes "queue:cancel-task-in-project:") id def
+
 -- the table of calls, a line each
 abbrev pub policy : Call → Expression
 policy Ping = all_of no_members
 policy (Status id) = status_policy id
 policy (CreateTask def) = create_policy def.now
+policy (ClaimWork queue group id) = claim_policy queue.now group.now id.now
+policy (ReclaimTask id run) = reclaim_policy id run
+policy (ResolveRun id run) = resolve_policy id run
+policy (ScheduleTask id def) = schedule_policy id def.now
+policy (RerunTask id def) = rerun_policy id def.now
+policy (CancelTask id def) = cancel_policy id def.now

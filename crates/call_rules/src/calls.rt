@@ -4,11 +4,13 @@ ghost use Rattle.scope_sets.specs.Expressions.{view, all_of, no_members};
 ghost use Rattle.call_rules.specs.Policy.{policy, status_policy};
 
 use crate::create::create_policy;
+use crate::manage::{cancel_scopes, rerun_scopes, schedule_scopes};
 use crate::scopes::scope_of;
+use crate::work::{claim_scopes, reclaim_scope, resolve_scope};
 use farm_text::SlugId;
 use scope_sets::Expr;
 use std::alloc::{AllocError, Global};
-use task_defs::TaskDef;
+use task_defs::{Identifier, TaskDef, TaskQueue};
 
 /// A call, with what its scopes name.
 #[derive(Clone, Copy)]
@@ -19,6 +21,18 @@ pub enum Call<'a> {
     Status(SlugId),
     /// To make a task of this definition.
     CreateTask(&'a TaskDef),
+    /// To take work of this queue, as the worker of this group and id.
+    ClaimWork(&'a TaskQueue, &'a Identifier, &'a Identifier),
+    /// To keep the run of this number of the task with this id for longer.
+    ReclaimTask(SlugId, u8),
+    /// To report how the run of this number of the task with this id ended: reportCompleted, reportFailed and reportException.
+    ResolveRun(SlugId, u8),
+    /// To schedule the task with this id and definition.
+    ScheduleTask(SlugId, &'a TaskDef),
+    /// To run the task with this id and definition again.
+    RerunTask(SlugId, &'a TaskDef),
+    /// To cancel the task with this id and definition.
+    CancelTask(SlugId, &'a TaskDef),
 }
 
 /// What the call asks of its caller's scopes.
@@ -29,6 +43,12 @@ pub fn expression(alloc: Global, call: Call<'_>) -> Result<Expr, AllocError>
         Call::Ping => Ok(ping_scopes(alloc)),
         Call::Status(id) => status_scope(alloc, id),
         Call::CreateTask(def) => create_policy(alloc, def),
+        Call::ClaimWork(queue, group, id) => claim_scopes(alloc, queue, group, id),
+        Call::ReclaimTask(id, run) => reclaim_scope(alloc, id, run),
+        Call::ResolveRun(id, run) => resolve_scope(alloc, id, run),
+        Call::ScheduleTask(id, def) => schedule_scopes(alloc, id, def),
+        Call::RerunTask(id, def) => rerun_scopes(alloc, id, def),
+        Call::CancelTask(id, def) => cancel_scopes(alloc, id, def),
     }
 }
 

@@ -11,8 +11,8 @@ use scope_sets::{Expr, Scope};
 use std::alloc::{AllocError, Global};
 use task_defs::{Priority, Route, TaskDef, TaskQueue};
 
-/// What creating this task asks.
-pub(crate) fn create_policy(alloc: Global, def: &TaskDef) -> Result<Expr, AllocError>
+/// What creating a task of this definition asks.
+pub fn create_policy(alloc: Global, def: &TaskDef) -> Result<Expr, AllocError>
     ensures { IfOk result (λ e. view e ≡ table.create_policy def.now) }
 {
     let mut members = Vec::new(alloc);

@@ -98,7 +98,7 @@ fn goes_before(one: Entry, other: Entry) -> bool
 }
 
 /// The place of a priority, the highest first.
-fn rank(priority: Priority) -> u8
+pub fn rank(priority: Priority) -> u8
     ensures { result ≡ rank priority }
 {
     match priority {

@@ -12,6 +12,7 @@ mod queues;
 mod room;
 
 pub use due_rows::{Deadlines, DueRows, Leases};
+pub use entries::rank;
 pub use laws::{the_best_is_one, the_first_due_is_one};
 pub use pending::Pending;
 

@@ -1,10 +1,38 @@
 -- What notes are told.
-use Rattle.std.proofs.Common.{◌≡◌, ℕ, List, Option, Some, None, inr}
-use Rattle.std.specs.Prelude.{IfSome}
-use Rattle.farm_cli.specs.Notes.{bad_line_text, IsLineOf}
-use Rattle.farm_cli.specs.declared.status.Status.TheVariants.{Input}
+use Rattle.std.proofs.Common.{◌≡◌, ℕ, List, ◌++◌, ◌∷◌, [], All, inl, inr, refl, subst, sym, append_assoc}
+use Rattle.std.specs.Prelude.{codes}
+use Rattle.std.proofs.lemmas.List.Elements.{All-nil, All-cons, All-push, All-weaker}
+use Rattle.scope_sets.specs.Scopes.{IsPrintable}
+use Rattle.plain_text.specs.Plain.{IsPlain}
+use Rattle.farm_cli.specs.Notes.{IsLineOf, IsOneLine}
+use Rattle.farm_cli.specs.Status.{front_of, line_of}
+use Rattle.farm_cli.specs.declared.status.Status.{Status}
+use Rattle.farm_cli.specs.declared.status.Status.TheVariants.{Done, Usage, FarmFile, Input, Opening, Read, Write, NoMemory, Wire}
 
--- the line that tells of a bad line may be told of an input that is refused
-pub IsLineOf-bad_line : (note : Option (List ℕ)) (place : ℕ) → IfSome note (λ line. line ≡ bad_line_text place) → IfSome note (IsLineOf Input)
-IsLineOf-bad_line None place is = tt
-IsLineOf-bad_line (Some line) place is = inr (place, is)
+-- a line of printable words alone is plain
+All-plain-line : (line : List ℕ) → IsOneLine [] line → All IsPlain line
+All-plain-line line one = subst (All IsPlain) (sym one.line_is) (All-push IsPlain one.words 10 (All-weaker IsPrintable IsPlain (λ b is. inl is) one.words one.printable) (inr refl))
+
+-- a line that begins as its status has it may be told
+pub IsLineOf-one : (status : Status) (line : List ℕ) → IsOneLine (front_of status) line → IsLineOf status line
+IsLineOf-one Done line one = inr one
+IsLineOf-one Usage line one = inr (All-plain-line line one)
+IsLineOf-one FarmFile line one = inr one
+IsLineOf-one Input line one = inr one
+IsLineOf-one Opening line one = inr one
+IsLineOf-one Read line one = inr one
+IsLineOf-one Write line one = inr one
+IsLineOf-one NoMemory line one = inr one
+IsLineOf-one Wire line one = inr one
+
+-- the line of a status may be told
+pub IsLineOf-own : (status : Status) → IsLineOf status (line_of status)
+IsLineOf-own Done = inl refl
+IsLineOf-own Usage = inl refl
+IsLineOf-own FarmFile = inl refl
+IsLineOf-own Input = inl refl
+IsLineOf-own Opening = inl refl
+IsLineOf-own Read = inl refl
+IsLineOf-own Write = inl refl
+IsLineOf-own NoMemory = inl refl
+IsLineOf-own Wire = inl refl

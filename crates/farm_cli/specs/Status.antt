@@ -15,14 +15,26 @@ code_of Write = 6
 code_of NoMemory = 7
 code_of Wire = 8
 
--- the line that notes are told where there is no more to say
+-- how the line begins that notes are told of a run which ended so
+abbrev pub front_of : Status → List ℕ
+front_of Done = []
+front_of Usage = []
+front_of FarmFile = codes "the farm file is refused"
+front_of Input = codes "the input is refused"
+front_of Opening = codes "the farm file cannot be opened"
+front_of Read = codes "a read failed"
+front_of Write = codes "a write failed"
+front_of NoMemory = codes "memory ran out"
+front_of Wire = codes "the input is refused"
+
+-- the line where there is no more to say
 abbrev pub line_of : Status → List ℕ
 line_of Done = []
 line_of Usage = codes "the words ask for nothing that this program does\n"
 line_of FarmFile = codes "the farm file is refused\n"
-line_of Input = codes "the input is refused: it is too long, or its scopes give too many\n"
+line_of Input = codes "the input is refused\n"
 line_of Opening = codes "the farm file cannot be opened\n"
 line_of Read = codes "a read failed\n"
 line_of Write = codes "a write failed\n"
 line_of NoMemory = codes "memory ran out\n"
-line_of Wire = codes "the input is no request, or ends inside one\n"
+line_of Wire = codes "the input is refused: it is no request, or ends inside one\n"

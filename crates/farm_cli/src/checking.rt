@@ -17,7 +17,7 @@ pub(crate) fn check<L: Link>(alloc: Global, config: &Config, console: &mut L) ->
         result.status }
 {
     match check_line(alloc, config.counts()) {
-        Ok(line) => Ended::plain(write_text(console, line.as_bytes())),
+        Ok(line) => Ended::on_console(alloc, write_text(console, line.as_bytes())),
         Err(_) => Ended::plain(Status::NoMemory),
     }
 }

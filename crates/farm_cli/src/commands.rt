@@ -3,7 +3,7 @@ ghost use Rattle.std.specs.Prelude.{◌≡◌};
 ghost use Rattle.farm_cli.specs.Checking.{Checks};
 ghost use Rattle.farm_cli.specs.Expanding.{Expands};
 ghost use Rattle.farm_cli.specs.Run.{Obeyed, UsedConsole};
-ghost use Rattle.farm_cli.specs.Serving.{Conversed, status_of as status_from};
+ghost use Rattle.farm_cli.specs.Serving.{Conversed};
 ghost use Rattle.farm_cli.specs.Signing.{Signs};
 ghost use Rattle.farm_cli.specs.Views.{views_of};
 
@@ -12,12 +12,11 @@ use crate::ended::Ended;
 use crate::expanding::expand;
 use crate::house::House;
 use crate::signing::sign;
-use crate::status::Status;
 use command_line::{Signing, Work};
 use farm_core::Bare;
 use farm_desk::Solo;
 use farm_machine::config::Config;
-use farm_server::{NoGate, Served, serve_connection};
+use farm_server::{NoGate, serve_connection};
 use std::alloc::Global;
 
 /// Does work over a farm that is set up so.
@@ -29,16 +28,16 @@ pub(crate) fn obey<H: House>(alloc: Global, work: Work, config: Config, house: &
     ensures refusals { H.refusals house.new ≡ H.refusals house.old }
 {
     match work {
-        Work::Answer => Ended::plain(converse(alloc, config, house)),
+        Work::Answer => converse(alloc, config, house),
         Work::Expand => expand_over(alloc, &config, house),
         Work::Check => check_over(alloc, &config, house),
     }
 }
 
 /// Serves the console over a farm that begins without tasks.
-fn converse<H: House>(alloc: Global, config: Config, house: &mut H) -> Status
+fn converse<H: House>(alloc: Global, config: Config, house: &mut H) -> Ended
     ensures conversed { let views = views_of H.File.Source H.Console.Link H.Notes.Sink H.Time.Clock H.Ids.Draws in
-        Conversed views (H.lends house.old) (H.lends house.new) config result }
+        Conversed views (H.lends house.old) (H.lends house.new) config result.status }
     ensures file { (H.lends house.new).file ≡ (H.lends house.old).file }
     ensures notes { (H.lends house.new).notes ≡ (H.lends house.old).notes }
     ensures refusals { H.refusals house.new ≡ H.refusals house.old }
@@ -59,20 +58,7 @@ fn converse<H: House>(alloc: Global, config: Config, house: &mut H) -> Status
     house.back_clock(clock);
     house.back_draws(draws);
     let _bare = desk.into_object();
-    status_of(served)
-}
-
-/// The status that a connection ends a run with.
-fn status_of(served: Served) -> Status
-    ensures { result ≡ status_from served }
-{
-    match served {
-        Served::Closed | Served::Full => Status::Done,
-        Served::EndedInside | Served::WireFault(_) => Status::Wire,
-        Served::ReadFault => Status::Read,
-        Served::WriteFault => Status::Write,
-        Served::NoMemory => Status::NoMemory,
-    }
+    Ended::after_serving(alloc, served)
 }
 
 /// Expands the console's scopes over the roles of a farm.

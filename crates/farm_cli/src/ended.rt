@@ -1,29 +1,22 @@
 //! How a run ended, and what is told of it.
-ghost use Rattle.std.specs.Prelude.{◌≡◌, ℕ, List, IfSome};
-ghost use Rattle.farm_cli.specs.Notes.{IsLineOf, fault_text, bad_line_text};
+ghost use Rattle.std.specs.Prelude.{◌≡◌, ◌++◌, IfSome, IfOk, codes, string_bytes};
+ghost use Rattle.farm_cli.specs.Notes.{IsLineOf, IsOneLine};
+ghost use Rattle.farm_cli.specs.Serving.{status_of};
 
 use crate::status::Status;
-use farm_files::Fault;
+use farm_server::Served;
 use farm_text::Text;
-use std::alloc::Global;
-use std::marker::Model;
+use http_wire::Wire;
+use plain_text::{escape_line, escape_lines};
+use std::alloc::{AllocError, Global};
+use std::io::ErrorKind;
 
-/// The status of a run, and what more there is to tell of it.
+/// The status of a run, and in words what more there is to tell of it.
 #[derive(Debug, Drop)]
 pub(crate) struct Ended {
     pub status: Status,
-    pub note: Option<Text>,
-}
-
-impl Model for Ended {
-    ghost use Rattle.std.specs.Prelude.{IfSome};
-    ghost use Rattle.farm_cli.specs.Notes.{IsLineOf, Told};
-
-    ghost Value = { Told };
-
-    ghost view = { λ e. record { status = e.status; note = e.note } };
-
-    ghost invariant = { λ e. IfSome e.note (IsLineOf e.status) };
+    /// They go on after the front of the status's line, and may have any bytes. Of refused words of the command line they are all.
+    pub words: Option<Text>,
 }
 
 impl Ended {
@@ -31,27 +24,54 @@ impl Ended {
     pub fn plain(status: Status) -> Ended
         ensures { result.status ≡ status }
     {
-        Ended { status, note: None }
-    }
-
-    /// A farm file is refused by this first fault.
-    pub fn by_fault(alloc: Global, fault: &Fault) -> Ended
-        ensures { result.status ≡ Status.FarmFile }
-    {
         Ended {
-            status: Status::FarmFile,
-            note: note_of_fault(alloc, fault),
+            status,
+            words: None,
         }
     }
 
-    /// An input is refused by this line, counted from 0.
-    pub fn by_line(alloc: Global, line: usize) -> Ended
-        ensures status { result.status ≡ Status.Input }
-        ensures note { IfSome result.note (λ note. note ≡ bad_line_text line) }
+    /// These words more are told, where there is memory for them.
+    pub fn told(alloc: Global, status: Status, words: &str) -> Ended
+        ensures { result.status ≡ status }
     {
         Ended {
-            status: Status::Input,
-            note: note_of_line(alloc, line),
+            status,
+            words: copy_of(alloc, words),
+        }
+    }
+
+    /// The words of the command line are refused, which this text tells the user.
+    pub fn of_usage(text: Text) -> Ended
+        ensures { result.status ≡ Status.Usage }
+    {
+        Ended {
+            status: Status::Usage,
+            words: Some(text),
+        }
+    }
+
+    /// So a run ended that last used the console.
+    pub fn on_console(alloc: Global, status: Status) -> Ended
+        ensures { result.status ≡ status }
+    {
+        match status {
+            Status::Read => Ended::told(alloc, Status::Read, ": standard input"),
+            Status::Write => Ended::told(alloc, Status::Write, ": standard output"),
+            _ => Ended::plain(status),
+        }
+    }
+
+    /// So a connection ended.
+    pub fn after_serving(alloc: Global, served: Served) -> Ended
+        ensures { result.status ≡ status_of served }
+    {
+        match served {
+            Served::Closed | Served::Full => Ended::plain(Status::Done),
+            Served::EndedInside => Ended::told(alloc, Status::Wire, ": it ends inside a request"),
+            Served::WireFault(wire) => Ended::told(alloc, Status::Wire, wire_words(wire)),
+            Served::ReadFault => Ended::on_console(alloc, Status::Read),
+            Served::WriteFault => Ended::on_console(alloc, Status::Write),
+            Served::NoMemory => Ended::plain(Status::NoMemory),
         }
     }
 
@@ -62,36 +82,107 @@ impl Ended {
         self.status
     }
 
-    /// What notes are told.
-    pub fn line(&self) -> &str
+    /// What notes are told, where it is more than the line of the status and there is memory for it. Where the run ended by a refusal of
+    /// the system, the reason that it gave is told, too.
+    pub fn note(&self, alloc: Global, reason: Option<ErrorKind>) -> Option<Text>
+        ensures { IfSome result (IsLineOf self.now.status) }
+    {
+        match &self.words {
+            Some(words) => note_of(alloc, self.status, words.as_str(), reason),
+            None => None,
+        }
+    }
+
+    /// This note, else the line of the status.
+    pub fn line<'a>(&self, note: &'a Option<Text>) -> &'a str
+        requires { IfSome note.now (IsLineOf self.now.status) }
         ensures { IsLineOf self.now.status result.now }
     {
-        match &self.note {
+        match note {
             Some(note) => note.as_str(),
             None => self.status.line(),
         }
     }
 }
 
-/// What is wrong with a farm file, where there is memory to say so.
-fn note_of_fault(alloc: Global, fault: &Fault) -> Option<Text>
-    ensures { IfSome result (λ note. (words : List ℕ) × (note ≡ fault_text words)) }
+/// Why what came is not served.
+fn wire_words(wire: Wire) -> &'static str {
+    match wire {
+        Wire::HeadTooLarge => ": a request's head has more than 16384 bytes",
+        Wire::NoLength => ": a request has a body without a length",
+        Wire::BodyTooLarge => ": a request's body has more than 1048576 bytes",
+        Wire::EndedInside => ": it ends inside a request",
+        Wire::HeadFault | Wire::End | Wire::ReadFault | Wire::NoMemory => {
+            ": what came is no request"
+        }
+    }
+}
+
+/// A copy, where there is memory for it.
+fn copy_of(alloc: Global, words: &str) -> Option<Text> {
+    match String::from_str(alloc, words) {
+        Ok(words) => Some(Text::from_string(words)),
+        Err(AllocError) => None,
+    }
+}
+
+/// What notes are told of a run that ended so, of which there are these words more.
+fn note_of(alloc: Global, status: Status, words: &str, reason: Option<ErrorKind>) -> Option<Text>
+    ensures { IfSome result (IsLineOf status) }
 {
-    let Ok(words) = fault.to_string(alloc) else {
-        return None;
+    match status {
+        Status::Usage => usage_note(alloc, words),
+        Status::Opening | Status::Read | Status::Write => {
+            note_with(alloc, status, words, reason)
+        }
+        _ => line_note(alloc, status, words),
+    }
+}
+
+/// The line of a status with these words more and the reason of the system, where it gives one.
+fn note_with(alloc: Global, status: Status, words: &str, reason: Option<ErrorKind>) -> Option<Text>
+    ensures { IfSome result (IsLineOf status) }
+{
+    let Some(reason) = reason else {
+        return line_note(alloc, status, words);
     };
-    match format!(in alloc; "the farm file is refused: {words}\n") {
-        Ok(note) => Some(Text::from_string(note)),
+    match format!(in alloc; "{words}: {reason}") {
+        Ok(words) => line_note(alloc, status, words.as_str()),
         Err(_) => None,
     }
 }
 
-/// What is wrong with an input, where there is memory to say so.
-fn note_of_line(alloc: Global, line: usize) -> Option<Text>
-    ensures { IfSome result (λ note. note ≡ bad_line_text line) }
+/// The line of a status with these words more.
+fn line_note(alloc: Global, status: Status, words: &str) -> Option<Text>
+    ensures { IfSome result (IsLineOf status) }
 {
-    match format!(in alloc; "the input is refused: line {line}, counted from 0, is no scope\n") {
-        Ok(note) => Some(Text::from_string(note)),
-        Err(_) => None,
+    match line_with(alloc, status.front(), words) {
+        Ok(note) => Some(note),
+        Err(AllocError) => None,
+    }
+}
+
+/// A line of this front and these words.
+fn line_with(alloc: Global, front: &str, words: &str) -> Result<Text, AllocError>
+    ensures { IfOk result (IsOneLine front.now) }
+{
+    let words = escape_line(alloc, words)?;
+    Ok(Text::from_string(line_of_parts(alloc, front, words.as_str())?))
+}
+
+/// Both parts and a line feed.
+fn line_of_parts(alloc: Global, front: &str, words: &str) -> Result<String, AllocError>
+    ensures { IfOk result (λ line. string_bytes line ≡ front.now ++ (words.now ++ codes "\n")) }
+{
+    format!(in alloc; "{front}{words}\n")
+}
+
+/// A text for the user.
+fn usage_note(alloc: Global, text: &str) -> Option<Text>
+    ensures { IfSome result (IsLineOf Status.Usage) }
+{
+    match escape_lines(alloc, text) {
+        Ok(text) => Some(Text::from_string(text)),
+        Err(AllocError) => None,
     }
 }

@@ -7,6 +7,7 @@ use crate::ended::Ended;
 use crate::inputs::LONGEST_INPUT;
 use crate::status::Status;
 use crate::writing::write_text;
+use farm_files::scope_fault;
 use http_wire::{Link, ReadAllFault, read_all};
 use role_expand::{ExpandFault, RoleSet};
 use scope_lines::{LineFault, read_scopes, write_scopes};
@@ -21,11 +22,11 @@ pub(crate) fn expand<L: Link>(alloc: Global, roles: &RoleSet, console: &mut L) -
 {
     match read_all(alloc, console, LONGEST_INPUT) {
         Ok(Some(input)) => match expansion(alloc, roles, input.as_slice()) {
-            Ok(text) => Ended::plain(write_text(console, text.as_slice())),
+            Ok(text) => Ended::on_console(alloc, write_text(console, text.as_slice())),
             Err(ended) => ended,
         },
-        Ok(None) => Ended::plain(Status::Input),
-        Err(ReadAllFault::Failed) => Ended::plain(Status::Read),
+        Ok(None) => Ended::told(alloc, Status::Input, ": it has more than 1048576 bytes"),
+        Err(ReadAllFault::Failed) => Ended::on_console(alloc, Status::Read),
         Err(ReadAllFault::NoMemory) => Ended::plain(Status::NoMemory),
     }
 }
@@ -39,16 +40,48 @@ fn expansion(alloc: Global, roles: &RoleSet, input: &[u8]) -> Result<Vec<u8>, En
 {
     let scopes = match read_scopes(alloc, input) {
         Ok(scopes) => scopes,
-        Err(LineFault::BadLine(line)) => return Err(Ended::by_line(alloc, line)),
+        Err(LineFault::BadLine(line)) => return Err(at_line(alloc, input, line)),
         Err(LineFault::NoMemory) => return Err(Ended::plain(Status::NoMemory)),
     };
     let set = match roles.expand(alloc, scopes.as_slice()) {
         Ok(set) => set,
-        Err(ExpandFault::TooMany) => return Err(Ended::plain(Status::Input)),
+        Err(ExpandFault::TooMany) => {
+            return Err(Ended::told(
+                alloc,
+                Status::Input,
+                ": its scopes give more than 10000 scopes",
+            ));
+        },
         Err(ExpandFault::NoMemory) => return Err(Ended::plain(Status::NoMemory)),
     };
     match write_scopes(alloc, set.list()) {
         Ok(text) => Ok(text),
         Err(_) => Err(Ended::plain(Status::NoMemory)),
+    }
+}
+
+/// An input is refused by the line at this place, counted from 0.
+fn at_line(alloc: Global, input: &[u8], place: usize) -> Ended
+    ensures { result.status ≡ Status.Input }
+{
+    let number = place.saturating_add(1);
+    let why = line_fault(input, place);
+    match format!(in alloc; ": line {number}: {why}") {
+        Ok(words) => Ended::told(alloc, Status::Input, words.as_str()),
+        Err(_) => Ended::plain(Status::Input),
+    }
+}
+
+/// What keeps the line at a place from being a scope.
+fn line_fault(input: &[u8], place: usize) -> &'static str {
+    let Some(line) = input.split(|byte| *byte == b'\n').nth(place) else {
+        return "it is no scope";
+    };
+    if line.ends_with(b"\r".as_slice()) {
+        return "it ends with a carriage return, and a scope is printable ASCII";
+    }
+    match scope_fault(line) {
+        Some(why) => why,
+        None => "it is no scope",
     }
 }

@@ -10,7 +10,7 @@ use farm_text::{HostClock, HostDraws};
 use http_wire::{HostSink, HostSource, Joined};
 use std::fs;
 use std::fs::File;
-use std::io::{Stderr, Stdin, Stdout};
+use std::io::{ErrorKind, Stderr, Stdin, Stdout};
 
 /// The house of the system, which does not tell what passes through the objects that it lends.
 #[derive(Drop)]
@@ -18,6 +18,7 @@ pub struct HostHouse {
     rt: HostRuntime,
     draws: HostDraws,
     refusals: FaultCount,
+    reason: Option<ErrorKind>,
 }
 
 impl HostHouse {
@@ -34,7 +35,19 @@ impl HostHouse {
             rt,
             draws,
             refusals: FaultCount::new(),
+            reason: None,
         })
+    }
+}
+
+impl HostHouse {
+    /// Keeps a reason, if there is one.
+    fn note(&mut self, reason: Option<ErrorKind>)
+        ensures { self.new.refusals ≡ self.old.refusals }
+    {
+        if let Some(reason) = reason {
+            self.reason = Some(reason);
+        }
     }
 }
 
@@ -53,17 +66,24 @@ impl House for HostHouse {
 
     ghost refusals = { λ h. h.refusals };
 
+    fn reason(&self) -> Option<ErrorKind> {
+        self.reason
+    }
+
     fn farm_file(&mut self, name: &str) -> Result<HostSource<File>, Failed> {
         match fs::open(&self.rt, name) {
             Ok(file) => Ok(HostSource::new(file)),
-            Err(_) => {
+            Err(error) => {
                 self.refusals.raise();
+                self.reason = Some(error.kind());
                 Err(Failed)
             }
         }
     }
 
-    fn back_farm_file(&mut self, _file: HostSource<File>) {}
+    fn back_farm_file(&mut self, file: HostSource<File>) {
+        self.note(file.why());
+    }
 
     fn console(&mut self) -> Joined<HostSource<Stdin>, HostSink<Stdout>> {
         Joined {
@@ -72,7 +92,10 @@ impl House for HostHouse {
         }
     }
 
-    fn back_console(&mut self, _console: Joined<HostSource<Stdin>, HostSink<Stdout>>) {}
+    fn back_console(&mut self, console: Joined<HostSource<Stdin>, HostSink<Stdout>>) {
+        self.note(console.source.why());
+        self.note(console.sink.why());
+    }
 
     fn notes(&mut self) -> HostSink<Stderr> {
         HostSink::new(self.rt.stderr())
@@ -103,7 +126,13 @@ mod tests {
     #[test]
     fn the_system_lends_files_and_draws(rt: HostRuntime) -> Result<(), Fail> {
         let mut house = HostHouse::new(rt, &mut FaultCount::new())?;
+        assert_eq!(rt; house.reason(), None);
         assert!(rt; house.farm_file("no/such/farm.toml").is_err());
+        assert_eq!(rt; house.reason(), Some(ErrorKind::NotFound));
+        let mut folder = house.farm_file("/")?;
+        assert!(rt; folder.read(&mut [0u8; 1]).is_err());
+        house.back_farm_file(folder);
+        assert_eq!(rt; house.reason(), Some(ErrorKind::IsADirectory));
         let mut file = house.farm_file("/dev/null")?;
         assert_eq!(rt; file.read(&mut [0u8; 1])?, 0);
         house.back_farm_file(file);

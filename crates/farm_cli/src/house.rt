@@ -5,6 +5,7 @@ ghost use Rattle.farm_cli.specs.House.{Lendings, CanGive, after_giving, after_re
 use causes::Failed;
 use farm_text::{Clock, Draws};
 use http_wire::{Link, Sink, Source};
+use std::io::ErrorKind;
 
 /// What a run works on. A house lends each of its objects once, and takes it back.
 pub trait House {
@@ -26,6 +27,9 @@ pub trait House {
 
     /// How many openings were refused.
     ghost refusals: { Self → ℕ };
+
+    /// Why the system refused what it refused last, an opening or a read or write of what came back, where that is told.
+    fn reason(&self) -> Option<ErrorKind>;
 
     /// Opens the farm file of this name. A refusal is counted, and changes nothing that the house lends.
     fn farm_file(&mut self, name: &str) -> Result<Self::File, Failed>

@@ -12,6 +12,8 @@ mod inputs;
 mod laws;
 mod lending;
 mod memory_house;
+#[cfg(test)]
+mod note_tests;
 mod run;
 mod signing;
 mod status;
@@ -20,6 +22,7 @@ mod tests;
 mod writing;
 
 use causes::{Failed, FaultCount};
+use ended::Ended;
 use host_house::HostHouse;
 use status::Status;
 use std::process::ExitCode;
@@ -28,24 +31,31 @@ use std::{env, io};
 fn main(rt: HostRuntime) -> ExitCode {
     let status = match begin(rt) {
         Ok((words, mut house)) => run::run(rt.alloc(), words.as_slice(), &mut house),
-        Err(status) => {
-            let _ = eprint!(rt; "{}", status.line());
-            status
+        Err(ended) => {
+            let note = ended.note(rt.alloc(), None);
+            let _ = eprint!(rt; "{}", ended.line(&note));
+            ended.status()
         }
     };
     ExitCode::from(status.code())
 }
 
 /// The words of the command line, without the program's name, and the house of the system.
-fn begin(rt: HostRuntime) -> Result<(Vec<String>, HostHouse), Status> {
+fn begin(rt: HostRuntime) -> Result<(Vec<String>, HostHouse), Ended> {
+    let alloc = rt.alloc();
     let words = match words_given(&rt) {
         Ok(words) => words,
-        Err(error) if error.kind() == io::ErrorKind::OutOfMemory => return Err(Status::NoMemory),
-        Err(_) => return Err(Status::Usage),
+        Err(error) if error.kind() == io::ErrorKind::OutOfMemory => {
+            return Err(Ended::plain(Status::NoMemory));
+        }
+        Err(_) => {
+            let told = "a word of the command line is not UTF-8\n";
+            return Err(Ended::told(alloc, Status::Usage, told));
+        }
     };
     match HostHouse::new(rt, &mut FaultCount::new()) {
         Ok(house) => Ok((words, house)),
-        Err(Failed) => Err(Status::Read),
+        Err(Failed) => Err(Ended::told(alloc, Status::Read, ": the system's random numbers")),
     }
 }
 

@@ -11,6 +11,7 @@ use causes::{Failed, FaultCount};
 use farm_text::{ListClock, ListDraws};
 use http_wire::{Joined, MemoryLink, MemorySink, MemorySource};
 use std::alloc::Global;
+use std::io::ErrorKind;
 
 /// A house in memory. It has one farm file, and refuses to open a file of another name.
 ///
@@ -95,6 +96,14 @@ impl House for MemoryHouse {
     ghost lends = { λ h. record { file = files_of (string_bytes h.farm_name) h.farm_file; console = h.console; notes = h.notes; clock = h.clock; draws = h.draws } };
 
     ghost refusals = { λ h. h.refusals };
+
+    fn reason(&self) -> Option<ErrorKind> {
+        if self.refusals.get() > 0 {
+            Some(ErrorKind::NotFound)
+        } else {
+            None
+        }
+    }
 
     fn farm_file(&mut self, name: &str) -> Result<MemorySource, Failed> {
         if self.farm_name.as_str() == name

@@ -13,7 +13,7 @@ ghost use Rattle.farm_cli.specs.Views.{views_of};
 
 use crate::commands::{obey, sign_over};
 use crate::ended::Ended;
-use crate::farm_file::read_config;
+use crate::farm_file::{read_config, unopened};
 use crate::house::House;
 use crate::status::Status;
 use crate::writing::write_line;
@@ -38,7 +38,7 @@ pub fn run<H: House>(alloc: Global, words: &[String], house: &mut H) -> Status
     ensures later { H.refusals house.old ≤ H.refusals house.new }
 {
     let ended = perform(alloc, words, house);
-    tell(&ended, house);
+    tell(alloc, &ended, house);
     ended.status()
 }
 
@@ -52,10 +52,7 @@ fn perform<H: House>(alloc: Global, words: &[String], house: &mut H) -> Ended
 {
     match read_words(alloc, words) {
         Ok(command) => run_command(alloc, &command, house),
-        Err(WordsFault::Usage(text)) => Ended {
-            status: Status::Usage,
-            note: Some(text),
-        },
+        Err(WordsFault::Usage(text)) => Ended::of_usage(text),
         Err(WordsFault::NoMemory) => Ended::plain(Status::NoMemory),
     }
 }
@@ -81,13 +78,19 @@ fn run_over_farm<H: House>(alloc: Global, farm: &str, work: Work, house: &mut H)
     ensures later { H.refusals house.old ≤ H.refusals house.new }
 {
     match house.farm_file(farm) {
-        Ok(file) => run_over_file(alloc, work, file, house),
-        Err(Failed) => Ended::plain(Status::Opening),
+        Ok(file) => run_over_file(alloc, farm, work, file, house),
+        Err(Failed) => unopened(alloc, farm),
     }
 }
 
-/// Does work over a farm file, which is given back before the work begins.
-fn run_over_file<H: House>(alloc: Global, work: Work, file: H::File, house: &mut H) -> Ended
+/// Does work over the farm file of this name, which is given back before the work begins.
+fn run_over_file<H: House>(
+    alloc: Global,
+    farm: &str,
+    work: Work,
+    file: H::File,
+    house: &mut H,
+) -> Ended
     ensures ran { let views = views_of H.File.Source H.Console.Link H.Notes.Sink H.Time.Clock H.Ids.Draws in
         (closed : H.File) × ((H.lends house.new).file ≡ after_closing (H.lends house.old).file closed)
         × LosesWithin (LONGEST_FILE + piece_size) (H.File.left file) (H.File.left closed)
@@ -95,7 +98,7 @@ fn run_over_file<H: House>(alloc: Global, work: Work, file: H::File, house: &mut
     ensures notes { (H.lends house.new).notes ≡ (H.lends house.old).notes }
     ensures refusals { H.refusals house.new ≡ H.refusals house.old }
 {
-    let (file, config) = read_config(alloc, file);
+    let (file, config) = read_config(alloc, farm, file);
     house.back_farm_file(file);
     match config {
         Ok(config) => obey(alloc, work, config, house),
@@ -104,14 +107,15 @@ fn run_over_file<H: House>(alloc: Global, work: Work, file: H::File, house: &mut
 }
 
 /// Tells notes how a run ended, unless it is done. A fault of theirs changes nothing.
-fn tell<H: House>(ended: &Ended, house: &mut H)
+fn tell<H: House>(alloc: Global, ended: &Ended, house: &mut H)
     ensures told { TellsStatus H.Notes.written H.Notes.faults (H.lends house.old).notes (H.lends house.new).notes ended.now.status }
     ensures others { (H.lends house.new) ≡ record (H.lends house.old) { notes = (H.lends house.new).notes } }
     ensures refusals { H.refusals house.new ≡ H.refusals house.old }
 {
     if ended.status() != Status::Done {
+        let note = ended.note(alloc, house.reason());
         let notes = house.notes();
-        let notes = write_line(notes, ended.line());
+        let notes = write_line(notes, ended.line(&note));
         house.back_notes(notes);
     }
 }

@@ -33,7 +33,7 @@ fn sign_head<L: Link>(alloc: Global, signing: &Signing, console: &mut L) -> Ende
     ensures tells { Tells (signed_line signing.now None) (state_of L.Link console.old) (state_of L.Link console.new) result.status }
 {
     match line_of(alloc, signing, None) {
-        Ok(line) => Ended::plain(write_text(console, line.as_bytes())),
+        Ok(line) => Ended::on_console(alloc, write_text(console, line.as_bytes())),
         Err(AllocError) => Ended::plain(Status::NoMemory),
     }
 }
@@ -49,11 +49,15 @@ fn sign_body<L: Link>(
 {
     match read_all(alloc, console, LONGEST_INPUT) {
         Ok(Some(body)) => match line_over(alloc, signing, content_type, body.as_slice()) {
-            Ok(line) => Ended::plain(write_text(console, line.as_bytes())),
+            Ok(line) => Ended::on_console(alloc, write_text(console, line.as_bytes())),
             Err(AllocError) => Ended::plain(Status::NoMemory),
         },
-        Ok(None) => Ended::plain(Status::Input),
-        Err(ReadAllFault::Failed) => Ended::plain(Status::Read),
+        Ok(None) => Ended::told(
+            alloc,
+            Status::Input,
+            ": the body has more than 1048576 bytes",
+        ),
+        Err(ReadAllFault::Failed) => Ended::on_console(alloc, Status::Read),
         Err(ReadAllFault::NoMemory) => Ended::plain(Status::NoMemory),
     }
 }

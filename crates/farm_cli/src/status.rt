@@ -24,7 +24,7 @@ pub enum Status {
 }
 
 impl Status {
-    ghost use Rattle.farm_cli.specs.Status.{code_of, line_of};
+    ghost use Rattle.farm_cli.specs.Status.{code_of, front_of, line_of};
 
     /// The status by which the program ends.
     pub fn code(self) -> u8
@@ -42,6 +42,21 @@ impl Status {
         }
     }
 
+    /// How the line begins that notes are told, where there is more to say.
+    pub fn front(self) -> &'static str
+        ensures { result.now ≡ front_of self }
+    {
+        match self {
+            Status::Done | Status::Usage => "",
+            Status::FarmFile => "the farm file is refused",
+            Status::Input | Status::Wire => "the input is refused",
+            Status::Opening => "the farm file cannot be opened",
+            Status::Read => "a read failed",
+            Status::Write => "a write failed",
+            Status::NoMemory => "memory ran out",
+        }
+    }
+
     /// The line that notes are told where there is no more to say; of a run that is done there is none.
     pub fn line(self) -> &'static str
         ensures { result.now ≡ line_of self }
@@ -50,12 +65,12 @@ impl Status {
             Status::Done => "",
             Status::Usage => "the words ask for nothing that this program does\n",
             Status::FarmFile => "the farm file is refused\n",
-            Status::Input => "the input is refused: it is too long, or its scopes give too many\n",
+            Status::Input => "the input is refused\n",
             Status::Opening => "the farm file cannot be opened\n",
             Status::Read => "a read failed\n",
             Status::Write => "a write failed\n",
             Status::NoMemory => "memory ran out\n",
-            Status::Wire => "the input is no request, or ends inside one\n",
+            Status::Wire => "the input is refused: it is no request, or ends inside one\n",
         }
     }
 }

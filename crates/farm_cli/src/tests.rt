@@ -10,18 +10,18 @@ use std::test::Fail;
 
 /// A command line, what a house has for it, and which reads and writes fail, by their numbers from 0 on.
 #[derive(Clone, Copy)]
-struct Case<'a> {
-    words: &'a [&'a str],
-    farm: &'a [u8],
-    failing_farm_reads: &'a [u64],
-    input: &'a [u8],
-    failing_reads: &'a [u64],
-    failing_writes: &'a [u64],
+pub(crate) struct Case<'a> {
+    pub(crate) words: &'a [&'a str],
+    pub(crate) farm: &'a [u8],
+    pub(crate) failing_farm_reads: &'a [u64],
+    pub(crate) input: &'a [u8],
+    pub(crate) failing_reads: &'a [u64],
+    pub(crate) failing_writes: &'a [u64],
 }
 
 impl<'a> Case<'a> {
     /// The words `answer farm.toml` over an empty farm file and this input. Nothing fails.
-    fn over(input: &'a [u8]) -> Case<'a> {
+    pub(crate) fn over(input: &'a [u8]) -> Case<'a> {
         Case {
             words: &["answer", "farm.toml"],
             farm: &[],
@@ -35,10 +35,10 @@ impl<'a> Case<'a> {
 
 /// How a run ended, and what it wrote to the console and to the notes.
 #[derive(Drop)]
-struct Outcome {
-    status: Status,
-    output: Vec<u8>,
-    notes: Vec<u8>,
+pub(crate) struct Outcome {
+    pub(crate) status: Status,
+    pub(crate) output: Vec<u8>,
+    pub(crate) notes: Vec<u8>,
 }
 
 /// A house with a farm file `farm.toml`, and room for some replies and a note.
@@ -64,7 +64,7 @@ fn house_of(alloc: Global, case: &Case) -> Result<MemoryHouse, AllocError> {
 }
 
 /// Runs a case.
-fn outcome_of(alloc: Global, case: &Case) -> Result<Outcome, AllocError> {
+pub(crate) fn outcome_of(alloc: Global, case: &Case) -> Result<Outcome, AllocError> {
     let mut house = house_of(alloc, case)?;
     let mut words = Vec::new(alloc);
     for word in case.words {
@@ -86,7 +86,7 @@ fn outcome_of(alloc: Global, case: &Case) -> Result<Outcome, AllocError> {
     })
 }
 
-const PING: &[u8] = b"GET /api/queue/v1/ping HTTP/1.1\r\n\r\n";
+pub(crate) const PING: &[u8] = b"GET /api/queue/v1/ping HTTP/1.1\r\n\r\n";
 
 #[test]
 fn requests_are_answered(rt: HostRuntime) -> Result<(), Fail> {
@@ -110,7 +110,7 @@ fn input_that_is_no_request_ends_with_8(rt: HostRuntime) -> Result<(), Fail> {
     let cut = outcome_of(rt.alloc(), &Case::over(b"GET /api/queue/v1/ping HT"))?;
     assert_eq!(rt; cut.status.code(), 8);
     assert_eq!(rt; cut.output.len(), 0);
-    let note: &[u8] = b"the input is no request, or ends inside one\n";
+    let note: &[u8] = b"the input is refused: it ends inside a request\n";
     assert_eq!(rt; cut.notes.as_slice(), note);
 
     let head = vec![in rt.alloc(); b'a'; 16_385]?;
@@ -130,7 +130,7 @@ const THREE_ROLES: &[u8] =
     b"role = [{ id = 'a', scopes = ['one'] }, { id = 'ab', scopes = ['two'] }, { id = 'a*', scopes = ['three:<..>'] }]\n";
 
 /// A farm file whose one role lies on a cycle of parameters.
-const CYCLE: &[u8] = b"role = [{ id = 'a*', scopes = ['assume:aa<..>'] }]\n";
+pub(crate) const CYCLE: &[u8] = b"role = [{ id = 'a*', scopes = ['assume:aa<..>'] }]\n";
 
 #[test]
 fn scopes_are_expanded(rt: HostRuntime) -> Result<(), Fail> {
@@ -156,7 +156,12 @@ fn scopes_are_expanded(rt: HostRuntime) -> Result<(), Fail> {
 }
 
 /// So many scopes, each a number between these texts.
-fn numbered(alloc: Global, count: usize, before: &str, after: &str) -> Result<String, AllocError> {
+pub(crate) fn numbered(
+    alloc: Global,
+    count: usize,
+    before: &str,
+    after: &str,
+) -> Result<String, AllocError> {
     let mut text = String::new(alloc);
     for number in 0..count {
         text.push_str(&format!(in alloc; "{before}{number}{after}")?)?;
@@ -226,7 +231,7 @@ const SIGN: [&str; 17] = [
 ];
 
 /// What `sign` makes of this method, these words more and this input.
-fn signed(
+pub(crate) fn signed(
     alloc: Global,
     method: &'static str,
     more: &[&str],

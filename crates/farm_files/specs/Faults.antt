@@ -8,7 +8,7 @@ use Rattle.farm_files.specs.declared.fault.Fault.{Fault}
 use Rattle.farm_files.specs.declared.fault.RowFault.{RowFault}
 use Rattle.farm_files.specs.declared.fault.RowFault.TheVariants as rows
 
--- the number under which a rule is told
+-- the number of a rule, as docs/DEPARTURES.md lists them
 abbrev pub rule_number : Rule → ℕ
 rule_number NotToml = 1
 rule_number UnknownKey = 2

@@ -3,7 +3,6 @@ ghost use Rattle.std.specs.Prelude.{◌≡◌};
 ghost use Rattle.farm_files.specs.Faults.{rule_number, fault_at};
 
 use std::alloc::AllocError;
-use std::fmt;
 
 /// The tables of a farm file.
 #[derive(Clone, Copy, Debug, PartialEq, Eq)]
@@ -40,7 +39,7 @@ pub enum Rule {
 }
 
 impl Rule {
-    /// The number under which a rule is told: 1 to 7, and 9 for a file that is too long.
+    /// The number of a rule: 1 to 7, and 9 for a file that is too long.
     pub fn number(self) -> u8
         ensures { result ≡ rule_number self }
     {
@@ -55,20 +54,6 @@ impl Rule {
             Rule::TooLong => 9,
         }
     }
-
-    /// What is wrong where the rule is broken, in words.
-    fn words(self) -> &'static str {
-        match self {
-            Rule::NotToml => "not TOML",
-            Rule::UnknownKey => "a key is not known",
-            Rule::MissingKey => "a key is missing",
-            Rule::WrongKind => "a value is of another kind",
-            Rule::OutOfForm => "out of form or range",
-            Rule::RepeatedId => "the id stands in an earlier row",
-            Rule::ParameterCycle => "its parameters go in a cycle",
-            Rule::TooLong => "too long",
-        }
-    }
 }
 
 /// A rule that is broken, and where: the table, and the row of it, from 0.
@@ -77,19 +62,6 @@ pub struct Fault {
     pub table: Table,
     pub row: u32,
     pub rule: Rule,
-}
-
-/// One line for whoever wrote the file, as `role 3: the id stands in an earlier row (rule 6)`.
-impl fmt::Display for Fault {
-    fn fmt<W: fmt::Write>(&self, f: &mut fmt::Formatter<W>) -> fmt::Result {
-        match self.table {
-            Table::File => f.write_str("the file")?,
-            Table::Farm => f.write_str("farm")?,
-            Table::Role => write!(f, "role {}", self.row)?,
-            Table::Client => write!(f, "client {}", self.row)?,
-        }
-        write!(f, ": {} (rule {})", self.rule.words(), self.rule.number())
-    }
 }
 
 /// Why a farm file was not read.

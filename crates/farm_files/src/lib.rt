@@ -27,18 +27,25 @@
 mod clients;
 mod earlier;
 mod fault;
+mod faulty;
+mod fields;
+mod forms;
 pub mod laws;
 mod reading;
 mod roles;
 mod rows;
 mod scopes;
 mod settings;
+mod telling;
 mod values;
+mod words;
 
 pub use fault::{Fault, FileFault, Rule, Table};
-pub use reading::{LONGEST_FILE, read_farm};
+pub use forms::scope_fault;
+pub use reading::{LONGEST_FILE, read_farm, read_farm_with};
 pub use rows::MOST_ROWS;
 pub use settings::LONGEST_HOST;
+pub use telling::tell_fault;
 
 #[cfg(test)]
 mod tests;

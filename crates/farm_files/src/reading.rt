@@ -25,11 +25,22 @@ pub const LONGEST_FILE: usize = 4_194_304;
 pub fn read_farm(alloc: Global, bytes: &[u8]) -> Result<Config, FileFault>
     ensures { MatchResult result (Says LONGEST_FILE bytes.now) (Refuses LONGEST_FILE bytes.now) }
 {
+    read_farm_with(alloc, bytes, &mut Vec::new(alloc))
+}
+
+/// The same. Where the fault is a cycle of roles' parameters, the places of its roles are put into `cycle`, for `tell_fault`.
+pub fn read_farm_with(
+    alloc: Global,
+    bytes: &[u8],
+    cycle: &mut Vec<usize>,
+) -> Result<Config, FileFault>
+    ensures { MatchResult result (Says LONGEST_FILE bytes.now) (Refuses LONGEST_FILE bytes.now) }
+{
     if bytes.len() > LONGEST_FILE {
         return Err(FileFault::at(Table::File, 0, Rule::TooLong));
     }
     match toml::table_from_slice(alloc, bytes) {
-        Ok(top) => read_tables(alloc, &top),
+        Ok(top) => read_tables(alloc, &top, cycle),
         Err(error) => {
             if error.is_memory() {
                 return Err(FileFault::NoMemory);
@@ -39,7 +50,11 @@ pub fn read_farm(alloc: Global, bytes: &[u8]) -> Result<Config, FileFault>
     }
 }
 
-fn read_tables(alloc: Global, top: &toml::Table) -> Result<Config, FileFault>
+fn read_tables(
+    alloc: Global,
+    top: &toml::Table,
+    cycle: &mut Vec<usize>,
+) -> Result<Config, FileFault>
     ensures { MatchResult result (SaysTables (table_view top.now)) (RefusesTables (table_view top.now)) }
 {
     if !has_only(top, ["farm", "role", "client"].as_slice()) {
@@ -51,7 +66,7 @@ fn read_tables(alloc: Global, top: &toml::Table) -> Result<Config, FileFault>
         Err(RowFault::NoMemory) => return Err(FileFault::NoMemory),
     };
     let roles = read_roles(alloc, top)?;
-    let roles = role_set(alloc, roles)?;
+    let roles = role_set(alloc, roles, cycle)?;
     let clients = read_clients(alloc, top)?;
     let Settings {
         host,

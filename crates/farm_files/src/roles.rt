@@ -140,8 +140,13 @@ pub(crate) fn read_roles(alloc: Global, top: &toml::Table) -> Result<Vec<Role>, 
     }
 }
 
-/// The set of these roles, of which each is of its form and no two have one id.
-pub(crate) fn role_set(alloc: Global, roles: Vec<Role>) -> Result<RoleSet, FileFault>
+/// The set of these roles, of which each is of its form and no two have one id. Where it is refused for a cycle, the places of the
+/// cycle's roles are put into `cycle`.
+pub(crate) fn role_set(
+    alloc: Global,
+    roles: Vec<Role>,
+    cycle: &mut Vec<usize>,
+) -> Result<RoleSet, FileFault>
     requires forms { (place : ℕ) → ¬ IsFirstBadRole LONGEST_SCOPE (roles_data roles.items) place }
     requires apart { (earlier later : ℕ) → ¬ IsFirstRepeat (roles_data roles.items) earlier later }
     requires few { vec_len roles ≤ MOST_ROWS }
@@ -151,11 +156,11 @@ pub(crate) fn role_set(alloc: Global, roles: Vec<Role>) -> Result<RoleSet, FileF
 {
     match RoleSet::build(alloc, roles) {
         Ok(set) => Ok(set),
-        Err(BuildFault::ParameterCycle(places)) => Err(FileFault::at(
-            Table::Role,
-            places[0] as u32,
-            Rule::ParameterCycle,
-        )),
+        Err(BuildFault::ParameterCycle(places)) => {
+            let row = places[0] as u32;
+            *cycle = places;
+            Err(FileFault::at(Table::Role, row, Rule::ParameterCycle))
+        },
         Err(BuildFault::NoMemory) => Err(FileFault::NoMemory),
         Err(BuildFault::BadRole(_)) => unreachable!(),
         Err(BuildFault::DuplicateRole(_, _)) => unreachable!(),

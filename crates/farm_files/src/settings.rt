@@ -69,7 +69,8 @@ fn read_table(alloc: Global, farm: &Table) -> Result<Settings, RowFault>
     })
 }
 
-fn has_host_form(host: &str) -> bool
+/// Whether a host is 1 to `LONGEST_HOST` bytes of printable ASCII.
+pub(crate) fn has_host_form(host: &str) -> bool
     ensures { IsTrue result ↔ HasHostForm LONGEST_HOST host.now }
 {
     !host.is_empty() && host.len() <= LONGEST_HOST && is_printable(host.as_bytes())

@@ -189,34 +189,183 @@ fn a_file_too_long(rt: HostRuntime) -> Result<(), Fail> {
     Ok(())
 }
 
+/// What is told of the first fault of a file.
+fn told(alloc: Global, text: &[u8]) -> Result<String, AllocError> {
+    let mut cycle = Vec::new(alloc);
+    match read_farm_with(alloc, text, &mut cycle) {
+        Err(FileFault::Fault(fault)) => tell_fault(alloc, text, &fault, &cycle),
+        _ => String::from_str(alloc, "no fault"),
+    }
+}
+
 #[test]
 fn faults_are_told_in_a_line(rt: HostRuntime) -> Result<(), Fail> {
-    let alloc = rt.alloc();
-    for (table, row, rule, line) in [
-        (Table::File, 0, Rule::NotToml, "the file: not TOML (rule 1)"),
+    let rows: [(&[u8], &str); 16] = [
         (
-            Table::Farm,
-            0,
-            Rule::UnknownKey,
-            "farm: a key is not known (rule 2)",
+            b"[hook]\n",
+            "hook: not known: there are [farm], [[role]] and [[client]]",
+        ),
+        (b"farm = 1\n", "farm = 1: it is a table, [farm]"),
+        (
+            b"[farm]\nprot = 1\n",
+            "[farm] prot = 1: not known: the keys are host, port, claim_timeout and max_tasks",
         ),
         (
-            Table::Role,
-            3,
-            Rule::RepeatedId,
-            "role 3: the id stands in an earlier row (rule 6)",
+            b"[farm]\nport = '80'\n",
+            "[farm] port = \"80\": it has to be a whole number",
         ),
         (
-            Table::Client,
-            12,
-            Rule::OutOfForm,
-            "client 12: out of form or range (rule 5)",
+            b"[farm]\nport = 70000\n",
+            "[farm] port = 70000: a port is 1 to 65535",
         ),
-        (Table::File, 0, Rule::TooLong, "the file: too long (rule 9)"),
-    ] {
-        let fault = Fault { table, row, rule };
-        assert_eq!(rt; format!(in alloc; "{fault}")?.as_str(), line);
+        (
+            b"[farm]\nhost = ''\n",
+            "[farm] host = \"\": a host is 1 to 255 bytes of printable ASCII",
+        ),
+        (
+            b"[farm]\nclaim_timeout = 0\n",
+            "[farm] claim_timeout = 0: a claim lasts 1 to 86400 seconds",
+        ),
+        (
+            b"[farm]\nmax_tasks = -1\n",
+            "[farm] max_tasks = -1: a farm takes 1 to 1000000 tasks",
+        ),
+        (
+            b"[role]\n",
+            "role = a table: it is a list of tables, as [[role]] and [[client]] are",
+        ),
+        (b"role = [1]\n", "[[role]] row 1 = 1: a row is a table"),
+        (
+            b"[[role]]\nid = 'a'\nscopes = []\n[[role]]\nid = 'b'\nscope = []\n",
+            "[[role]] row 2 (id \"b\") scope = a list of 0: not known: the keys are id and scopes",
+        ),
+        (
+            b"[[role]]\nid = 'a'\n",
+            "[[role]] row 1 (id \"a\") scopes: it is missing",
+        ),
+        (
+            b"[[role]]\nid = 'a'\nscopes = ['b', 1]\n",
+            "[[role]] row 1 (id \"a\") scopes, item 2 = 1: it has to be a text",
+        ),
+        (
+            b"[[role]]\nid = 'a'\nscopes = 'b'\n",
+            "[[role]] row 1 (id \"a\") scopes = \"b\": it has to be a list of texts",
+        ),
+        (
+            b"[[role]]\nid = 'a'\nscopes = ['b', 'b**']\n",
+            "[[role]] row 1 (id \"a\") scopes, item 2 = \"b**\": a scope does not end with **",
+        ),
+        (
+            b"[[role]]\nid = \"\\u001b[31m\"\nscopes = []\n",
+            "[[role]] row 1 (id \"\\u{1b}[31m\") id = \"\\u{1b}[31m\": an id is 1 to 4096 bytes of printable ASCII",
+        ),
+    ];
+    for (text, line) in rows {
+        assert_eq!(rt; told(rt.alloc(), text)?.as_str(), line);
     }
+    Ok(())
+}
+
+#[test]
+fn the_line_is_told_that_is_not_toml(rt: HostRuntime) -> Result<(), Fail> {
+    let rows: [(&[u8], &str); 6] = [
+        (b"farm", "line 1: not TOML: "),
+        (b"[farm]\nport = 1\nport = 2\n", "line 3: not TOML: "),
+        (b"[farm]\n[role]\n[farm]\n", "line 3: not TOML: "),
+        (b"[farm]\nhost = 'a\nport = 1\n", "line 2: not TOML: "),
+        (b"[farm]\nport = 8080\nhost == 1\n", "line 3: not TOML: "),
+        (b"[farm]\n# \xff\n", "line 2: not TOML: "),
+    ];
+    for (text, front) in rows {
+        let line = told(rt.alloc(), text)?;
+        assert!(rt; line.as_str().starts_with(front));
+    }
+    Ok(())
+}
+
+#[test]
+fn faults_of_rows_are_told_in_a_line(rt: HostRuntime) -> Result<(), Fail> {
+    let rows: [(&[u8], &str); 11] = [
+        (
+            b"role = [{ id = 'a', scopes = [] }, { id = 'b', scopes = [] }, { id = 'a', scopes = [] }]\n",
+            "[[role]] row 3 (id \"a\"): row 1 has this id, too",
+        ),
+        (
+            b"role = [{ id = 'c', scopes = [] }, { id = 'a*', scopes = ['assume:bx<..>'] }, { id = 'b*', scopes = ['assume:ax<..>'] }]\n",
+            "[[role]] row 2 (id \"a*\"): the parameters of roles go in a cycle: \"a*\" -> \"b*\" -> \"a*\"",
+        ),
+        (
+            b"role = [{ id = 'a*', scopes = ['x<..>y<..>'] }]\n",
+            "[[role]] row 1 (id \"a*\") scopes, item 1 = \"x<..>y<..>\": <..> stands in a scope at most once",
+        ),
+        (
+            b"role = [{ id = 'a*', scopes = ['x*<..>'] }]\n",
+            "[[role]] row 1 (id \"a*\") scopes, item 1 = \"x*<..>\": <..> does not stand behind a *",
+        ),
+        (
+            b"client = [{ id = 'a b', token = 't', scopes = [], expires = '2030-01-01T00:00:00Z' }]\n",
+            "[[client]] row 1 (id \"a b\") id = \"a b\": an id is 1 to 128 of [A-Za-z0-9!@/:.+|_-]",
+        ),
+        (
+            b"client = [{ id = 'c', token = 'secret', scopes = [], expires = '2030-01-01T00:00:00Z' }]\n",
+            "[[client]] row 1 (id \"c\") token of 6 bytes: a token is 22 to 66 of [A-Za-z0-9_-]",
+        ),
+        (
+            b"client = [{ id = 'c', token = 7, scopes = [], expires = '2030-01-01T00:00:00Z' }]\n",
+            "[[client]] row 1 (id \"c\") token: it has to be a text",
+        ),
+        (
+            b"client = [{ id = 'c', toke = 'secret', scopes = [], expires = '2030-01-01T00:00:00Z' }]\n",
+            "[[client]] row 1 (id \"c\") toke: not known: the keys are id, token, scopes, expires and disabled",
+        ),
+        (
+            b"client = [{ id = 'c', token = 'werxhqb98rpaxn39848xrunp', scopes = [], expires = '2030-01-01' }]\n",
+            "[[client]] row 1 (id \"c\") expires = \"2030-01-01\": it has to be a date and time with an offset, from 1970 to 9998, as 2030-01-01T00:00:00Z",
+        ),
+        (
+            b"client = [{ id = 'c', token = 'werxhqb98rpaxn39848xrunp', scopes = [], expires = '2030-01-01T00:00:00Z', disabled = 'no' }]\n",
+            "[[client]] row 1 (id \"c\") disabled = \"no\": it has to be true or false",
+        ),
+        (
+            b"[farm]\nhost = '0123456789012345678901234567890123456789012345678901234567890123456789\xc3\xa9'\n",
+            "[farm] host = \"012345678901234567890123456789012345678901234567890123456789\"..: a host is 1 to 255 bytes of printable ASCII",
+        ),
+    ];
+    for (text, line) in rows {
+        assert_eq!(rt; told(rt.alloc(), text)?.as_str(), line);
+    }
+    Ok(())
+}
+
+#[test]
+fn a_file_that_is_too_long_is_told(rt: HostRuntime) -> Result<(), Fail> {
+    let alloc = rt.alloc();
+    let spaces = vec![in alloc; b' '; LONGEST_FILE + 1]?;
+    assert_eq!(rt;
+        told(alloc, &spaces)?.as_str(),
+        "it has more than 4194304 bytes"
+    );
+    Ok(())
+}
+
+/// As many rows of roles, of which each has its number as its id.
+fn numbered_roles(alloc: Global, count: u32) -> Result<String, AllocError> {
+    let mut rows = String::from_str(alloc, "role = [")?;
+    for number in 0..count {
+        let row = format!(in alloc; "{{id='{number}',scopes=[]}},")?;
+        rows.push_str(&row)?;
+    }
+    rows.push_str("]\n")?;
+    Ok(rows)
+}
+
+#[test]
+fn rows_that_are_too_many_are_told(rt: HostRuntime) -> Result<(), Fail> {
+    let rows = numbered_roles(rt.alloc(), 10_001)?;
+    assert_eq!(rt;
+        told(rt.alloc(), rows.as_bytes())?.as_str(),
+        "[[role]] row 10001 (id \"10000\"): there may be 10000 rows"
+    );
     Ok(())
 }
 

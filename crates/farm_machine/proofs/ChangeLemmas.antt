@@ -1,18 +1,27 @@
 -- A verdict that changes something is that of a createTask whose id no task had.
-use Rattle.std.proofs.Common.{◌≡◌, ℕ, Bool, true, false, List, [], ◌∷◌, ◌++◌, ◌==◌, map, length, Option, Some, None, bytes_eq, refl, ap, ◌∙◌, subst, inl, inr}
+use Rattle.std.proofs.Common.{◌≡◌, ℕ, Bool, true, false, List, [], ◌∷◌, ◌++◌, ◌==◌, map, length, Option, Some, None, bytes_eq, nat_lt, min, ◌+◌, refl, ap, ◌∙◌, subst, inl, inr}
 use Rattle.farm_record.specs.declared.change.Change.{Change}
 use Rattle.farm_record.specs.declared.change.Creation.{Creation}
 use Rattle.run_states.specs.Rows.{Row}
 use Rattle.farm_rows.specs.Changes.{creating}
+use Rattle.farm_record.specs.declared.change.RunName.{RunName}
 use Rattle.farm_rows.specs.Contents.{row_with}
+use Rattle.farm_rows.specs.Picks.{picks}
 use Rattle.task_defs.specs.declared.task_def.TaskDef.{TaskDef}
 use Rattle.farm_machine.specs.declared.question.Call.{Call}
-use Rattle.farm_machine.specs.declared.question.Call.TheVariants.{NoRoute, BadParameter, BadBody, Ping, Status, CreateTask}
+use Rattle.farm_machine.specs.declared.question.Call.TheVariants.{NoRoute, BadParameter, BadBody, Ping, Status, CreateTask, ClaimWork, ReclaimTask, ReportRun, RerunTask, CancelTask}
 use Rattle.farm_machine.specs.declared.question.Caller.{Caller}
 use Rattle.farm_machine.specs.declared.reply.Answer.{Answer}
 use Rattle.farm_machine.specs.Calls.CreateTask.{standing}
+use Rattle.farm_machine.specs.Calls.CancelTask.{cancel_task}
+use Rattle.farm_machine.specs.Calls.ClaimWork.{taking, claim_work}
+use Rattle.farm_machine.specs.Calls.ReclaimTask.{reclaim_task}
+use Rattle.farm_machine.specs.Calls.ReportRun.{report_run}
+use Rattle.farm_machine.specs.Calls.RerunTask.{rerun_task}
 use Rattle.farm_machine.specs.Calls.Status.{status}
-use Rattle.farm_machine.specs.Case.{Setting, Deed, Rule, Case, of_row, IsFirstRule}
+use Rattle.farm_machine.specs.declared.question.WorkRequest.{WorkRequest}
+use Rattle.farm_machine.specs.Config.{claim_millis}
+use Rattle.farm_machine.specs.Case.{Setting, Deed, Rule, Case, of_row, of_run, IsFirstRule}
 use Rattle.farm_machine.specs.Entry.{Asking}
 use Rattle.farm_machine.specs.Judgement.{Judgement, only_answer}
 use Rattle.farm_machine.specs.Laws.{creation_of}
@@ -65,15 +74,25 @@ pub record Creates (at : Setting) (asked : Call) (judgement : Judgement) (creati
   pub unknown : row_with creation.id at.state.contents.rows ≡ None
   pub change : judgement.change ≡ Some (creating at.moment creation)
 
--- a judgement without a change creates nothing
-no_creation : (judgement : Judgement) (creation : Creation) (deed : Deed) (at : Setting) → deed.change ≡ None → judgement ≡ done at deed → creation_of judgement.change ≡ Some creation → ⊥
+-- a judgement whose change creates nothing creates nothing
+no_creation : (judgement : Judgement) (creation : Creation) (deed : Deed) (at : Setting) → creation_of deed.change ≡ None → judgement ≡ done at deed → creation_of judgement.change ≡ Some creation → ⊥
 no_creation judgement creation deed at none is creates =
-    let change : judgement.change ≡ None = ap (λ (j : Judgement). j.change) is ∙ none in
-    let nothing : creation_of None ≡ Some creation = rw change at creates in cc
+    let change : judgement.change ≡ deed.change = ap (λ (j : Judgement). j.change) is in
+    let nothing : creation_of judgement.change ≡ None = ap creation_of change ∙ none in
+    cc
 
-status_reads : (id : List ℕ) (row : Option Row) (each : Row → Case) → ((r : Row) → (each r).deed.change ≡ None) → (of_row id each row).deed.change ≡ None
-status_reads id None each reads = refl
-status_reads id (Some row) each reads = reads row
+-- a call of a task creates none, where it does so for no task that stands
+task_makes : (id : List ℕ) (row : Option Row) (each : Row → Case) → ((r : Row) → creation_of (each r).deed.change ≡ None) → creation_of (of_row id each row).deed.change ≡ None
+task_makes id None each makes = refl
+task_makes id (Some row) each makes = makes row
+
+run_makes : (id : List ℕ) (run : ℕ) (each : Row → Case) (there : Bool) (row : Row) → creation_of (each row).deed.change ≡ None → creation_of (of_run id run each there row).deed.change ≡ None
+run_makes id run each true row makes = makes
+run_makes id run each false row makes = refl
+
+work_makes : (moment until : ℕ) (work : WorkRequest) (names : List RunName) → creation_of (taking moment until work names).change ≡ None
+work_makes moment until work [] = refl
+work_makes moment until work (name ∷ names) = refl
 
 unknown_is : (definition : TaskDef) (row : Option Row) (rules : List Rule) → IsFirstRule (standing definition row ++ rules) None → row ≡ None
 unknown_is definition None rules none = refl
@@ -97,7 +116,20 @@ call_creates at (BadParameter parameter) judgement creation rules is creates = a
 call_creates at (BadBody fault) judgement creation rules is creates = absurd (no_creation judgement creation (case_of (form_of (BadBody fault)) at).deed at refl is creates)
 call_creates at Ping judgement creation rules is creates = absurd (no_creation judgement creation (case_of (form_of Ping) at).deed at refl is creates)
 call_creates at (Status id) judgement creation rules is creates =
-    absurd (no_creation judgement creation (status id at).deed at (status_reads id (row_with id at.state.contents.rows) _ (λ row. refl)) is creates)
+    absurd (no_creation judgement creation (status id at).deed at (task_makes id (row_with id at.state.contents.rows) _ (λ row. refl)) is creates)
+call_creates at (ClaimWork work) judgement creation rules is creates =
+    absurd (no_creation judgement creation (claim_work work at).deed at
+    (work_makes at.moment (at.moment + claim_millis at.state.config) work (picks (min work.tasks 32) work.queue at.state.contents.rows)) is creates)
+call_creates at (ReclaimTask name) judgement creation rules is creates =
+    absurd (no_creation judgement creation (reclaim_task name at).deed at
+    (task_makes name.id (row_with name.id at.state.contents.rows) _ (λ row. run_makes name.id name.run _ (nat_lt name.run (length row.runs)) row refl)) is creates)
+call_creates at (ReportRun report) judgement creation rules is creates =
+    absurd (no_creation judgement creation (report_run report at).deed at
+    (task_makes report.id (row_with report.id at.state.contents.rows) _ (λ row. run_makes report.id report.run _ (nat_lt report.run (length row.runs)) row refl)) is creates)
+call_creates at (RerunTask id) judgement creation rules is creates =
+    absurd (no_creation judgement creation (rerun_task id at).deed at (task_makes id (row_with id at.state.contents.rows) _ (λ row. refl)) is creates)
+call_creates at (CancelTask id) judgement creation rules is creates =
+    absurd (no_creation judgement creation (cancel_task id at).deed at (task_makes id (row_with id at.state.contents.rows) _ (λ row. refl)) is creates)
 call_creates at (CreateTask asked) judgement creation rules is creates =
     create_creates at judgement asked creation (bytes_eq asked.definition.task_group_id asked.id) (length asked.definition.dependencies == 0) refl refl rules is creates
 

@@ -1,5 +1,5 @@
 -- A call that is of its form and names what is there is denied exactly where its caller's scopes do not hold what it asks.
-use Rattle.std.proofs.Common.{◌≡◌, ◌≢◌, ℕ, Bool, true, false, List, [], ◌∷◌, ◌++◌, map, Option, Some, None, bytes_eq, length, ◌==◌, min, nat_le, ◌&&◌, if◌then◌else◌, refl, sym, ap, ◌∙◌, subst, inl, inr}
+use Rattle.std.proofs.Common.{◌≡◌, ◌≢◌, ℕ, Bool, true, false, List, [], ◌∷◌, ◌++◌, map, Option, Some, None, bytes_eq, length, ◌==◌, min, nat_le, nat_lt, ◌&&◌, if◌then◌else◌, refl, sym, ap, ◌∙◌, subst, inl, inr}
 use Rattle.scope_sets.specs.Expressions.{Expression, holds, missing, reduced}
 use Rattle.scope_sets.proofs.LawLemmas.{missing_full}
 use Rattle.run_states.specs.Rows.{Row}
@@ -8,12 +8,12 @@ use Rattle.farm_record.specs.declared.change.Change.{Change}
 use Rattle.farm_record.specs.declared.change.Creation.{Creation}
 use Rattle.task_defs.specs.declared.task_def.TaskDef.{TaskDef}
 use Rattle.farm_machine.specs.declared.question.Call.{Call}
-use Rattle.farm_machine.specs.declared.question.Call.TheVariants.{NoRoute, BadParameter, BadBody, Ping, Status, CreateTask}
+use Rattle.farm_machine.specs.declared.question.Call.TheVariants.{NoRoute, BadParameter, BadBody, Ping, Status, CreateTask, ClaimWork, ReclaimTask, ReportRun, RerunTask, CancelTask}
 use Rattle.farm_machine.specs.declared.question.Caller.{Caller}
 use Rattle.farm_machine.specs.declared.reply.Answer.{Answer}
 use Rattle.farm_machine.specs.Access.{Has, HasAccess}
 use Rattle.farm_machine.specs.Calls.CreateTask.{standing}
-use Rattle.farm_machine.specs.Case.{Setting, Deed, Rule, Case, of_row}
+use Rattle.farm_machine.specs.Case.{Setting, Deed, Rule, Case, of_row, of_run}
 use Rattle.farm_machine.specs.Entry.{Asking, Entry, call, finished}
 use Rattle.farm_machine.specs.Judgement.{Judgement, only_answer}
 use Rattle.farm_machine.specs.Laws.{Finished, setting_behind, where_there, asked_policy, DeniesExactly}
@@ -48,6 +48,10 @@ create-other at true true creation = standing-other creation.definition (row_wit
 create-other at true false creation = tt
 create-other at false alone creation = tt
 
+run-other : (id : List ℕ) (run : ℕ) (each : Row → Case) (there : Bool) (row : Row) → AreOther (each row).rules → AreOther (of_run id run each there row).rules
+run-other id run each true row others = others
+run-other id run each false row others = tt
+
 call-other : (at : Setting) (asked : Call) → AreOther (case_of (form_of asked) at).rules
 call-other at (NoRoute name) = tt
 call-other at (BadParameter parameter) = tt
@@ -55,6 +59,14 @@ call-other at (BadBody fault) = tt
 call-other at Ping = tt
 call-other at (Status id) = status-other id (row_with id at.state.contents.rows) _ (λ row. tt)
 call-other at (CreateTask creation) = create-other at (bytes_eq creation.definition.task_group_id creation.id) (length creation.definition.dependencies == 0) creation
+call-other at (ClaimWork work) = tt
+call-other at (ReclaimTask name) =
+    status-other name.id (row_with name.id at.state.contents.rows) _ (λ row. run-other name.id name.run _ (nat_lt name.run (length row.runs)) row (not_denied 409 refl, tt))
+call-other at (ReportRun report) =
+    status-other report.id (row_with report.id at.state.contents.rows) _ (λ row. run-other report.id report.run _ (nat_lt report.run (length row.runs)) row (not_denied 200 refl, (not_denied 409 refl, tt)))
+call-other at (RerunTask id) =
+    status-other id (row_with id at.state.contents.rows) _ (λ row. (not_denied 200 refl, (not_denied 409 refl, (not_denied 409 refl, (not_denied 409 refl, tt)))))
+call-other at (CancelTask id) = status-other id (row_with id at.state.contents.rows) _ (λ row. (not_denied 200 refl, tt))
 
 -- ---- a call that is not denied
 

@@ -7,7 +7,14 @@ pub mod FaultLemmas
 pub mod OnceLemmas
 pub mod OrderLemmas
 pub mod PlanLemmas
+pub mod RunLawLemmas
 pub mod StepLemmas
 pub mod VerdictLemmas
 pub mod MakeLemmas
+pub mod MayLemmas
+pub mod WorkLemmas
 mod EqualLemmas
+mod LastRunLemmas
+mod DeedLemmas
+mod InTimeLemmas
+mod ClaimLawLemmas

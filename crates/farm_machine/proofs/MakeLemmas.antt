@@ -1,60 +1,68 @@
--- What is answered where a task is made, and where the farm is full.
-use Rattle.std.proofs.Common.{◌≡◌, ℕ, min, nat_le, true, false, length, Some, None, Result, Ok, Err, IfOk, refl, sym, ap, ◌∙◌, subst}
-use Rattle.farm_text.specs.Document.{document_text}
+-- What is answered where a change is planned, and where the farm is full for it.
+use Rattle.std.proofs.Common.{◌≡◌, ◌&&◌, ℕ, min, nat_le, true, false, length, Some, None, Result, Ok, Err, IfOk, List, refl, ap, ◌∙◌, subst}
+use Rattle.farm_text.specs.Document.{Document, document_text}
 use Rattle.farm_record.specs.declared.change.Change.{Change}
-use Rattle.farm_record.specs.declared.change.Creation.{Creation}
-use Rattle.farm_record.specs.declared.change.Kind.TheVariants.{Create}
-use Rattle.farm_rows.specs.Changes.{creating, may_apply, applied}
-use Rattle.farm_rows.specs.Contents.{Contents, row_with}
+use Rattle.farm_record.specs.declared.change.Kind.{Kind}
+use Rattle.run_states.specs.Rows.{Row}
+use Rattle.farm_rows.specs.Changes.{applied}
+use Rattle.farm_rows.specs.Contents.{Contents}
 use Rattle.farm_rows.specs.Plans as tasks
-use Rattle.farm_rows.proofs.IdLemmas.{created-stands}
 use Rattle.farm_machine.specs.declared.judged.Judged.{Judged}
-use Rattle.farm_machine.specs.Calls.CreateTask.{making}
-use Rattle.farm_machine.specs.Case.{Setting}
-use Rattle.farm_machine.specs.Order.{full, done}
+use Rattle.farm_machine.specs.declared.works.Telling.{Telling}
+use Rattle.farm_machine.specs.Case.{Setting, changing}
+use Rattle.farm_machine.specs.Order.{full, makes_task, done}
 use Rattle.farm_machine.specs.Planned.{judgement_of}
 use Rattle.farm_machine.specs.Refused.{IsPlannedSo, IsMade}
-use Rattle.farm_machine.specs.Replies.{ok, status_body, farm_full}
+use Rattle.farm_machine.specs.Replies.{ok, farm_full}
+use Rattle.farm_machine.specs.Tellings.{told_by}
+use Rattle.farm_machine.specs.Works.{told_of, at_moment}
 use Rattle.farm_machine.proofs.OrderLemmas.{full-first, done-first, only-judged, only-kept}
 
--- the task that a plan shows is the one that stands after its change
-pub planned-stands : (contents : Contents) (at : ℕ) (creation : Creation) (plan : tasks.Planned) → plan.change ≡ creating at creation → tasks.IsPlanOn contents plan → row_with creation.id (applied contents (creating at creation)).rows ≡ Some plan.row
-planned-stands contents at creation plan is on =
-    let lawful : may_apply contents (creating at creation) ≡ true = subst (λ (change : Change). may_apply contents change ≡ true) is on.lawful in
-    let names : tasks.NamesAfter contents at (Create creation) plan.row = subst (λ (change : Change). tasks.NamesAfter contents change.at change.kind plan.row) is on.names in
-    created-stands contents at creation lawful ∙ ap Some (sym names)
+-- the change makes a task, and the farm has as many as it takes
+pub full-is : (at : Setting) (kind : Kind) → (makes_task kind && nat_le (min at.state.config.max_tasks 1_000_000) (length at.state.contents.rows)) ≡ true → full at.state (changing at.moment kind).change ≡ Some (farm_full (length at.state.contents.rows))
+full-is at kind is = rw is refl
 
--- the farm has as many tasks as it takes
-pub full-is : (at : Setting) (creation : Creation) → nat_le (min at.state.config.max_tasks 1_000_000) (length at.state.contents.rows) ≡ true → full at.state (making at.moment creation).change ≡ Some (farm_full (length at.state.contents.rows))
-full-is at creation is = rw is refl
-
--- it takes one more
-pub free-is : (at : Setting) (creation : Creation) → nat_le (min at.state.config.max_tasks 1_000_000) (length at.state.contents.rows) ≡ false → full at.state (making at.moment creation).change ≡ None
-free-is at creation is = rw is refl
+-- it takes one more, or none is made
+pub free-is : (at : Setting) (kind : Kind) → (makes_task kind && nat_le (min at.state.config.max_tasks 1_000_000) (length at.state.contents.rows)) ≡ false → full at.state (changing at.moment kind).change ≡ None
+free-is at kind is = rw is refl
 
 -- the judgement where the farm is full
-pub IsMade-full : (at : Setting) (creation : Creation) (judged : Judged) → nat_le (min at.state.config.max_tasks 1_000_000) (length at.state.contents.rows) ≡ true → judged.answer ≡ farm_full (length at.state.contents.rows) → judged.change ≡ None → IsMade at creation judged
-IsMade-full at creation judged is answer change =
+pub IsMade-full : (at : Setting) (kind : Kind) (judged : Judged) → (makes_task kind && nat_le (min at.state.config.max_tasks 1_000_000) (length at.state.contents.rows)) ≡ true → judged.answer ≡ farm_full (length at.state.contents.rows) → judged.change ≡ None → IsMade at kind judged
+IsMade-full at kind judged is answer change =
     let a = farm_full (length at.state.contents.rows) in
     record {
-      first = rw (only-judged judged a answer change) (full-first at (making at.moment creation) a (full-is at creation is));
+      first = rw (only-judged judged a answer change) (full-first at (changing at.moment kind) a (full-is at kind is));
       kept = only-kept judged at.state.contents change;
     }
 
--- what is planned is what is done
-planned-done : (at : Setting) (creation : Creation) (judged : Judged) (plan : tasks.Planned) → plan.change ≡ creating at.moment creation → tasks.IsPlanOn at.state.contents plan → judged.answer ≡ ok (document_text (status_body plan.row)) → judged.change ≡ Some plan → judgement_of judged ≡ done at (making at.moment creation)
-planned-done at creation judged plan is on answer change =
-    rw (answer, change, is, planned-stands at.state.contents at.moment creation plan is on) refl
+-- the same of a call that may run out of memory
+pub IsMade-refused : {E : Type 0} (at : Setting) (kind : Kind) (count : ℕ) (result : Result Judged E) → count ≡ length at.state.contents.rows → (makes_task kind && nat_le (min at.state.config.max_tasks 1_000_000) (length at.state.contents.rows)) ≡ true
+    → IfOk result (λ judged. judged.answer ≡ farm_full count) → IfOk result (λ judged. judged.change ≡ None) → IfOk result (IsMade at kind)
+IsMade-refused at kind count (Ok judged) stand is answer change = IsMade-full at kind judged is (answer ∙ ap farm_full stand) change
+IsMade-refused at kind count (Err e) stand is answer change = tt
 
--- the judgement where a task is planned
-pub IsMade-planned : (at : Setting) (creation : Creation) (judged : Judged) (plan : tasks.Planned) → nat_le (min at.state.config.max_tasks 1_000_000) (length at.state.contents.rows) ≡ false → plan.change ≡ creating at.moment creation → tasks.IsPlanOn at.state.contents plan → judged.answer ≡ ok (document_text (status_body plan.row)) → judged.change ≡ Some plan → IsMade at creation judged
-IsMade-planned at creation judged plan free is on answer change =
+-- what is planned is what is done
+planned-done : (at : Setting) (kind : Kind) (judged : Judged) (plan : tasks.Planned) → plan.change ≡ at_moment at.moment kind → tasks.IsPlanOn at.state.contents plan → judged.answer ≡ ok (document_text (told_of kind plan.rows)) → judged.change ≡ Some plan → judgement_of judged ≡ done at (changing at.moment kind)
+planned-done at kind judged plan is on answer change =
+    let shown : plan.rows ≡ tasks.named_rows kind (applied at.state.contents (at_moment at.moment kind)).rows =
+    subst (λ (c : Change). plan.rows ≡ tasks.named_rows c.kind (applied at.state.contents c).rows) is on.shows in
+    rw (answer, change, is, shown) refl
+
+-- the judgement where a change is planned
+pub IsMade-planned : (at : Setting) (kind : Kind) (judged : Judged) (plan : tasks.Planned) → (makes_task kind && nat_le (min at.state.config.max_tasks 1_000_000) (length at.state.contents.rows)) ≡ false → plan.change ≡ at_moment at.moment kind → tasks.IsPlanOn at.state.contents plan → judged.answer ≡ ok (document_text (told_of kind plan.rows)) → judged.change ≡ Some plan → IsMade at kind judged
+IsMade-planned at kind judged plan free is on answer change =
     record {
-      first = done-first at (making at.moment creation) (judgement_of judged) (free-is at creation free) (planned-done at creation judged plan is on answer change);
+      first = done-first at (changing at.moment kind) (judgement_of judged) (free-is at kind free) (planned-done at kind judged plan is on answer change);
       kept = rw change on;
     }
 
--- the judgement of a call that plans the task, or runs out of memory
-pub IsMade-so : {E : Type 0} (at : Setting) (creation : Creation) (result : Result Judged E) → nat_le (min at.state.config.max_tasks 1_000_000) (length at.state.contents.rows) ≡ false → IfOk result (IsPlannedSo at.state.contents (creating at.moment creation)) → IfOk result (IsMade at creation)
-IsMade-so at creation (Ok judged) free (plan, is, on, answer, change) = IsMade-planned at creation judged plan free is on answer change
-IsMade-so at creation (Err e) free planned = tt
+-- the judgement of a call that plans the change, or runs out of memory
+pub IsMade-so : {E : Type 0} (at : Setting) (kind : Kind) (result : Result Judged E) → (makes_task kind && nat_le (min at.state.config.max_tasks 1_000_000) (length at.state.contents.rows)) ≡ false → IfOk result (IsPlannedSo at.state.contents (at_moment at.moment kind)) → IfOk result (IsMade at kind)
+IsMade-so at kind (Ok judged) free (plan, is, on, answer, change) = IsMade-planned at kind judged plan free is on answer change
+IsMade-so at kind (Err e) free planned = tt
+
+-- what is planned, and told of what it leaves, is planned so
+pub planned-so : {E : Type 0} (contents : Contents) (change : Change) (telling : Telling) (plan : tasks.Planned) (result : Result Judged E) → plan.change ≡ change → tasks.IsPlanOn contents plan → ((rows : List Row) → told_by telling rows ≡ told_of change.kind rows)
+    → IfOk result (λ judged. judged.answer ≡ ok (document_text (told_by telling plan.rows))) → IfOk result (λ judged. judged.change ≡ Some plan) → IfOk result (IsPlannedSo contents change)
+planned-so contents change telling plan (Ok judged) is on tells answer planned = (plan, is, on, answer ∙ ap (λ (d : Document). ok (document_text d)) (tells plan.rows), planned)
+planned-so contents change telling plan (Err e) is on tells answer planned = tt

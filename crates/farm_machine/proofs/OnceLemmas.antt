@@ -36,16 +36,16 @@ use Rattle.farm_machine.proofs.OrderLemmas.{asks-ruled, in_order-one}
 
 -- ---- each task stays, and the configuration too
 
-changed-stays : (contents : Contents) (moment : ℕ) (change : Option Change) → RowsLater contents.rows (changed contents moment change).rows
+pub changed-stays : (contents : Contents) (moment : ℕ) (change : Option Change) → RowsLater contents.rows (changed contents moment change).rows
 changed-stays contents moment None = RowsLater-refl contents.rows
 changed-stays contents moment (Some change) = applied-stays contents change
 
-entry-stays : (state : State) (entry : Entry) → RowsLater state.contents.rows (after state entry).contents.rows
+pub entry-stays : (state : State) (entry : Entry) → RowsLater state.contents.rows (after state entry).contents.rows
 entry-stays state (tick moment) = advance-stays state.contents moment
 entry-stays state (call asking out_of_memory) = RowsLater-refl state.contents.rows
 entry-stays state (call asking (finished judgement)) = changed-stays state.contents (moment_of state.contents asking) judgement.change
 
-entries-stay : (state : State) (entries : List Entry) → RowsLater state.contents.rows (end_state farm_rules state entries).contents.rows
+pub entries-stay : (state : State) (entries : List Entry) → RowsLater state.contents.rows (end_state farm_rules state entries).contents.rows
 unfolding farm_rules
 entries-stay state [] = RowsLater-refl state.contents.rows
 entries-stay state (entry ∷ rest) = RowsLater-trans _ _ _ (entry-stays state entry) (entries-stay (after state entry) rest)

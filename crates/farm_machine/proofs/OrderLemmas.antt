@@ -6,12 +6,11 @@ use Rattle.farm_machine.specs.declared.config.Config.{Config}
 use Rattle.farm_machine.specs.declared.question.Caller.{Caller}
 use Rattle.farm_machine.specs.declared.reply.Answer.{Answer}
 use Rattle.farm_machine.specs.Access.{Access, Has, Refused, HasAccess}
-use Rattle.farm_record.specs.declared.change.Creation.{Creation}
+use Rattle.farm_record.specs.declared.change.Kind.{Kind}
 use Rattle.farm_rows.specs.Contents.{Contents}
 use Rattle.farm_rows.specs.Plans as tasks
 use Rattle.farm_machine.specs.declared.judged.Judged.{Judged}
-use Rattle.farm_machine.specs.Calls.CreateTask.{making}
-use Rattle.farm_machine.specs.Case.{Setting, Deed, Rule, Case, IsFirstRule}
+use Rattle.farm_machine.specs.Case.{Setting, Deed, Rule, Case, changing, IsFirstRule}
 use Rattle.farm_machine.specs.Changes.{changed}
 use Rattle.farm_machine.specs.Judgement.{Judgement, only_answer}
 use Rattle.farm_machine.specs.Order.{Form, has_no_route, has_bad_parameter, has_bad_body, asks, route_of, parameter_of, body_of, case_of, Strikes, HasNoAccess, LacksScopes, IsEnded, full, IsDone, done, IsFirst, in_order}
@@ -143,8 +142,8 @@ pub IsJudged-refused : {E : Type 0} (at : Setting) (caller : Caller) (form : For
 IsJudged-refused at caller form (Ok judged) a answer change first = IsJudged-only at caller form judged a answer change first
 IsJudged-refused at caller form (Err e) a answer change first = tt
 
-pub IsJudged-made : (at : Setting) (caller : Caller) (case : Setting → Case) (creation : Creation) (judged : Judged) → Passes at caller (case at) → (case at).deed ≡ making at.moment creation → IsMade at creation judged → IsJudged at caller (asks case) judged
-IsJudged-made at caller case creation judged passes is made =
+pub IsJudged-made : (at : Setting) (caller : Caller) (case : Setting → Case) (kind : Kind) (judged : Judged) → Passes at caller (case at) → (case at).deed ≡ changing at.moment kind → IsMade at kind judged → IsJudged at caller (asks case) judged
+IsJudged-made at caller case kind judged passes is made =
     let P : Deed → Type 0 = λ deed. IsFirst (last_parts at deed) (judgement_of judged) in
     record { first = asks-passed at caller case (judgement_of judged) passes (subst P (sym is) made.first); kept = made.kept }
 

@@ -1,19 +1,21 @@
 -- The verdict is one, and each call has one.
-use Rattle.std.proofs.Common.{◌≡◌, ◌⊎◌, ℕ, ◌==◌, Bool, true, false, List, [], ◌∷◌, ◌++◌, length, Option, Some, None, bytes_eq, nat_le, refl, inl, inr}
+use Rattle.std.proofs.Common.{◌≡◌, ◌⊎◌, ℕ, ◌==◌, Bool, true, false, List, [], ◌∷◌, ◌++◌, length, Option, Some, None, bytes_eq, not, ◌&&◌, nat_le, nat_lt, refl, inl, inr}
 use Rattle.hawk_auth.specs.Clients.{IsBook}
 use Rattle.role_expand.specs.Cycles.{IsAccepted}
 use Rattle.farm_record.specs.declared.change.Creation.{Creation}
-use Rattle.run_states.specs.Rows.{Row}
+use Rattle.run_states.specs.Rows.{Row, is_unscheduled, is_resolved, is_running_at}
+use Rattle.run_states.specs.Moves.{ended_for_at}
+use Rattle.farm_rows.specs.Changes.{reason_of}
 use Rattle.farm_rows.specs.Contents.{row_with}
 use Rattle.task_defs.specs.declared.task_def.TaskDef.{TaskDef}
 use Rattle.farm_machine.specs.declared.question.Call.{Call}
-use Rattle.farm_machine.specs.declared.question.Call.TheVariants.{NoRoute, BadParameter, BadBody, Ping, Status, CreateTask}
+use Rattle.farm_machine.specs.declared.question.Call.TheVariants.{NoRoute, BadParameter, BadBody, Ping, Status, CreateTask, ClaimWork, ReclaimTask, ReportRun, RerunTask, CancelTask}
 use Rattle.farm_machine.specs.declared.reply.Answer.{Answer}
 use Rattle.farm_machine.specs.Calls.CreateTask.{standing}
-use Rattle.farm_machine.specs.Case.{Setting, Case, Rule, when, of_row}
+use Rattle.farm_machine.specs.Case.{Setting, Case, Rule, when, of_row, of_run}
 use Rattle.farm_machine.specs.Entry.{Asking}
 use Rattle.farm_machine.specs.Judgement.{Judgement}
-use Rattle.farm_machine.specs.Replies.{too_late}
+use Rattle.farm_machine.specs.Replies.{too_late, tells_status, conflict}
 use Rattle.farm_machine.specs.State.{State}
 use Rattle.farm_machine.specs.Verdict.{form_of, create_form_where, setting_of, IsVerdict}
 use Rattle.farm_machine.proofs.AccessLemmas.{HasAccess-some}
@@ -45,6 +47,10 @@ status-decided : (id : List ℕ) (row : Option Row) (each : Row → Case) → ((
 status-decided id None each decided = tt
 status-decided id (Some row) each decided = decided row
 
+run-decided : (id : List ℕ) (run : ℕ) (each : Row → Case) (there : Bool) (row : Row) → AreDecided (each row).rules → AreDecided (of_run id run each there row).rules
+run-decided id run each true row decided = decided
+run-decided id run each false row decided = tt
+
 form-decided : (call : Call) (at : Setting) → IsDecided (form_of call) at
 form-decided (NoRoute name) at = tt
 form-decided (BadParameter parameter) at = tt
@@ -53,6 +59,24 @@ form-decided Ping at = tt
 form-decided (Status id) at = status-decided id (row_with id at.state.contents.rows) _ (λ row. tt)
 form-decided (CreateTask creation) at =
     create-where-decided (bytes_eq creation.definition.task_group_id creation.id) (length creation.definition.dependencies == 0) creation at
+form-decided (ClaimWork work) at = tt
+form-decided (ReclaimTask name) at =
+    status-decided name.id (row_with name.id at.state.contents.rows) _
+    (λ row. run-decided name.id name.run _ (nat_lt name.run (length row.runs)) row (when-decided (not (is_running_at name.run row)) (conflict 3 row), tt))
+form-decided (ReportRun report) at =
+    status-decided report.id (row_with report.id at.state.contents.rows) _
+    (λ row. run-decided report.id report.run _ (nat_lt report.run (length row.runs)) row
+    (when-decided (ended_for_at report.run (reason_of report.reason) row) (tells_status row), (when-decided (not (is_running_at report.run row)) (conflict 3 row), tt)))
+form-decided (RerunTask id) at =
+    status-decided id (row_with id at.state.contents.rows) _
+    (λ row. (
+      when-decided (not (is_unscheduled row) && not (is_resolved row)) (tells_status row),
+      (
+        when-decided (is_unscheduled row) (conflict 4 row),
+        (when-decided (nat_le row.definition.deadline at.moment) (conflict 5 row), (when-decided (nat_le 50 (length row.runs)) (conflict 6 row), tt)),
+      ),
+    ))
+form-decided (CancelTask id) at = status-decided id (row_with id at.state.contents.rows) _ (λ row. (when-decided (is_resolved row) (tells_status row), tt))
 
 -- each call has a verdict, over accepted roles and a book of clients
 pub IsVerdict-some : (longest : ℕ) (state : State) (asking : Asking) → IsAccepted longest state.config.roles → IsBook state.config.clients → (judgement : Judgement) × IsVerdict state asking judgement

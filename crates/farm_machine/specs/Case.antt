@@ -1,14 +1,18 @@
 -- What one call has for the order of refusals, where it is judged.
-use Rattle.std.specs.Prelude.{◌≡◌, ◌⊎◌, ℕ, Bool, IsTrue, List, [], ◌∷◌, codes, Option, Some, None}
+use Rattle.std.specs.Prelude.{◌≡◌, ◌⊎◌, ℕ, nat_lt, Bool, true, false, IsTrue, List, [], ◌∷◌, length, codes, Option, Some, None}
 use Rattle.scope_sets.specs.Expressions.{Expression, all_of, no_members}
 use Rattle.farm_text.specs.Document.{Document, null}
 use Rattle.farm_text.specs.Slug.{slug_text}
+use Rattle.call_rules.specs.Policy.{run_name}
 use Rattle.farm_record.specs.declared.change.Change.{Change}
+use Rattle.farm_record.specs.declared.change.Kind.{Kind}
 use Rattle.run_states.specs.Rows.{Row}
 use Rattle.farm_rows.specs.Contents.{Contents, row_with}
+use Rattle.farm_rows.specs.Plans.{named_rows}
 use Rattle.farm_machine.specs.declared.reply.Answer.{Answer}
 use Rattle.farm_machine.specs.Replies.{not_found}
 use Rattle.farm_machine.specs.State.{State}
+use Rattle.farm_machine.specs.Works.{told_of, at_moment}
 
 -- where a call is judged: the state, its moment, and the id that was drawn for it
 pub record Setting : Type 0 where
@@ -42,6 +46,11 @@ pub record Case : Type 1 where
 abbrev pub reading : (Contents → Document) → Deed
 reading body = record { change = None; body = body }
 
+-- a call that makes a change: what becomes of the tasks that it names is answered
+abbrev pub changing : ℕ → Kind → Deed
+changing moment kind =
+    record { change = Some (at_moment moment kind); body = λ contents. told_of kind (named_rows kind contents.rows) }
+
 -- nothing refuses it, and it does nothing
 abbrev pub passing : Case
 passing = record { absent = None; policy = all_of no_members; rules = []; deed = reading (λ contents. null) }
@@ -54,6 +63,15 @@ of_row id each (Some row) = each row
 -- what a call of the task with this id has
 abbrev pub on_task : List ℕ → Setting → (Row → Case) → Case
 on_task id at each = of_row id each (row_with id at.state.contents.rows)
+
+-- what a call of a run of a task has: the task's case, or that it has no such run
+abbrev pub of_run : List ℕ → ℕ → (Row → Case) → Bool → Row → Case
+of_run id run each false row = record passing { absent = Some (not_found (codes "run") (run_name id run)) }
+of_run id run each true row = each row
+
+-- what a call of the run of this number of the task with this id has
+abbrev pub on_run : List ℕ → ℕ → Setting → (Row → Case) → Case
+on_run id run at each = on_task id at (λ row. of_run id run each (nat_lt run (length row.runs)) row)
 
 -- the answer of the first rule that ends the call, where one does
 abbrev pub IsFirstRule : List Rule → Option Answer → Type 0

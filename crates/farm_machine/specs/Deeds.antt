@@ -2,14 +2,14 @@
 use Rattle.std.specs.Prelude.{◌≡◌, ◌≤◌, true, false, None}
 use Rattle.farm_text.specs.Doc.{document}
 use Rattle.farm_text.specs.declared.moment.TheConstants.{LAST_TOLD_MOMENT}
-use Rattle.farm_rows.specs.Changes.{creating, may_apply}
+use Rattle.farm_rows.specs.Changes.{may_apply}
 use Rattle.farm_rows.specs.Due.{is_due}
 use Rattle.farm_machine.specs.declared.case.Done.{Done}
-use Rattle.farm_machine.specs.declared.case.Done.TheVariants.{Reads, Makes}
-use Rattle.farm_machine.specs.Calls.CreateTask.{making}
-use Rattle.farm_machine.specs.Case.{Setting, Deed}
+use Rattle.farm_machine.specs.declared.case.Done.TheVariants.{Reads, Changes}
+use Rattle.farm_machine.specs.Case.{Setting, Deed, changing}
 use Rattle.farm_machine.specs.Changes.{changed}
 use Rattle.farm_machine.specs.Order.{full}
+use Rattle.farm_machine.specs.Works.{at_moment}
 
 -- the moment is one that a clock tells and not before the last, and nothing is due at it
 pub record IsReady (at : Setting) : Type 0 where
@@ -17,8 +17,8 @@ pub record IsReady (at : Setting) : Type 0 where
   pub later : at.state.contents.last ≤ at.moment
   pub nothing_due : is_due at.state.contents at.moment ≡ false
 
--- this is what is done: it reads that body; or it makes a task, which may be made where the farm is not full
+-- this is what is done: it reads that body; or it makes a change, which may be made where the farm is not full
 abbrev pub IsDeed : Setting → Deed → Done → Type 0
 IsDeed at deed (Reads body) = (deed.change ≡ None) × (document body ≡ deed.body (changed at.state.contents at.moment None))
-IsDeed at deed (Makes creation) =
-    (deed ≡ making at.moment creation) × (full at.state deed.change ≡ None → may_apply at.state.contents (creating at.moment creation) ≡ true)
+IsDeed at deed (Changes kind) =
+    (deed ≡ changing at.moment kind) × (full at.state deed.change ≡ None → may_apply at.state.contents (at_moment at.moment kind) ≡ true)

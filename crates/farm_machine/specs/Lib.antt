@@ -1,3 +1,4 @@
+pub mod Absent
 pub mod Access
 pub mod Calls
 pub mod Case
@@ -14,7 +15,10 @@ pub mod Order
 pub mod Planned
 pub mod Refused
 pub mod Replies
+pub mod RunLaws
 pub mod State
 pub mod Step
+pub mod Tellings
 pub mod Told
 pub mod Verdict
+pub mod Works

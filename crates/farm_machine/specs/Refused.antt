@@ -3,7 +3,7 @@ use Rattle.std.specs.Prelude.{◌≡◌, ℕ, List, [], ◌∷◌, Option, Some,
 use Rattle.scope_sets.specs.Expressions.{missing}
 use Rattle.farm_text.specs.Document.{document_text}
 use Rattle.farm_record.specs.declared.change.Change.{Change}
-use Rattle.farm_record.specs.declared.change.Creation.{Creation}
+use Rattle.farm_record.specs.declared.change.Kind.{Kind}
 use Rattle.farm_rows.specs.Contents.{Contents}
 use Rattle.farm_rows.specs.Plans as tasks
 use Rattle.farm_machine.specs.declared.config.Config.{Config}
@@ -11,13 +11,13 @@ use Rattle.farm_machine.specs.declared.judged.Judged.{Judged}
 use Rattle.farm_machine.specs.declared.question.Caller.{Caller}
 use Rattle.farm_machine.specs.declared.reply.Answer.{Answer}
 use Rattle.farm_machine.specs.Access.{Has, HasAccess}
-use Rattle.farm_machine.specs.Calls.CreateTask.{making}
-use Rattle.farm_machine.specs.Case.{Setting, Case, IsFirstRule}
+use Rattle.farm_machine.specs.Case.{Setting, Case, changing, IsFirstRule}
 use Rattle.farm_machine.specs.Judgement.{only_answer}
 use Rattle.farm_machine.specs.Order.{Form, asks, Strikes, full, IsDone, in_order, IsFirst}
 use Rattle.farm_machine.specs.Planned.{judgement_of}
-use Rattle.farm_machine.specs.Replies.{ok, status_body}
+use Rattle.farm_machine.specs.Replies.{ok}
 use Rattle.farm_machine.specs.State.{working}
+use Rattle.farm_machine.specs.Works.{told_of}
 
 -- where a call is judged over these tables
 abbrev pub setting_at : Config → Contents → ℕ → List ℕ → Setting
@@ -41,13 +41,13 @@ pub record IsJudged (at : Setting) (caller : Caller) (form : Form) (judged : Jud
   pub first : IsFirst (in_order at caller form) (judgement_of judged)
   pub kept : IfSome judged.change (tasks.IsPlanOn at.state.contents)
 
--- this change is planned over these tables, and the status of its task is answered
+-- this change is planned over these tables, and what it leaves of the tasks that it names is answered
 abbrev pub IsPlannedSo : Contents → Change → Judged → Type 0
 IsPlannedSo contents change judged =
     (plan : tasks.Planned) × (plan.change ≡ change) × tasks.IsPlanOn contents plan
-    × (judged.answer ≡ ok (document_text (status_body plan.row))) × (judged.change ≡ Some plan)
+    × (judged.answer ≡ ok (document_text (told_of change.kind plan.rows))) × (judged.change ≡ Some plan)
 
--- the farm is full, or the task is planned and its status is answered
-pub record IsMade (at : Setting) (creation : Creation) (judged : Judged) : Type 0 where
-  pub first : IsFirst (Strikes (full at.state (making at.moment creation).change) ∷ IsDone at (making at.moment creation) ∷ []) (judgement_of judged)
+-- the farm is full, or the change is planned and answered
+pub record IsMade (at : Setting) (kind : Kind) (judged : Judged) : Type 0 where
+  pub first : IsFirst (Strikes (full at.state (changing at.moment kind).change) ∷ IsDone at (changing at.moment kind) ∷ []) (judgement_of judged)
   pub kept : IfSome judged.change (tasks.IsPlanOn at.state.contents)

@@ -6,7 +6,7 @@ use Rattle.farm_machine.specs.Expressions.{document_of}
 use Rattle.run_states.specs.Rows.{Row}
 use Rattle.task_statuses.specs.Statuses.{status_of}
 use Rattle.farm_machine.specs.declared.question.BodyFault.{BodyFault}
-use Rattle.farm_machine.specs.declared.question.BodyFault.TheVariants.{NotJson, NotWhole, NoDefinition}
+use Rattle.farm_machine.specs.declared.question.BodyFault.TheVariants.{NotJson, NotWhole, NoDefinition, NoWork, NoReason}
 use Rattle.farm_machine.specs.declared.reply.Answer.{Answer}
 use Rattle.farm_machine.specs.declared.reply.Reply.{Reply}
 use Rattle.farm_machine.specs.declared.reply.Reply.TheVariants.{Answered, OutOfMemory}
@@ -45,11 +45,13 @@ input_error details =
 abbrev pub bad_parameter : List ℕ → Answer
 bad_parameter name = input_error ((codes "name", text name) ∷ (codes "rule", whole (pos 22)) ∷ [])
 
--- a body is no JSON, or has a number that is not whole, or is no definition
+-- a body is no JSON, or has a number that is not whole, or is no definition, no request for work, or no reason
 abbrev pub bad_body : BodyFault → Answer
 bad_body NotJson = input_error ((codes "rule", whole (pos 20)) ∷ [])
 bad_body (NotWhole path) = input_error ((codes "path", text path) ∷ (codes "rule", whole (pos 21)) ∷ [])
 bad_body (NoDefinition fault) = input_error ((codes "key", text fault.key) ∷ (codes "rule", whole (pos fault.rule)) ∷ [])
+bad_body NoWork = input_error ((codes "rule", whole (pos 23)) ∷ [])
+bad_body NoReason = input_error ((codes "rule", whole (pos 24)) ∷ [])
 
 -- a task is to end before it begins
 abbrev pub too_late : Answer
@@ -58,6 +60,10 @@ too_late = input_error ((codes "rule", whole (pos 15)) ∷ [])
 -- the status of a task, as the body of an answer
 abbrev pub status_body : Row → Document
 status_body row = object (members_of ((codes "status", status_of row) ∷ []))
+
+-- the status of a task is answered
+abbrev pub tells_status : Row → Answer
+tells_status row = ok (document_text (status_body row))
 
 -- the state of this task forbids it
 abbrev pub conflict : ℕ → Row → Answer

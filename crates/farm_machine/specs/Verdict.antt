@@ -1,13 +1,18 @@
 -- What a call is answered and what it changes: the table of calls, and the verdict in the one order of refusals.
 use Rattle.std.specs.Prelude.{ℕ, ◌==◌, Bool, true, false, List, length, codes, bytes_eq}
 use Rattle.farm_machine.specs.declared.question.Call.{Call}
-use Rattle.farm_machine.specs.declared.question.Call.TheVariants.{NoRoute, BadParameter, BadBody, Ping, Status, CreateTask}
+use Rattle.farm_machine.specs.declared.question.Call.TheVariants.{NoRoute, BadParameter, BadBody, Ping, Status, CreateTask, ClaimWork, ReclaimTask, ReportRun, RerunTask, CancelTask}
 use Rattle.farm_machine.specs.declared.question.Parameter.{Parameter}
-use Rattle.farm_machine.specs.declared.question.Parameter.TheVariants.{TaskId}
+use Rattle.farm_machine.specs.declared.question.Parameter.TheVariants.{TaskId, RunId, Queue}
 use Rattle.farm_record.specs.declared.change.Creation.{Creation}
 use Rattle.farm_machine.specs.declared.question.BodyFault.TheVariants.{NoDefinition}
+use Rattle.farm_machine.specs.Calls.CancelTask.{cancel_task}
+use Rattle.farm_machine.specs.Calls.ClaimWork.{claim_work}
 use Rattle.farm_machine.specs.Calls.CreateTask.{create_task}
 use Rattle.farm_machine.specs.Calls.Ping.{ping}
+use Rattle.farm_machine.specs.Calls.ReclaimTask.{reclaim_task}
+use Rattle.farm_machine.specs.Calls.ReportRun.{report_run}
+use Rattle.farm_machine.specs.Calls.RerunTask.{rerun_task}
 use Rattle.farm_machine.specs.Calls.Status.{status}
 use Rattle.farm_machine.specs.Case.{Setting}
 use Rattle.farm_machine.specs.Changes.{moment_of}
@@ -20,6 +25,8 @@ use Rattle.farm_machine.specs.State.{State}
 -- the name by which a reply tells of a parameter
 abbrev pub parameter_name : Parameter → List ℕ
 parameter_name TaskId = codes "taskId"
+parameter_name RunId = codes "runId"
+parameter_name Queue = codes "queue"
 
 -- a task is made, where its group is its own, and where it waits for no other; else it is refused by rule 4 or 5 (until task groups are built)
 abbrev pub create_form_where : Bool → Bool → Creation → Form
@@ -39,6 +46,11 @@ form_of (BadBody fault) = has_bad_body (bad_body fault)
 form_of Ping = asks ping
 form_of (Status id) = asks (status id)
 form_of (CreateTask creation) = create_form creation
+form_of (ClaimWork work) = asks (claim_work work)
+form_of (ReclaimTask name) = asks (reclaim_task name)
+form_of (ReportRun report) = asks (report_run report)
+form_of (RerunTask id) = asks (rerun_task id)
+form_of (CancelTask id) = asks (cancel_task id)
 
 -- where a call is judged that is asked so in this state
 abbrev pub setting_of : State → Asking → Setting

@@ -8,12 +8,16 @@ ghost use Rattle.farm_machine.specs.Told.{HasSeconds};
 ghost use Rattle.farm_text.specs.Doc.{document};
 ghost use Rattle.farm_text.specs.Document.{document_text};
 ghost use Rattle.farm_text.specs.Entries.{held};
+ghost use Rattle.farm_text.specs.Slug.{slug_text};
+ghost use Rattle.call_rules.specs.Policy.{run_name};
 ghost use Rattle.scope_sets.specs.Expressions.{view};
 
 use crate::expressions::expression_doc;
 use crate::question::BodyFault;
 use crate::reply::Answer;
-use farm_text::{Doc, Entries, Text};
+use call_rules::run_name;
+use farm_record::RunName;
+use farm_text::{Doc, Entries, SlugId, Text};
 use hawk_auth::AuthFault;
 use http::StatusCode;
 use run_states::TaskRow;
@@ -42,6 +46,22 @@ pub(crate) fn not_found(alloc: Global, kind: &str, name: &str) -> Result<Answer,
         status: StatusCode::NOT_FOUND,
         body: error_text(alloc, "ResourceNotFound", details, "nothing has that name")?,
     })
+}
+
+/// No task has this id.
+pub(crate) fn no_task(alloc: Global, id: SlugId) -> Result<Answer, AllocError>
+    ensures { IfOk result (λ a. a ≡ not_found (codes "task") (slug_text id)) }
+{
+    let name = id.to_text(alloc)?;
+    not_found(alloc, "task", name.as_str())
+}
+
+/// The task has no run of this number.
+pub(crate) fn no_run(alloc: Global, name: RunName) -> Result<Answer, AllocError>
+    ensures { IfOk result (λ a. a ≡ not_found (codes "run") (run_name name.id name.run)) }
+{
+    let text = run_name(alloc, name.id, name.run)?;
+    not_found(alloc, "run", text.as_str())
 }
 
 /// The request breaks a rule, which these details tell.
@@ -76,6 +96,8 @@ pub(crate) fn bad_body(alloc: Global, fault: &BodyFault) -> Result<Answer, Alloc
         BodyFault::NotWhole(path) => Entries::new(alloc)
             .with(alloc, "path", Doc::text(alloc, path.as_str())?)?
             .with(alloc, "rule", Doc::Int(21))?,
+        BodyFault::NoWork => Entries::new(alloc).with(alloc, "rule", Doc::Int(23))?,
+        BodyFault::NoReason => Entries::new(alloc).with(alloc, "rule", Doc::Int(24))?,
         BodyFault::NoDefinition(fault) => Entries::new(alloc)
             .with(alloc, "key", Doc::text(alloc, fault.key.as_str())?)?
             .with(alloc, "rule", Doc::Int(i64::from(fault.rule)))?,
@@ -113,13 +135,13 @@ pub(crate) fn status(alloc: Global, row: &TaskRow) -> Result<Answer, AllocError>
     ok(alloc, &body)
 }
 
-/// Another task stands under the id.
-pub(crate) fn another_stands(alloc: Global, row: &TaskRow) -> Result<Answer, AllocError>
-    ensures { IfOk result (λ a. a ≡ conflict 1 row.now) }
+/// The state of this task forbids it, by this rule.
+pub(crate) fn conflict(alloc: Global, rule: u8, row: &TaskRow) -> Result<Answer, AllocError>
+    ensures { IfOk result (λ a. a ≡ conflict rule row.now) }
 {
     let status = status_doc(alloc, row)?;
     let details = Entries::new(alloc)
-        .with(alloc, "rule", Doc::Int(1))?
+        .with(alloc, "rule", Doc::Int(i64::from(rule)))?
         .with(alloc, "status", status)?;
     Ok(Answer {
         status: StatusCode::CONFLICT,

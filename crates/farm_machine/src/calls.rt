@@ -1,4 +1,9 @@
 //! The calls: a file each.
+pub(crate) mod cancel_task;
+pub(crate) mod claim_work;
 pub(crate) mod create_task;
 pub(crate) mod ping;
+pub(crate) mod reclaim_task;
+pub(crate) mod report_run;
+pub(crate) mod rerun_task;
 pub(crate) mod status;

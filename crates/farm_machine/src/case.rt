@@ -1,5 +1,7 @@
 //! What one call has for the order of refusals, and where it is judged.
-ghost use Rattle.std.specs.Prelude.{◌≡◌, None, IfOk};
+ghost use Rattle.std.specs.Prelude.{◌≡◌, ◌+◌, ◌≤◌, None, IfOk};
+ghost use Rattle.farm_text.specs.declared.moment.TheConstants.{LAST_TOLD_MOMENT};
+ghost use Rattle.farm_machine.specs.Config.{claim_millis};
 ghost use Rattle.scope_sets.specs.Expressions.{view};
 ghost use Rattle.farm_machine.specs.Case.{Setting, Case, IsFirstRule};
 ghost use Rattle.farm_machine.specs.Deeds.{IsDeed, IsReady};
@@ -7,11 +9,14 @@ ghost use Rattle.farm_machine.specs.Deeds.{IsDeed, IsReady};
 use crate::config::Config;
 use crate::reply::Answer;
 use crate::tables::Tables;
-use farm_record::Creation;
+use farm_record::Kind;
 use farm_text::{Doc, Moment, SlugId};
 use scope_sets::Expr;
 use std::alloc::{AllocError, Global};
 use std::marker::Model;
+
+/// How many seconds a claim lasts at most, whatever a configuration says: a day.
+const LONGEST_CLAIM: u32 = 86_400;
 
 /// Where a call is judged: the farm, the call's moment, and the id that was drawn for it.
 #[derive(Drop)]
@@ -35,13 +40,27 @@ impl<'a> Model for Scene<'a> {
     ghost view = { λ s. record { state = working s.config.now s.tables.now; moment = s.moment; drawn = s.drawn } };
 }
 
+impl<'a> Scene<'a> {
+    /// Until when a run is a worker's that takes or keeps it now: for a second at least, and a day at most.
+    pub(crate) fn taken_until(&self) -> Moment
+        requires { self.now.moment ≤ LAST_TOLD_MOMENT }
+        ensures { result ≡ self.now.moment + claim_millis self.now.state.config }
+    {
+        let seconds = self.config.claim_timeout.min(LONGEST_CLAIM).max(1);
+        match Moment::from_millis(self.moment.millis() + 1_000 * u64::from(seconds)) {
+            Some(moment) => moment,
+            None => unreachable!(),
+        }
+    }
+}
+
 /// What a call does where nothing refuses it.
 #[derive(Debug, Drop)]
 pub(crate) enum Done {
     /// It changes nothing, and this is the body of its answer.
     Reads(Doc),
-    /// It makes this task, and answers its status.
-    Makes(Creation),
+    /// It makes this change, and answers what becomes of the tasks that it names.
+    Changes(Kind),
 }
 
 /// A call that asks something: what it has for the order of refusals, part by part. Each part is asked only where those

@@ -7,6 +7,7 @@ ghost use Rattle.farm_machine.specs.Entry.{Asking};
 ghost use Rattle.farm_machine.specs.State.{State};
 ghost use Rattle.farm_machine.specs.Judgement.{Judgement};
 ghost use Rattle.farm_machine.specs.Laws.{AccessIsExact, IsCreatedOnce, AnswersAgain};
+ghost use Rattle.farm_machine.specs.RunLaws.{IsClaimedOnce, EndsOnce, ReportsInTime};
 ghost use Rattle.farm_machine.specs.Step.{farm_rules};
 ghost use Rattle.farm_machine.specs.Verdict.{IsVerdict};
 ghost use Rattle.history.specs.Asks.{HasOneEntry};
@@ -118,4 +119,19 @@ pub fn a_task_is_created_once()
 /// changes nothing.
 pub fn an_equal_call_acts_once()
     ensures { AnswersAgain }
+{}
+
+/// Each run is claimed at most once.
+pub fn a_run_is_claimed_once()
+    ensures { IsClaimedOnce }
+{}
+
+/// A run that ended stays as it ended, with its claim, whatever comes.
+pub fn a_run_ends_once()
+    ensures { EndsOnce }
+{}
+
+/// A report ends a run only before the end of its claim.
+pub fn a_report_ends_a_run_in_time()
+    ensures { ReportsInTime }
 {}

@@ -14,6 +14,7 @@ mod expressions;
 pub mod grants;
 mod judged;
 pub mod law;
+mod named;
 mod order;
 pub mod plan;
 pub mod question;
@@ -22,3 +23,4 @@ pub mod step;
 pub mod tables;
 #[cfg(test)]
 mod tests;
+mod works;

@@ -1,14 +1,16 @@
 //! The one order of refusals, for every call that asks something.
-ghost use Rattle.std.specs.Prelude.{◌≡◌, nat_le, min, length, true, Some, None, IfOk};
+ghost use Rattle.std.specs.Prelude.{◌≡◌, ◌&&◌, nat_le, min, length, true, Some, None, IfOk};
 ghost use Rattle.farm_text.specs.Document.{document_text};
-ghost use Rattle.farm_rows.specs.Changes.{creating, may_apply};
+ghost use Rattle.farm_rows.specs.Changes.{may_apply};
 ghost use Rattle.farm_machine.specs.declared.question.Caller.{Caller};
 ghost use Rattle.farm_machine.specs.Access.{Has, HasAccess};
-ghost use Rattle.farm_machine.specs.Calls.CreateTask.{making};
+ghost use Rattle.farm_machine.specs.Case.{changing};
 ghost use Rattle.farm_machine.specs.Deeds.{IsReady};
-ghost use Rattle.farm_machine.specs.Order.{asks, full};
+ghost use Rattle.farm_machine.specs.Order.{asks, full, makes_task};
 ghost use Rattle.farm_machine.specs.Refused.{setting_at, IsRefusal, IsJudged, IsPlannedSo, IsMade};
-ghost use Rattle.farm_machine.specs.Replies.{ok, status_body, farm_full};
+ghost use Rattle.farm_machine.specs.Replies.{ok, farm_full};
+ghost use Rattle.farm_machine.specs.Tellings.{told_by};
+ghost use Rattle.farm_machine.specs.Works.{at_moment};
 
 use crate::access::{Access, access_of};
 use crate::answers;
@@ -18,9 +20,11 @@ use crate::judged::Judged;
 use crate::question::Caller;
 use crate::reply::Answer;
 use crate::tables::Tables;
-use farm_record::{Change, Creation, Kind};
+use crate::works::{Telling, telling_of, told};
+use farm_record::{Change, Kind};
 use farm_rows::TaskPlan;
 use farm_text::{Moment, SlugId};
+use run_states::TaskRow;
 use scope_sets::{ScopeSet, missing};
 use std::alloc::{AllocError, Global};
 
@@ -52,8 +56,8 @@ pub(crate) fn judge<C: Called + Drop>(
     }
     match call.deed(alloc, &at)? {
         Done::Reads(body) => Ok(Judged::only(answers::ok(alloc, &body)?)),
-        Done::Makes(creation) => {
-            let made = make(alloc, config, tables, moment, drawn, creation)?;
+        Done::Changes(kind) => {
+            let made = make(alloc, config, tables, moment, drawn, kind)?;
             Ok(made)
         }
     }
@@ -95,32 +99,41 @@ fn refusal_within<C: Called>(
     Ok(rule)
 }
 
-/// Makes a task, where the farm is not full.
+/// Plans a change, where the farm is not full for it.
 fn make(
     alloc: Global,
     config: &Config,
     tables: &mut Tables,
     moment: Moment,
-    drawn: SlugId,
-    creation: Creation,
+    _drawn: SlugId,
+    kind: Kind,
 ) -> Result<Judged, AllocError>
-    requires { full (setting_at config.now tables.old moment drawn).state (making moment creation).change ≡ None
-        → may_apply tables.old (creating moment creation) ≡ true }
-    ensures made { IfOk result (IsMade (setting_at config.now tables.old moment drawn) creation) }
+    requires { full (setting_at config.now tables.old moment _drawn).state (changing moment kind).change ≡ None
+        → may_apply tables.old (at_moment moment kind) ≡ true }
+    ensures made { IfOk result (IsMade (setting_at config.now tables.old moment _drawn) kind) }
     ensures same { tables.new ≡ tables.old }
 {
-    let _ = drawn;
-    if is_full(config, tables) {
+    if is_full_for(config, tables, &kind) {
         return refuse_full(alloc, tables.len());
     }
-    make_task(alloc, tables, moment, creation)
+    plan_change(alloc, tables, Change { at: moment, kind })
 }
 
-/// Whether the farm has as many tasks as it takes.
-fn is_full(config: &Config, tables: &Tables) -> bool
-    ensures { result ≡ nat_le (min config.now.max_tasks 1_000_000) (length tables.now.rows) }
+/// Whether a change makes a task, and the farm has as many as it takes.
+fn is_full_for(config: &Config, tables: &Tables, kind: &Kind) -> bool
+    ensures { result ≡ (makes_task kind.now && nat_le (min config.now.max_tasks 1_000_000) (length tables.now.rows)) }
 {
-    tables.len() >= config.max_tasks.min(MOST_TASKS)
+    makes_task(kind) && tables.len() >= config.max_tasks.min(MOST_TASKS)
+}
+
+/// Whether a change of this kind makes a task.
+fn makes_task(kind: &Kind) -> bool
+    ensures { result ≡ makes_task kind.now }
+{
+    match kind {
+        Kind::Create(_) => true,
+        _ => false,
+    }
 }
 
 /// The judgement where the farm has so many tasks, and takes no more.
@@ -131,32 +144,35 @@ fn refuse_full(alloc: Global, count: u32) -> Result<Judged, AllocError>
     Ok(Judged::only(answers::farm_full(alloc, count)?))
 }
 
-/// Makes a task that may be made.
-fn make_task(
-    alloc: Global,
-    tables: &mut Tables,
-    moment: Moment,
-    creation: Creation,
-) -> Result<Judged, AllocError>
-    requires { may_apply tables.old (creating moment creation) ≡ true }
-    ensures made { IfOk result (IsPlannedSo tables.old (creating moment creation)) }
+/// Plans a change that may be made.
+fn plan_change(alloc: Global, tables: &mut Tables, change: Change) -> Result<Judged, AllocError>
+    requires { may_apply tables.old change ≡ true }
+    ensures made { IfOk result (IsPlannedSo tables.old change) }
     ensures same { tables.new ≡ tables.old }
 {
-    let kind = Kind::Create(creation);
-    let Some(plan) = tables.plan(alloc, Change { at: moment, kind })? else {
+    let telling = telling_of(&change.kind);
+    let Some(plan) = tables.plan(alloc, change)? else {
         unreachable!();
     };
-    tell_status(alloc, plan)
+    tell(alloc, telling, plan)
 }
 
-/// The judgement of a planned change: the status of its task is told.
-fn tell_status(alloc: Global, plan: TaskPlan) -> Result<Judged, AllocError>
-    ensures answer { IfOk result (λ judged. judged.answer ≡ ok (document_text (status_body plan.row))) }
+/// The judgement of a planned change: what it leaves of the tasks that it names is told.
+fn tell(alloc: Global, telling: Telling, plan: TaskPlan) -> Result<Judged, AllocError>
+    ensures answer { IfOk result (λ judged. judged.answer ≡ ok (document_text (told_by telling plan.rows))) }
     ensures change { IfOk result (λ judged. judged.change ≡ Some plan) }
 {
-    let answer = answers::status(alloc, plan.row())?;
+    let answer = told_answer(alloc, telling, plan.rows())?;
     Ok(Judged {
         answer,
         change: Some(plan),
     })
+}
+
+/// The answer that tells this of these tasks.
+fn told_answer(alloc: Global, telling: Telling, rows: &[TaskRow]) -> Result<Answer, AllocError>
+    ensures { IfOk result (λ a. a ≡ ok (document_text (told_by telling rows.now))) }
+{
+    let body = told(alloc, telling, rows)?;
+    answers::ok(alloc, &body)
 }

@@ -1,16 +1,33 @@
 ghost use Rattle.std.specs.Prelude.{◌≡◌, ◌≤◌};
 ghost use Rattle.farm_text.specs.declared.moment.TheConstants.{LAST_TOLD_MOMENT};
 
-use farm_record::Creation;
+use farm_record::{Creation, Resolution, RunName};
 use farm_text::{Moment, SlugId, Text};
 use http_wire::Bytes;
 use std::marker::Model;
-use task_defs::DefFault;
+use task_defs::{DefFault, Identifier, TaskQueue};
 
 /// A parameter of a target, by the name in its route.
 #[derive(Clone, Copy, Debug, PartialEq, Eq)]
 pub enum Parameter {
     TaskId,
+    RunId,
+    Queue,
+}
+
+impl Parameter {
+    ghost use Rattle.farm_machine.specs.Verdict.{parameter_name};
+
+    /// The name by which a reply tells of it.
+    pub(crate) fn name(self) -> &'static str
+        ensures { result.now ≡ parameter_name self }
+    {
+        match self {
+            Parameter::TaskId => "taskId",
+            Parameter::RunId => "runId",
+            Parameter::Queue => "queue",
+        }
+    }
 }
 
 /// The credentials of a request, and what of it they sign (Hawk, scheme 1).
@@ -46,6 +63,20 @@ pub enum BodyFault {
     NotWhole(Text),
     /// It is no task definition.
     NoDefinition(DefFault),
+    /// It is no worker's request for work.
+    NoWork,
+    /// It is no reason for which a worker ends a run as an exception.
+    NoReason,
+}
+
+/// What a worker asks for: runs of a queue.
+#[derive(Debug, Drop)]
+pub struct WorkRequest {
+    pub queue: TaskQueue,
+    pub worker_group: Identifier,
+    pub worker_id: Identifier,
+    /// How many runs it takes at most: 1 to 32.
+    pub tasks: u8,
 }
 
 /// What is called.
@@ -63,6 +94,16 @@ pub enum Call {
     Status(SlugId),
     /// A task is made.
     CreateTask(Creation),
+    /// A worker takes runs.
+    ClaimWork(WorkRequest),
+    /// A worker keeps its run for longer.
+    ReclaimTask(RunName),
+    /// A worker tells how its run ended: reportCompleted, reportFailed and reportException.
+    ReportRun(Resolution),
+    /// A resolved task is run again.
+    RerunTask(SlugId),
+    /// A task is resolved, where it was not.
+    CancelTask(SlugId),
 }
 
 /// One question to the farm: the moment that the clock told, the id that was drawn, who calls, and what.

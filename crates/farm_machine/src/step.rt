@@ -11,14 +11,19 @@ ghost use Rattle.farm_machine.specs.Replies.{bad_body};
 ghost use Rattle.farm_machine.specs.Verdict.{form_of, create_form};
 
 use crate::answers;
+use crate::calls::cancel_task::CancelTask;
+use crate::calls::claim_work::ClaimWork;
 use crate::calls::create_task::CreateTask;
 use crate::calls::ping::Ping;
+use crate::calls::reclaim_task::ReclaimTask;
+use crate::calls::report_run::ReportRun;
+use crate::calls::rerun_task::RerunTask;
 use crate::calls::status::Status;
 use crate::config::Config;
 use crate::judged::Judged;
 use crate::order::judge;
 use crate::plan::Plan;
-use crate::question::{BodyFault, Call, Caller, Parameter, Question};
+use crate::question::{BodyFault, Call, Caller, Question};
 use crate::reply::Reply;
 use crate::tables::Tables;
 use farm_record::Creation;
@@ -71,8 +76,8 @@ fn judgement_of(
             let answer = answers::not_found(alloc, "route", name.as_str())?;
             Ok(Judged::only(answer))
         }
-        Call::BadParameter(Parameter::TaskId) => {
-            Ok(Judged::only(answers::bad_parameter(alloc, "taskId")?))
+        Call::BadParameter(parameter) => {
+            Ok(Judged::only(answers::bad_parameter(alloc, parameter.name())?))
         }
         Call::BadBody(fault) => refused_body(alloc, fault),
         Call::Ping => judge(alloc, caller, Ping {}, config, tables, moment, drawn),
@@ -80,6 +85,55 @@ fn judgement_of(
         Call::CreateTask(creation) => {
             create(alloc, caller, creation, config, tables, moment, drawn)
         }
+        Call::ClaimWork(work) => judge(
+            alloc,
+            caller,
+            ClaimWork { work },
+            config,
+            tables,
+            moment,
+            drawn,
+        ),
+        Call::ReclaimTask(name) => {
+            judge(
+                alloc,
+                caller,
+                ReclaimTask { name },
+                config,
+                tables,
+                moment,
+                drawn,
+            )
+        }
+        Call::ReportRun(report) => {
+            judge(
+                alloc,
+                caller,
+                ReportRun { report },
+                config,
+                tables,
+                moment,
+                drawn,
+            )
+        }
+        Call::RerunTask(id) => judge(
+            alloc,
+            caller,
+            RerunTask { id },
+            config,
+            tables,
+            moment,
+            drawn,
+        ),
+        Call::CancelTask(id) => judge(
+            alloc,
+            caller,
+            CancelTask { id },
+            config,
+            tables,
+            moment,
+            drawn,
+        ),
     }
 }
 

@@ -1,18 +1,20 @@
 //! What a farm keeps.
 ghost use Rattle.std.specs.Prelude.{◌≡◌, ◌≤◌, false, IfOk, MatchOption, length, option_copied};
 ghost use Rattle.farm_text.specs.declared.moment.TheConstants.{LAST_TOLD_MOMENT};
-ghost use Rattle.farm_rows.specs.Contents.{no_contents, row_with};
+ghost use Rattle.farm_rows.specs.Contents.{no_contents, row_with, HaveOwnIds};
 ghost use Rattle.farm_rows.specs.Changes.{may_apply, applied};
 ghost use Rattle.farm_rows.specs.Due.{is_due, advance};
+ghost use Rattle.farm_rows.specs.Picks.{picks};
 ghost use Rattle.farm_rows.specs.Plans.{IsPlanOn};
 ghost use Rattle.farm_machine.specs.Changes.{reached};
 
-use farm_record::Change;
+use farm_record::{Change, RunName};
 use farm_rows::{TaskPlan, TaskTables};
 use farm_text::{Moment, SlugId};
 use run_states::TaskRow;
 use std::alloc::{AllocError, Global};
 use std::marker::Model;
+use task_defs::TaskQueue;
 
 /// What a farm keeps: its tasks in the order of their creation, the last moment, and the next number.
 #[derive(Debug, Drop)]
@@ -62,6 +64,19 @@ impl Tables {
         ensures { option_copied result ≡ row_with id self.now.rows }
     {
         self.tasks.row(id)
+    }
+
+    /// The runs that are claimed next in a queue, so many, or all that wait.
+    pub(crate) fn picks(
+        &self,
+        alloc: Global,
+        queue: &TaskQueue,
+        most: u8,
+    ) -> Result<Vec<RunName>, AllocError>
+        ensures names { IfOk result (λ names. names.items ≡ picks most queue.now self.now.rows) }
+        ensures own { HaveOwnIds self.now.rows }
+    {
+        self.tasks.picks(alloc, queue, most)
     }
 
     /// The plan of a change, with all the memory that it takes, or none where the change may not be made.

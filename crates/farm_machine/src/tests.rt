@@ -16,8 +16,11 @@ use std::alloc::{AllocError, Global};
 use std::test::Fail;
 use task_defs::read_task;
 
+mod runs;
+mod work;
+
 /// The id that is written `AAAAAAAAQACAAAAAAAAAAA`.
-fn first_task() -> Result<SlugId, Fail> {
+pub(crate) fn first_task() -> Result<SlugId, Fail> {
     Ok(SlugId::read(b"AAAAAAAAQACAAAAAAAAAAA").ok_or("a slugid")?)
 }
 
@@ -51,7 +54,7 @@ fn clients(alloc: Global) -> Result<ClientBook, Fail> {
 }
 
 /// A configuration in which `anonymous` has so many scopes beside `*`.
-fn config(alloc: Global, count: usize) -> Result<Config, Fail> {
+pub(crate) fn config(alloc: Global, count: usize) -> Result<Config, Fail> {
     Ok(Config {
         host: Text::from_str(alloc, "localhost")?,
         port: 8080,
@@ -67,8 +70,13 @@ const PLAIN: &[u8] =
     b"{\"created\":\"2024-01-01T00:00:00.000Z\",\"deadline\":\"2024-01-02T00:00:00.000Z\",\"metadata\":{\"description\":\"d\",\"name\":\"n\",\"owner\":\"o@example.com\",\"source\":\"https://example.com/\"},\"payload\":{},\"taskQueueId\":\"prov/wt\"}";
 
 /// The call that makes the first task.
-fn creation(alloc: Global, id: SlugId) -> Result<Call, Fail> {
-    let doc = Doc::read(alloc, PLAIN).ok().ok_or("a document")?;
+pub(crate) fn creation(alloc: Global, id: SlugId) -> Result<Call, Fail> {
+    creation_of(alloc, PLAIN, id)
+}
+
+/// The call that makes a task of this definition.
+pub(crate) fn creation_of(alloc: Global, text: &[u8], id: SlugId) -> Result<Call, Fail> {
+    let doc = Doc::read(alloc, text).ok().ok_or("a document")?;
     let definition = read_task(alloc, &doc, id).ok().ok_or("a definition")?;
     Ok(Call::CreateTask(Creation { id, definition }))
 }
@@ -80,6 +88,10 @@ fn call_of(alloc: Global, word: &str, id: SlugId) -> Result<Call, Fail> {
         "status" => Ok(Call::Status(id)),
         "parameter" => Ok(Call::BadParameter(Parameter::TaskId)),
         "body" => Ok(Call::BadBody(BodyFault::NotJson)),
+        "work" => Ok(Call::BadBody(BodyFault::NoWork)),
+        "reason" => Ok(Call::BadBody(BodyFault::NoReason)),
+        "run" => Ok(Call::BadParameter(Parameter::RunId)),
+        "queue" => Ok(Call::BadParameter(Parameter::Queue)),
         "create" => creation(alloc, id),
         _ => Ok(Call::NoRoute(Text::from_str(alloc, word)?)),
     }
@@ -131,7 +143,31 @@ const PARAMETER: Row = (
     r#"{"code":"InputError","details":{"name":"taskId","rule":22},"message":"the request breaks a rule"}"#,
 );
 
-const ROWS: [Row; 7] = [
+const ROWS: [Row; 11] = [
+    (
+        b"",
+        "run",
+        400,
+        r#"{"code":"InputError","details":{"name":"runId","rule":22},"message":"the request breaks a rule"}"#,
+    ),
+    (
+        b"",
+        "queue",
+        400,
+        r#"{"code":"InputError","details":{"name":"queue","rule":22},"message":"the request breaks a rule"}"#,
+    ),
+    (
+        b"",
+        "work",
+        400,
+        r#"{"code":"InputError","details":{"rule":23},"message":"the request breaks a rule"}"#,
+    ),
+    (
+        b"",
+        "reason",
+        400,
+        r#"{"code":"InputError","details":{"rule":24},"message":"the request breaks a rule"}"#,
+    ),
     (b"", "ping", 200, "{\"alive\":true}"),
     (
         b"",
@@ -192,7 +228,7 @@ const TOO_MANY: [Row; 2] = [
 fn replies_are_those_of_the_reference(rt: HostRuntime) -> Result<(), Fail> {
     assert_eq!(rt;
         first_other(rt.alloc(), &config(rt.alloc(), 9_998)?, &ROWS)?,
-        7
+        11
     );
     assert_eq!(rt;
         first_other(rt.alloc(), &config(rt.alloc(), 9_999)?, &TOO_MANY)?,

@@ -1,125 +1,211 @@
--- The least of some numbers, and what passes a test of them.
-use Rattle.std.proofs.Common.{◌⊎◌, inl, inr, ◌≡◌, ℕ, ◌≤◌, ◌<◌, min, Bool, true, false, ◌||◌, List, [], ◌∷◌, Option, Some, None, refl, ap, sym, subst, ◌∙◌, arith, filter, nat_le, ◌==◌}
-use Rattle.std.specs.List.{list_any, fold, reduce}
-use Rattle.std.proofs.lemmas.Bool.{leb-true, leb-false, le-leb, lt-leb, eq-eqb, eqb-true, or_cases}
+-- What falls due of tasks, and how one of them changes.
+use Rattle.std.proofs.Common.{◌⊎◌, inl, inr, ◌≡◌, ℕ, ◌+◌, ◌≤◌, ◌<◌, Bool, true, false, not, ◌&&◌, ◌||◌, cond, List, [], ◌∷◌, map, length, Option, Some, None, refl, ap, sym, ◌∙◌, arith, nat_le, ◌==◌}
+use Rattle.std.specs.List.{list_any, list_all}
+use Rattle.std.specs.Option.{option_map_or, option_to_list}
+use Rattle.std.proofs.lemmas.Bool.{leb-true, leb-false, lt-leb, eq-eqb, eqb-true, and_parts, or_cases}
 use Rattle.std.proofs.Math.Bool.{or-true}
-use Rattle.run_states.specs.Rows.{Row, is_resolved}
-use Rattle.farm_rows.specs.Contents.{Contents}
-use Rattle.farm_rows.specs.Due.{all_due_moments, is_due, first_due, meets_deadline}
+use Rattle.std.proofs.lemmas.List.Folds.{list_any-append, list_all-append}
+use Rattle.std.proofs.Math.ListN.{length-append}
+use Rattle.run_states.specs.Rows.{Row, is_resolved, claim_due, loses_claim, exceeded, due_moments}
+use Rattle.run_states.specs.Moves.{expired}
+use Rattle.run_states.specs.Later.{RowLater, RowsLater}
+use Rattle.run_states.proofs.LaterLemmas.{RowLater-refl, RowsLater-refl}
+use Rattle.run_states.proofs.ClaimLemmas.{claim-open, resolved-due, exceeded-due, open-due, expired-claim}
+use Rattle.farm_rows.specs.Due.{all_due_moments, meets_deadline, change_first}
 
--- ---- the least
+or_none : (a b : Bool) → (a || b) ≡ false → (a ≡ false) × (b ≡ false)
+or_none true b is = cc
+or_none false b is = (refl, is)
 
--- the lesser of two is at most a number exactly where one of them is
-min-le : (a b m : ℕ) → nat_le (min a b) m ≡ (nat_le a m || nat_le b m)
-min-le a b m = by (nat_le a m) refl (nat_le b m) refl where
-  by : (p : Bool) → nat_le a m ≡ p → (q : Bool) → nat_le b m ≡ q → nat_le (min a b) m ≡ (nat_le a m || nat_le b m)
-  by true is q then = rw is (le-leb (min a b) m (let h : a ≤ m = leb-true a m is in omega arith))
-  by false is true then = rw (is, then) (le-leb (min a b) m (let h : b ≤ m = leb-true b m then in omega arith))
-  by false is false then = rw (is, then) (lt-leb (min a b) m (let h : m < a = leb-false a m is in let k : m < b = leb-false b m then in omega arith))
+-- the parts of a test that fails
+pub any_none : (a b : Bool) → (a || b) ≡ false → (a ≡ false) × (b ≡ false)
+any_none a b is = or_none a b is
 
-or-assoc : (a b c : Bool) → ((a || b) || c) ≡ (a || (b || c))
-or-assoc true b c = refl
-or-assoc false b c = refl
+-- ---- one task
 
--- some number is at most this one exactly where the least is
-least-le : (x m : ℕ) (xs : List ℕ) → list_any (λ d. nat_le d m) (x ∷ xs) ≡ nat_le (fold min x xs) m
-least-le x m [] = or_none (nat_le x m) where
-  or_none : (b : Bool) → (b || false) ≡ b
-  or_none true = refl
-  or_none false = refl
-least-le x m (y ∷ ys) =
-    sym (or-assoc (nat_le x m) (nat_le y m) (list_any (λ d. nat_le d m) ys))
-    ∙ (ap (λ b. b || list_any (λ d. nat_le d m) ys) (sym (min-le x y m)) ∙ least-le (min x y) m ys)
+not-false : (b : Bool) → not b ≡ true → b ≡ false
+not-false true e = cc
+not-false false e = refl
 
--- whether a least number, if there is one, is at most this one
-abbrev pub is_reached : Option ℕ → ℕ → Bool
-is_reached None m = false
-is_reached (Some at) m = nat_le at m
+pub meets : (at : ℕ) (row : Row) → meets_deadline at row ≡ true → (is_resolved row ≡ false) × (row.definition.deadline ≡ at)
+meets at row is =
+    let parts = and_parts (not (is_resolved row)) (row.definition.deadline == at) is in
+    (not-false (is_resolved row) parts.0, eqb-true row.definition.deadline at parts.1)
 
-pub reached_is : (m : ℕ) (xs : List ℕ) → list_any (λ d. nat_le d m) xs ≡ is_reached (reduce min xs) m
-reached_is m [] = refl
-reached_is m (x ∷ xs) = least-le x m xs
+-- the claim of a task that falls due
+pub record Loses (at : ℕ) (row : Row) : Type 0 where
+  pub due : ℕ
+  pub claim : claim_due row ≡ Some due
+  pub reached : nat_le due at ≡ true
 
--- the lesser of two is one of them
-min-among : (x y z : ℕ) → (min x y == z) ≡ true → ((x == z) || (y == z)) ≡ true
-min-among x y z is = by (nat_le x y) refl (eqb-true (min x y) z is) where
-  by : (b : Bool) → nat_le x y ≡ b → min x y ≡ z → ((x == z) || (y == z)) ≡ true
-  by true le same = let h : x ≤ y = leb-true x y le in let e : x ≡ z = omega arith in rw (eq-eqb x z e) refl
-  by false gt same = let h : y < x = leb-false x y gt in let e : y ≡ z = omega arith in rw (eq-eqb y z e) (or-true (x == z))
+pub loses : (at : ℕ) (row : Row) → loses_claim at row ≡ true → Loses at row
+loses at row is = by (claim_due row) refl is where
+  by : (o : Option ℕ) → claim_due row ≡ o → option_map_or (λ due. nat_le due at) o false ≡ true → Loses at row
+  by None claim is = cc
+  by (Some u) claim is = record { due = u; claim = claim; reached = is }
 
--- the least is one of them
-least-among : (x : ℕ) (xs : List ℕ) → list_any (λ d. d == fold min x xs) (x ∷ xs) ≡ true
-least-among x [] = rw (eq-eqb x x refl) refl
-least-among x (y ∷ ys) = by (or_cases (min x y == least) (list_any (λ d. d == least) ys) (least-among (min x y) ys)) where
-  least : ℕ
-  least = fold min (min x y) ys
+-- all that falls due of a task does so at this moment or later
+abbrev pub from : ℕ → Row → Bool
+from at row = list_all (nat_le at) (due_moments row)
 
-  by : ((min x y == least) ≡ true) ⊎ (list_any (λ d. d == least) ys ≡ true) → ((x == least) || ((y == least) || list_any (λ d. d == least) ys)) ≡ true
-  by (inl is) = sym (or-assoc (x == least) (y == least) (list_any (λ d. d == least) ys)) ∙ rw (min-among x y least is) refl
-  by (inr is) = rw is (ap (λ b. (x == least) || b) (or-true (y == least)) ∙ or-true (x == least))
+pub from-rows : (at : ℕ) (rows : List Row) → list_all (nat_le at) (all_due_moments rows) ≡ true → list_all (from at) rows ≡ true
+from-rows at [] all = refl
+from-rows at (row ∷ rows) all =
+    let parts = and_parts (from at row) (list_all (nat_le at) (all_due_moments rows)) (sym (list_all-append (nat_le at) (due_moments row) (all_due_moments rows)) ∙ all) in
+    rw (parts.0, from-rows at rows parts.1) refl
 
-pub reduce-among : (at : ℕ) (xs : List ℕ) → reduce min xs ≡ Some at → list_any (λ d. d == at) xs ≡ true
-reduce-among at [] is = cc
-reduce-among at (x ∷ xs) is =
-    let same : fold min x xs ≡ at = cc in
-    let P : ℕ → Type 0 = λ a. list_any (λ d. d == a) (x ∷ xs) ≡ true in
-    subst P same (least-among x xs)
+pub rows-from : (at : ℕ) (rows : List Row) → list_all (from at) rows ≡ true → list_all (nat_le at) (all_due_moments rows) ≡ true
+rows-from at [] all = refl
+rows-from at (row ∷ rows) all =
+    let parts = and_parts (from at row) (list_all (from at) rows) all in
+    list_all-append (nat_le at) (due_moments row) (all_due_moments rows) ∙ rw (parts.0, rows-from at rows parts.1) refl
 
--- ---- what passes a test
+pub from-deadline : (at : ℕ) (row : Row) → is_resolved row ≡ false → from at row ≡ true → at ≤ row.definition.deadline
+from-deadline at row open_ all =
+    let first = and_parts (nat_le at row.definition.deadline) (list_all (nat_le at) (option_to_list (claim_due row))) (sym (ap (list_all (nat_le at)) (open-due row open_)) ∙ all) in
+    leb-true at row.definition.deadline first.0
 
--- what is among those that pass a test passes it, and is among all
-among-filter : (test : ℕ → Bool) (at : ℕ) (xs : List ℕ) → list_any (λ d. d == at) (filter test xs) ≡ true → (test at ≡ true) × (list_any (λ d. d == at) xs ≡ true)
-among-filter test at [] is = cc
-among-filter test at (x ∷ xs) is = by (among-filter test at xs) (test x) refl where
-  later : (list_any (λ d. d == at) (filter test xs) ≡ true → (test at ≡ true) × (list_any (λ d. d == at) xs ≡ true)) → list_any (λ d. d == at) (filter test xs) ≡ true → (test at ≡ true) × (list_any (λ d. d == at) (x ∷ xs) ≡ true)
-  later rest h = let more = rest h in (more.0, rw more.1 (or-true (x == at)))
+pub from-claim : (at : ℕ) (row : Row) (u : ℕ) → claim_due row ≡ Some u → from at row ≡ true → at ≤ u
+from-claim at row u claim all =
+    let due : due_moments row ≡ row.definition.deadline ∷ u ∷ [] = open-due row (claim-open row u claim) ∙ ap (λ (o : Option ℕ). row.definition.deadline ∷ option_to_list o) claim in
+    let first = and_parts (nat_le at row.definition.deadline) (nat_le at u && true) (sym (ap (list_all (nat_le at)) due) ∙ all) in
+    leb-true at u (and_parts (nat_le at u) true first.1).0
 
-  here : (list_any (λ d. d == at) (filter test xs) ≡ true → (test at ≡ true) × (list_any (λ d. d == at) xs ≡ true)) → test x ≡ true → ((x == at) ≡ true) ⊎ (list_any (λ d. d == at) (filter test xs) ≡ true) → (test at ≡ true) × (list_any (λ d. d == at) (x ∷ xs) ≡ true)
-  here rest passes (inl e) = (ap test (sym (eqb-true x at e)) ∙ passes, rw e refl)
-  here rest passes (inr h) = later rest h
+-- ---- something falls due at this moment: a deadline, or the end of a claim
 
-  by : (list_any (λ d. d == at) (filter test xs) ≡ true → (test at ≡ true) × (list_any (λ d. d == at) xs ≡ true)) → (b : Bool) → test x ≡ b → (test at ≡ true) × (list_any (λ d. d == at) (x ∷ xs) ≡ true)
-  by rest true passes = here rest passes (or_cases (x == at) (list_any (λ d. d == at) (filter test xs)) (rw passes at is))
-  by rest false fails = later rest (rw fails at is)
+-- the deadline of a task that is not resolved is later, where it does not come now
+pub past : (at : ℕ) (row : Row) → is_resolved row ≡ false → from at row ≡ true → meets_deadline at row ≡ false → at < row.definition.deadline
+past at row open_ all no_deadline = by (nat_le row.definition.deadline at) refl where
+  by : (b : Bool) → nat_le row.definition.deadline at ≡ b → at < row.definition.deadline
+  by true le =
+      let h : row.definition.deadline ≤ at = leb-true row.definition.deadline at le in
+      let k : at ≤ row.definition.deadline = from-deadline at row open_ all in
+      let e : row.definition.deadline ≡ at = omega arith in
+      let yes : meets_deadline at row ≡ true = rw (open_, eq-eqb row.definition.deadline at e) refl in
+      let no_ : true ≡ false = sym yes ∙ no_deadline in absurd (cc)
+  by false gt = leb-false row.definition.deadline at gt
 
--- where none passes, none is the least
-none-passes : (test : ℕ → Bool) (xs : List ℕ) → reduce min (filter test xs) ≡ None → list_any test xs ≡ false
-none-passes test [] is = refl
-none-passes test (x ∷ xs) is = by (none-passes test xs) (test x) refl where
-  by : (reduce min (filter test xs) ≡ None → list_any test xs ≡ false) → (b : Bool) → test x ≡ b → list_any test (x ∷ xs) ≡ false
-  by rest true passes = let some : reduce min (x ∷ filter test xs) ≡ None = rw passes at is in cc
-  by rest false fails = rw fails (rest (rw fails at is))
+or_false : (b : Bool) → (b || false) ≡ b
+or_false true = refl
+or_false false = refl
 
--- where some passes, some is the least
-some-passes : (test : ℕ → Bool) (at : ℕ) (xs : List ℕ) → reduce min (filter test xs) ≡ Some at → list_any test xs ≡ true
-some-passes test at [] is = cc
-some-passes test at (x ∷ xs) is = by (some-passes test at xs) (test x) refl where
-  by : (reduce min (filter test xs) ≡ Some at → list_any test xs ≡ true) → (b : Bool) → test x ≡ b → list_any test (x ∷ xs) ≡ true
-  by rest true passes = rw passes refl
-  by rest false fails = rw fails (rest (rw fails at is))
+some-one : (at : ℕ) (row : Row) → from at row ≡ true → list_any (λ due. nat_le due at) (due_moments row) ≡ true → meets_deadline at row ≡ false → loses_claim at row ≡ true
+some-one at row all some_ no_deadline = by (is_resolved row) refl (claim_due row) refl where
+  later : is_resolved row ≡ false → nat_le row.definition.deadline at ≡ false
+  later open_ = lt-leb row.definition.deadline at (past at row open_ all no_deadline)
 
--- ---- what is due of tasks
+  by : (b : Bool) → is_resolved row ≡ b → (o : Option ℕ) → claim_due row ≡ o → loses_claim at row ≡ true
+  by true is o claim = let none : false ≡ true = sym (ap (list_any (λ due. nat_le due at)) (resolved-due row is)) ∙ some_ in cc
+  by false is None claim =
+      let due : due_moments row ≡ row.definition.deadline ∷ [] = open-due row is ∙ ap (λ (o : Option ℕ). row.definition.deadline ∷ option_to_list o) claim in
+      let here : (nat_le row.definition.deadline at || false) ≡ true = sym (ap (list_any (λ due. nat_le due at)) due) ∙ some_ in
+      let none : false ≡ true = sym (ap (λ b. b || false) (later is)) ∙ here in cc
+  by false is (Some u) claim =
+      let due : due_moments row ≡ row.definition.deadline ∷ u ∷ [] = open-due row is ∙ ap (λ (o : Option ℕ). row.definition.deadline ∷ option_to_list o) claim in
+      let here : (nat_le row.definition.deadline at || (nat_le u at || false)) ≡ true = sym (ap (list_any (λ due. nat_le due at)) due) ∙ some_ in
+      let there : (nat_le u at || false) ≡ true = sym (ap (λ b. b || (nat_le u at || false)) (later is)) ∙ here in
+      ap (λ (o : Option ℕ). option_map_or (λ due. nat_le due at) o false) claim ∙ (sym (or_false (nat_le u at)) ∙ there)
 
--- a moment at which something falls due is the deadline of some task that is not resolved
-meets-due : (at : ℕ) (rows : List Row) → list_any (λ d. d == at) (all_due_moments rows) ≡ true → list_any (meets_deadline at) rows ≡ true
-meets-due at [] is = cc
-meets-due at (row ∷ rows) is = by (meets-due at rows) (is_resolved row) refl where
-  one : (list_any (λ d. d == at) (all_due_moments rows) ≡ true → list_any (meets_deadline at) rows ≡ true) → is_resolved row ≡ false → ((row.definition.deadline == at) ≡ true) ⊎ (list_any (λ d. d == at) (all_due_moments rows) ≡ true) → list_any (meets_deadline at) (row ∷ rows) ≡ true
-  one rest open_ (inl e) = rw (open_, e) refl
-  one rest open_ (inr h) = rw (rest h) (or-true (meets_deadline at row))
+pub some-lost : (at : ℕ) (rows : List Row) → list_all (from at) rows ≡ true → list_any (λ due. nat_le due at) (all_due_moments rows) ≡ true → list_any (meets_deadline at) rows ≡ false → list_any (loses_claim at) rows ≡ true
+some-lost at [] all some_ none = cc
+some-lost at (row ∷ rows) all some_ none =
+    by (some-lost at rows) (or_cases (list_any (λ due. nat_le due at) (due_moments row)) (list_any (λ due. nat_le due at) (all_due_moments rows))
+    (sym (list_any-append (λ due. nat_le due at) (due_moments row) (all_due_moments rows)) ∙ some_))
+  where
+    alls : (from at row ≡ true) × (list_all (from at) rows ≡ true)
+    alls = and_parts (from at row) (list_all (from at) rows) all
 
-  by : (list_any (λ d. d == at) (all_due_moments rows) ≡ true → list_any (meets_deadline at) rows ≡ true) → (b : Bool) → is_resolved row ≡ b → list_any (meets_deadline at) (row ∷ rows) ≡ true
-  by rest true resolved = rw resolved (rest (rw resolved at is))
-  by rest false open_ = one rest open_ (or_cases (row.definition.deadline == at) (list_any (λ d. d == at) (all_due_moments rows)) (rw open_ at is))
+    nones : (meets_deadline at row ≡ false) × (list_any (meets_deadline at) rows ≡ false)
+    nones = any_none (meets_deadline at row) (list_any (meets_deadline at) rows) none
 
--- what falls due first does so by this moment, and some task meets it
-pub first_due-meets : (contents : Contents) (moment at : ℕ) → first_due contents moment ≡ Some at → (nat_le at moment ≡ true) × (list_any (meets_deadline at) contents.rows ≡ true)
-first_due-meets contents moment at is =
-    let found = among-filter (λ due. nat_le due moment) at (all_due_moments contents.rows) (reduce-among at (filter (λ due. nat_le due moment) (all_due_moments contents.rows)) is) in
-    (found.0, meets-due at contents.rows found.1)
+    by : (list_all (from at) rows ≡ true → list_any (λ due. nat_le due at) (all_due_moments rows) ≡ true → list_any (meets_deadline at) rows ≡ false → list_any (loses_claim at) rows ≡ true)
+        → (list_any (λ due. nat_le due at) (due_moments row) ≡ true) ⊎ (list_any (λ due. nat_le due at) (all_due_moments rows) ≡ true) → list_any (loses_claim at) (row ∷ rows) ≡ true
+    by rest (inl here) = rw (some-one at row alls.0 here nones.0) refl
+    by rest (inr there) = rw (rest alls.1 there nones.1) (or-true (loses_claim at row))
 
-pub first_due-none : (contents : Contents) (moment : ℕ) → first_due contents moment ≡ None → is_due contents moment ≡ false
-first_due-none contents moment is = none-passes (λ due. nat_le due moment) (all_due_moments contents.rows) is
+-- and the other way: a claim that ends falls due
+pub lost-due : (at : ℕ) (rows : List Row) → list_any (loses_claim at) rows ≡ true → list_any (λ due. nat_le due at) (all_due_moments rows) ≡ true
+lost-due at [] some_ = cc
+lost-due at (row ∷ rows) some_ = by (lost-due at rows) (or_cases (loses_claim at row) (list_any (loses_claim at) rows) some_) where
+  split : list_any (λ due. nat_le due at) (all_due_moments (row ∷ rows)) ≡ (list_any (λ due. nat_le due at) (due_moments row) || list_any (λ due. nat_le due at) (all_due_moments rows))
+  split = list_any-append (λ due. nat_le due at) (due_moments row) (all_due_moments rows)
 
-pub first_due-some : (contents : Contents) (moment at : ℕ) → first_due contents moment ≡ Some at → is_due contents moment ≡ true
-first_due-some contents moment at is = some-passes (λ due. nat_le due moment) at (all_due_moments contents.rows) is
+  one : loses_claim at row ≡ true → list_any (λ due. nat_le due at) (due_moments row) ≡ true
+  one is =
+      let l = loses at row is in
+      let due : due_moments row ≡ row.definition.deadline ∷ l.due ∷ [] = open-due row (claim-open row l.due l.claim) ∙ ap (λ (o : Option ℕ). row.definition.deadline ∷ option_to_list o) l.claim in
+      ap (list_any (λ d. nat_le d at)) due ∙ (ap (λ b. nat_le row.definition.deadline at || (b || false)) l.reached ∙ or-true (nat_le row.definition.deadline at))
+
+  by : (list_any (loses_claim at) rows ≡ true → list_any (λ due. nat_le due at) (all_due_moments rows) ≡ true) → (loses_claim at row ≡ true) ⊎ (list_any (loses_claim at) rows ≡ true)
+      → list_any (λ due. nat_le due at) (all_due_moments (row ∷ rows)) ≡ true
+  by rest (inl here) = split ∙ ap (λ b. b || list_any (λ due. nat_le due at) (all_due_moments rows)) (one here)
+  by rest (inr there) = split ∙ (ap (λ b. list_any (λ due. nat_le due at) (due_moments row) || b) (rest there) ∙ or-true (list_any (λ due. nat_le due at) (due_moments row)))
+
+-- ---- a task that is changed has fewer moments at which something of it falls due
+
+meets-fewer : (at : ℕ) (row : Row) → meets_deadline at row ≡ true → length (due_moments (exceeded at row)) < length (due_moments row)
+meets-fewer at row is =
+    let before : length (due_moments row) ≡ length (row.definition.deadline ∷ option_to_list (claim_due row)) = ap length (open-due row (meets at row is).0) in
+    let after : length (due_moments (exceeded at row)) ≡ 0 = ap length (exceeded-due at row) in
+    omega arith
+
+due-few : (row : Row) → claim_due row ≡ None → length (due_moments row) ≤ 1
+due-few row none = by (is_resolved row) refl where
+  by : (b : Bool) → is_resolved row ≡ b → length (due_moments row) ≤ 1
+  by true is = let e : length (due_moments row) ≡ 0 = ap length (resolved-due row is) in omega arith
+  by false is = let e : length (due_moments row) ≡ 1 = ap length (open-due row is ∙ ap (λ (o : Option ℕ). row.definition.deadline ∷ option_to_list o) none) in omega arith
+
+loses-fewer : (number at : ℕ) (row : Row) → loses_claim at row ≡ true → length (due_moments (expired number at row)) < length (due_moments row)
+loses-fewer number at row is =
+    let l = loses at row is in
+    let before : length (due_moments row) ≡ 2 = ap length (open-due row (claim-open row l.due l.claim) ∙ ap (λ (o : Option ℕ). row.definition.deadline ∷ option_to_list o) l.claim) in
+    let after = due-few (expired number at row) (expired-claim number at row is) in
+    omega arith
+
+-- ---- the first of a list that passes a test is changed
+
+change-fewer : (test : Row → Bool) (f : Row → Row) (rows : List Row) → ((row : Row) → test row ≡ true → length (due_moments (f row)) < length (due_moments row)) → list_any test rows ≡ true
+    → length (all_due_moments (change_first test f rows)) < length (all_due_moments rows)
+change-fewer test f [] fewer some_ = cc
+change-fewer test f (row ∷ rows) fewer some_ = by (change-fewer test f rows fewer) (test row) refl where
+  by : (list_any test rows ≡ true → length (all_due_moments (change_first test f rows)) < length (all_due_moments rows)) → (b : Bool) → test row ≡ b
+      → length (all_due_moments (change_first test f (row ∷ rows))) < length (all_due_moments (row ∷ rows))
+  by rest true is =
+      let here = fewer row is in
+      let after : length (all_due_moments (change_first test f (row ∷ rows))) ≡ length (due_moments (f row)) + length (all_due_moments rows) =
+      ap (λ b. length (all_due_moments (cond b (f row ∷ rows) (row ∷ change_first test f rows)))) is ∙ length-append (due_moments (f row)) (all_due_moments rows) in
+      let before : length (all_due_moments (row ∷ rows)) ≡ length (due_moments row) + length (all_due_moments rows) = length-append (due_moments row) (all_due_moments rows) in
+      omega arith
+  by rest false is =
+      let there = rest (rw is at some_) in
+      let after : length (all_due_moments (change_first test f (row ∷ rows))) ≡ length (due_moments row) + length (all_due_moments (change_first test f rows)) =
+      ap (λ b. length (all_due_moments (cond b (f row ∷ rows) (row ∷ change_first test f rows)))) is ∙ length-append (due_moments row) (all_due_moments (change_first test f rows)) in
+      let before : length (all_due_moments (row ∷ rows)) ≡ length (due_moments row) + length (all_due_moments rows) = length-append (due_moments row) (all_due_moments rows) in
+      omega arith
+
+pub meets-turn : (at : ℕ) (rows : List Row) → list_any (meets_deadline at) rows ≡ true → length (all_due_moments (change_first (meets_deadline at) (exceeded at) rows)) < length (all_due_moments rows)
+meets-turn at rows some_ = change-fewer (meets_deadline at) (exceeded at) rows (meets-fewer at) some_
+
+pub loses-turn : (number at : ℕ) (rows : List Row) → list_any (loses_claim at) rows ≡ true → length (all_due_moments (change_first (loses_claim at) (expired number at) rows)) < length (all_due_moments rows)
+loses-turn number at rows some_ = change-fewer (loses_claim at) (expired number at) rows (loses-fewer number at) some_
+
+pub change-stays : (test : Row → Bool) (f : Row → Row) → ((row : Row) → RowLater row (f row)) → (rows : List Row) → RowsLater rows (change_first test f rows)
+change-stays test f later [] = tt
+change-stays test f later (row ∷ rows) = by (change-stays test f later rows) (test row) refl where
+  by : RowsLater rows (change_first test f rows) → (b : Bool) → test row ≡ b → RowsLater (row ∷ rows) (change_first test f (row ∷ rows))
+  by rest true is = rw is (later row, RowsLater-refl rows)
+  by rest false is = rw is (RowLater-refl row, rest)
+
+pub change-ids : (test : Row → Bool) (f : Row → Row) → ((row : Row) → RowLater row (f row)) → (rows : List Row) → map (λ row. row.id) (change_first test f rows) ≡ map (λ row. row.id) rows
+change-ids test f later [] = refl
+change-ids test f later (row ∷ rows) = by (change-ids test f later rows) (test row) refl where
+  by : map (λ row. row.id) (change_first test f rows) ≡ map (λ row. row.id) rows → (b : Bool) → test row ≡ b → map (λ row. row.id) (change_first test f (row ∷ rows)) ≡ map (λ row. row.id) (row ∷ rows)
+  by rest true is = rw is (ap (λ (id : List ℕ). id ∷ map (λ row. row.id) rows) (later row).id)
+  by rest false is = rw is (ap (λ (ids : List (List ℕ)). row.id ∷ ids) rest)
+
+pub change-length : (test : Row → Bool) (f : Row → Row) (rows : List Row) → length (change_first test f rows) ≡ length rows
+change-length test f [] = refl
+change-length test f (row ∷ rows) = by (change-length test f rows) (test row) refl where
+  by : length (change_first test f rows) ≡ length rows → (b : Bool) → test row ≡ b → length (change_first test f (row ∷ rows)) ≡ length (row ∷ rows)
+  by rest true is = rw is refl
+  by rest false is = rw is (omega arith)

@@ -13,15 +13,19 @@ use Rattle.task_defs.specs.Faults.{AllHold}
 use Rattle.task_defs.specs.Alone.{alone_rules}
 use Rattle.run_states.specs.Rows.{Row, new_row, scheduled}
 use Rattle.run_states.specs.Later.{RowsLater}
-use Rattle.run_states.proofs.LaterLemmas.{RowLater-refl, RowsLater-refl}
+use Rattle.run_states.specs.Moves.{run_again, canceled, claimed, reclaimed, resolved}
+use Rattle.run_states.proofs.LaterLemmas.{RowLater-refl, RowsLater-refl, RowsLater-trans, again-later, claimed-later, canceled-later, reclaimed-later, resolved-later}
 use Rattle.farm_record.specs.declared.change.Change.{Change}
 use Rattle.farm_record.specs.declared.change.Creation.{Creation}
 use Rattle.farm_record.specs.declared.change.Kind.{Kind}
-use Rattle.farm_record.specs.declared.change.Kind.TheVariants.{Tick, Create}
+use Rattle.farm_record.specs.declared.change.Kind.TheVariants.{Tick, Create, Rerun, Cancel, Claim as TakesRuns, Reclaim, Resolve}
+use Rattle.farm_record.specs.declared.change.RunName.{RunName}
+use Rattle.run_states.specs.declared.run.Claim.{Claim as RunClaim}
 use Rattle.farm_rows.specs.Contents.{Contents, row_with, HaveOwnIds}
 use Rattle.farm_rows.specs.Due.{is_due}
-use Rattle.farm_rows.specs.Changes.{is_alone, may_create, creating, may_apply, after_kind, applied}
+use Rattle.farm_rows.specs.Changes.{is_alone, may_create, creating, may_apply, has_id, reason_of, change_row, claim_of, all_claimed, after_kind, applied}
 use Rattle.farm_rows.proofs.AdvanceLemmas.{advance-stays, advance-ids}
+use Rattle.farm_rows.proofs.DueLemmas.{change-stays, change-ids}
 
 bytes_eq-refl : (bs : List ℕ) → bytes_eq bs bs ≡ true
 bytes_eq-refl bs = (bytes_eq-Decides bs bs).1 refl
@@ -73,14 +77,32 @@ other-ids id (row ∷ rows) none = by (other-ids id rows) (bytes_eq row.id id) r
   by rest true is = let some : Some row ≡ None = rw is at none in cc
   by rest false is = rw (bytes_eq-other row.id id is) (rest (rw is at none))
 
-created-ids : (rows : List Row) (row : Row) → HaveOwnIds rows → row_with row.id rows ≡ None → HaveOwnIds (rows ++ row ∷ [])
+pub created-ids : (rows : List Row) (row : Row) → HaveOwnIds rows → row_with row.id rows ≡ None → HaveOwnIds (rows ++ row ∷ [])
 created-ids rows row own none =
     rw (map-append (λ (row : Row). row.id) rows (row ∷ [])) (IsDistinct-push nat_list_eq_equiv (map (λ row. row.id) rows) row.id own (other-ids row.id rows none))
+
+-- runs that are claimed, one after the other
+pub claimed-ids : (claim : RunClaim) (names : List RunName) (rows : List Row) → map (λ row. row.id) (all_claimed claim names rows) ≡ map (λ row. row.id) rows
+claimed-ids claim [] rows = refl
+claimed-ids claim (name ∷ names) rows =
+    claimed-ids claim names (change_row name.id (claimed claim) rows) ∙ change-ids (has_id name.id) (claimed claim) (claimed-later claim) rows
+
+claimed-stays : (claim : RunClaim) (names : List RunName) (rows : List Row) → RowsLater rows (all_claimed claim names rows)
+claimed-stays claim [] rows = RowsLater-refl rows
+claimed-stays claim (name ∷ names) rows =
+    let next : List Row = change_row name.id (claimed claim) rows in
+    RowsLater-trans rows next (all_claimed claim names next) (change-stays (has_id name.id) (claimed claim) (claimed-later claim) rows) (claimed-stays claim names next)
 
 after-ids : (contents : Contents) (at : ℕ) (kind : Kind) → HaveOwnIds contents.rows → may_apply contents (record { at = at; kind = kind }) ≡ true → HaveOwnIds (after_kind contents at kind).rows
 after-ids contents at Tick own may = advance-ids contents at own
 after-ids contents at (Create creation) own may =
     created-ids contents.rows (scheduled contents.next at (new_row creation.id creation.definition)) own (may-create contents at creation may).1
+after-ids contents at (Rerun id) own may = rw (change-ids (has_id id) (run_again contents.next at) (again-later contents.next at) contents.rows) own
+after-ids contents at (Cancel id) own may = rw (change-ids (has_id id) (canceled at) (canceled-later at) contents.rows) own
+after-ids contents at (TakesRuns claim) own may = rw (claimed-ids (claim_of at claim) claim.runs contents.rows) own
+after-ids contents at (Reclaim r) own may = rw (change-ids (has_id r.id) (reclaimed r.run r.taken_until) (reclaimed-later r.run r.taken_until) contents.rows) own
+after-ids contents at (Resolve r) own may =
+    rw (change-ids (has_id r.id) (resolved r.run (reason_of r.reason) contents.next at) (resolved-later r.run (reason_of r.reason) contents.next at) contents.rows) own
 after-ids contents at _ own may = own
 
 pub applied-ids : (contents : Contents) (change : Change) → HaveOwnIds contents.rows → may_apply contents change ≡ true → HaveOwnIds (applied contents change).rows
@@ -96,6 +118,12 @@ more-stay (first ∷ rows) row = (RowLater-refl first, more-stay rows row)
 after-stays : (contents : Contents) (at : ℕ) (kind : Kind) → RowsLater contents.rows (after_kind contents at kind).rows
 after-stays contents at Tick = advance-stays contents at
 after-stays contents at (Create creation) = more-stay contents.rows (scheduled contents.next at (new_row creation.id creation.definition))
+after-stays contents at (Rerun id) = change-stays (has_id id) (run_again contents.next at) (again-later contents.next at) contents.rows
+after-stays contents at (Cancel id) = change-stays (has_id id) (canceled at) (canceled-later at) contents.rows
+after-stays contents at (TakesRuns claim) = claimed-stays (claim_of at claim) claim.runs contents.rows
+after-stays contents at (Reclaim r) = change-stays (has_id r.id) (reclaimed r.run r.taken_until) (reclaimed-later r.run r.taken_until) contents.rows
+after-stays contents at (Resolve r) =
+    change-stays (has_id r.id) (resolved r.run (reason_of r.reason) contents.next at) (resolved-later r.run (reason_of r.reason) contents.next at) contents.rows
 after-stays contents at _ = RowsLater-refl contents.rows
 
 pub applied-stays : (contents : Contents) (change : Change) → RowsLater contents.rows (applied contents change).rows

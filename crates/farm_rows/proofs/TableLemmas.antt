@@ -1,23 +1,30 @@
 -- What the tables keep: a tick, and a task more.
-use Rattle.std.proofs.Common.{◌≡◌, ℕ, ◌≤◌, ◌<◌, ◌+◌, min, max, true, false, List, [], ◌∷◌, ◌++◌, map, length, Option, Some, refl, ap, sym, ◌∙◌, subst, arith}
-use Rattle.std.specs.List.{fold, reduce}
-use Rattle.std.specs.Option.{option_map_or}
+use Rattle.std.proofs.Common.{◌≡◌, ℕ, ◌≤◌, ◌<◌, ◌+◌, min, max, true, false, ◌&&◌, List, [], ◌∷◌, ◌++◌, length, filter, Option, Some, None, refl, ap, sym, ◌∙◌, subst, arith, nat_le, append-nil, take, get_or}
+use Rattle.std.specs.List.{reduce, list_all}
+use Rattle.std.specs.Option.{option_to_list}
 use Rattle.std.proofs.lemmas.Bool.{ltb-true, leb-true}
 use Rattle.std.proofs.lemmas.List.Concat.{flat_map-append}
+use Rattle.std.proofs.lemmas.List.Sums.{fold-append, sum_by_push}
+use Rattle.std.proofs.lemmas.List.Folds.{list_all-append}
+use Rattle.std.proofs.lemmas.List.{take_more}
+use Rattle.std.proofs.lemmas.List.Elements.{filter-append}
 use Rattle.std.proofs.Math.ListN.{length-append}
 use Rattle.farm_text.specs.declared.moment.TheConstants.{LAST_TOLD_MOMENT}
-use Rattle.run_states.specs.Rows.{Row, new_row, scheduled, due_moments}
+use Rattle.run_states.specs.Rows.{Row, new_row, scheduled, claim_due, due_moments}
 use Rattle.farm_record.specs.declared.change.Change.{Change}
 use Rattle.farm_record.specs.declared.change.Creation.{Creation}
-use Rattle.farm_rows.specs.Contents.{Contents}
+use Rattle.farm_rows.specs.Contents.{Contents, row_with, HaveOwnIds}
 use Rattle.farm_rows.specs.Due.{all_due_moments, is_due, advance}
-use Rattle.farm_rows.specs.Changes.{creating, may_apply, applied}
-use Rattle.farm_rows.specs.Plans.{Planned, room_for, IsPlanOn}
-use Rattle.farm_rows.specs.Sweep.{swept, soonest_of, IsKept}
-use Rattle.farm_rows.proofs.AdvanceLemmas.{advance-swept}
-use Rattle.farm_rows.proofs.IdLemmas.{may-create}
+use Rattle.farm_rows.specs.Changes.{creating, applied}
+use Rattle.farm_rows.specs.Plans.{room_for, IsPlanOn}
+use Rattle.farm_rows.specs.Deeds.{planned_of}
+use Rattle.farm_rows.specs.declared.plan.Deed.TheVariants.{Create}
+use Rattle.farm_rows.specs.Sweep.{claim_ends, first_lost, numbered, all_turns, soonest_of, runs_made, fits, IsKept}
+use Rattle.farm_rows.proofs.AdvanceLemmas.{advance-is}
+use Rattle.farm_rows.proofs.FitLemmas.{fits-of}
+use Rattle.farm_rows.proofs.IdLemmas.{may-create, created-stands, created-ids}
 use Rattle.farm_rows.proofs.RoomLemmas.{room-enough}
-use Rattle.farm_rows.proofs.SweepLemmas.{idle}
+use Rattle.farm_rows.proofs.TurnLemmas.{with_last, idle-first, all-idle, all-last, all-keeps}
 
 -- the contents of these parts
 abbrev contents_of : List Row → ℕ → ℕ → Contents
@@ -25,34 +32,45 @@ contents_of rows last next = record { rows = rows; last = last; next = next }
 
 -- ---- a tick
 
--- where nothing is due, a pass over the tasks leaves the contents
-pub sweep-idle : (contents : Contents) (moment : ℕ) → is_due contents moment ≡ false → contents ≡ contents_of (map (swept moment) contents.rows) contents.last contents.next
-sweep-idle contents moment none = ap (λ (rows : List Row). contents_of rows contents.last contents.next) (sym (idle moment contents.rows none))
+-- where nothing is due, all turns leave the contents
+pub turns-idle : (contents : Contents) (moment : ℕ) → is_due contents moment ≡ false → contents ≡ all_turns contents moment
+turns-idle contents moment none = sym (all-idle contents moment (idle-first contents moment none))
 
--- a pass over the tasks, and then the moment, is an advance
-pub tick-advances : (before after : Contents) (moment reached : ℕ) → after ≡ contents_of (map (swept moment) before.rows) before.last before.next → reached ≡ max after.last moment → contents_of after.rows reached after.next ≡ advance before moment
-tick-advances before after moment reached swept_is is =
-    let last : after.last ≡ before.last = ap (λ (c : Contents). c.last) swept_is in
+-- all turns of the tasks and the next number are all turns of the contents
+pub turns-numbered : (contents : Contents) (rows : List Row) (last next moment : ℕ) (new : List Row) (drawn : ℕ) → contents_of rows last next ≡ contents → all_turns (numbered rows next) moment ≡ numbered new drawn
+    → contents_of new last drawn ≡ all_turns contents moment
+turns-numbered contents rows last next moment new drawn same turns =
+    sym (sym (ap (λ (c : Contents). all_turns c moment) same) ∙ (all-last (numbered rows next) moment last ∙ ap (with_last last) turns))
+
+-- all turns, and then the moment, are an advance
+pub tick-advances : (before after : Contents) (moment reached : ℕ) → after ≡ all_turns before moment → reached ≡ max after.last moment → contents_of after.rows reached after.next ≡ advance before moment
+tick-advances before after moment reached turns is =
+    let last : after.last ≡ before.last = ap (λ (c : Contents). c.last) turns ∙ all-keeps before moment in
     let max_is : reached ≡ max before.last moment = is ∙ ap (λ l. max l moment) last in
-    ap (λ (c : Contents). contents_of c.rows reached c.next) swept_is
-    ∙ (ap (λ l. contents_of (map (swept moment) before.rows) l before.next) max_is ∙ sym (advance-swept before moment))
+    ap (λ (c : Contents). contents_of c.rows reached c.next) turns
+    ∙ (ap (λ l. contents_of (all_turns before moment).rows l (all_turns before moment).next) max_is ∙ sym (advance-is before moment))
+
+-- ---- what falls due first, with one task more
+
+reduce-join : (xs ys : List ℕ) → reduce min (option_to_list (reduce min xs) ++ ys) ≡ reduce min (xs ++ ys)
+reduce-join [] ys = refl
+reduce-join (x ∷ xs) ys = ap Some (sym (fold-append min x xs ys))
+
+pub soonest-more : (rows : List Row) (row : Row) → soonest_of (rows ++ row ∷ []) ≡ reduce min (option_to_list (soonest_of rows) ++ due_moments row)
+soonest-more rows row =
+    let all : all_due_moments (rows ++ row ∷ []) ≡ all_due_moments rows ++ due_moments row =
+    flat_map-append due_moments rows (row ∷ []) ∙ ap (λ (ds : List ℕ). all_due_moments rows ++ ds) (append-nil (due_moments row)) in
+    ap (reduce min) all ∙ sym (reduce-join (all_due_moments rows) (due_moments row))
+
+pub lost-more : (moment : ℕ) (rows : List Row) (row : Row) → first_lost (rows ++ row ∷ []) moment ≡ reduce min (option_to_list (first_lost rows moment) ++ filter (λ due. nat_le due moment) (option_to_list (claim_due row)))
+lost-more moment rows row =
+    let ends : claim_ends (rows ++ row ∷ []) ≡ claim_ends rows ++ option_to_list (claim_due row) =
+    flat_map-append (λ (r : Row). option_to_list (claim_due r)) rows (row ∷ []) ∙ ap (λ (ds : List ℕ). claim_ends rows ++ ds) (append-nil (option_to_list (claim_due row))) in
+    ap (λ (ds : List ℕ). reduce min (filter (λ due. nat_le due moment) ds)) ends
+    ∙ (ap (reduce min) (filter-append (λ due. nat_le due moment) (claim_ends rows) (option_to_list (claim_due row)))
+    ∙ sym (reduce-join (filter (λ due. nat_le due moment) (claim_ends rows)) (filter (λ due. nat_le due moment) (option_to_list (claim_due row)))))
 
 -- ---- a task more
-
-fold-more : (x d : ℕ) (xs : List ℕ) → fold min x (xs ++ d ∷ []) ≡ min (fold min x xs) d
-fold-more x d [] = refl
-fold-more x d (y ∷ ys) = fold-more (min x y) d ys
-
-reduce-more : (d : ℕ) (xs : List ℕ) → reduce min (xs ++ d ∷ []) ≡ Some (option_map_or (λ at. min at d) (reduce min xs) d)
-reduce-more d [] = refl
-reduce-more d (x ∷ xs) = ap Some (fold-more x d xs)
-
--- what falls due first, with one task more
-soonest-more : (rows : List Row) (row : Row) (d : ℕ) → due_moments row ≡ d ∷ [] → soonest_of (rows ++ row ∷ []) ≡ Some (option_map_or (λ at. min at d) (soonest_of rows) d)
-soonest-more rows row d due =
-    let all : all_due_moments (rows ++ row ∷ []) ≡ all_due_moments rows ++ d ∷ [] =
-    flat_map-append due_moments rows (row ∷ []) ∙ ap (λ (ds : List ℕ). all_due_moments rows ++ (ds ++ [])) due in
-    ap (reduce min) all ∙ reduce-more d (all_due_moments rows)
 
 -- what a plan of a creation tells
 pub record Fits (rows : List Row) (at had brought : ℕ) : Type 0 where
@@ -61,51 +79,62 @@ pub record Fits (rows : List Row) (at had brought : ℕ) : Type 0 where
   pub few : length rows < 1_000_000
   pub told : at ≤ LAST_TOLD_MOMENT
 
-pub plan-fits : (contents : Contents) (plan : Planned) (rows : List Row) (at had brought : ℕ) (creation : Creation) → IsPlanOn contents plan → rows ≡ contents.rows → creating at creation ≡ plan.change → brought ≡ plan.room → room_for (length rows) ≤ had → Fits rows at had brought
-plan-fits contents plan rows at had brought creation planned same is brings keeps =
-    let may : may_apply contents (creating at creation) ≡ true = ap (may_apply contents) is ∙ planned.lawful in
-    let told = leb-true at LAST_TOLD_MOMENT (may-create contents at creation may).0 in
+pub plan-fits : (contents : Contents) (rows : List Row) (at had brought : ℕ) (row : Row) → IsPlanOn contents (planned_of at (Create row) [] brought) → rows ≡ contents.rows → room_for (length rows) ≤ had → Fits rows at had brought
+plan-fits contents rows at had brought row planned same keeps =
+    let creation : Creation = record { id = row.id; definition = row.definition } in
+    let may = may-create contents at creation planned.lawful in
+    let told = leb-true at LAST_TOLD_MOMENT may.0 in
     let len : length rows ≡ length contents.rows = ap length same in
-    let few : length contents.rows < 1_000_000 = ltb-true (length contents.rows) 1_000_000 (may-create contents at creation may).2 in
+    let few : length contents.rows < 1_000_000 = ltb-true (length contents.rows) 1_000_000 may.2 in
     let few_rows : length rows < 1_000_000 = omega arith in
-    let P : ℕ → Type 0 = λ n. room_for (n + 1) ≤ max (room_for n) plan.room in
-    let room : room_for (length rows + 1) ≤ max (room_for (length rows)) plan.room = subst P (sym len) planned.room in
+    let P : ℕ → Type 0 = λ n. room_for (n + 1) ≤ max (room_for n) brought in
+    let room : room_for (length rows + 1) ≤ max (room_for (length rows)) brought = subst P (sym len) planned.room in
     let enough : length rows + 1 ≤ room_for (length rows + 1) = room-enough (length rows + 1) (omega arith) in
     record { room = omega arith; kept = omega arith; few = few_rows; told = told }
 
 -- what the tables keep, with one task more
-pub kept-more : (rows new : List Row) (row : Row) (last at next d : ℕ) (soonest then : Option ℕ) (had brought capacity : ℕ) → IsKept rows last next soonest had → Fits rows at had brought → new ≡ rows ++ row ∷ [] → due_moments row ≡ d ∷ [] → then ≡ Some (option_map_or (λ at. min at d) soonest d) → max had brought ≤ capacity → IsKept new at (next + 1) then capacity
-kept-more rows new row last at next d soonest then had brought capacity kept fits is due earlier made =
+pub kept-more : (rows new : List Row) (row : Row) (last at next : ℕ) (soonest then : Option ℕ) (had brought capacity : ℕ) → IsKept rows last next soonest had → Fits rows at had brought → new ≡ rows ++ row ∷ [] → fits row ≡ true → length row.runs ≡ 1 → row_with row.id rows ≡ None
+    → then ≡ reduce min (option_to_list soonest ++ due_moments row) → max had brought ≤ capacity → IsKept new at (next + 1) then capacity
+kept-more rows new row last at next soonest then had brought capacity kept fit_ is row_fits one unknown earlier made =
     let len : length new ≡ length rows + 1 = ap length is ∙ (length-append rows (row ∷ []) ∙ refl) in
     let P : ℕ → Type 0 = λ n. room_for n ≤ capacity in
-    let room : room_for (length rows + 1) ≤ capacity = (let h = fits.kept in omega arith) in
+    let room : room_for (length rows + 1) ≤ capacity = (let h = fit_.kept in omega arith) in
+    let sum : runs_made new ≡ runs_made rows + length row.runs = ap runs_made is ∙ sum_by_push (λ (r : Row). length r.runs) rows row in
     record {
-      told = fits.told;
-      few = (let h = fits.few in omega arith);
+      told = fit_.told;
+      few = (let h = fit_.few in omega arith);
+      own = subst HaveOwnIds (sym is) (created-ids rows row kept.own unknown);
+      fit = ap (list_all fits) is ∙ (list_all-append fits rows (row ∷ []) ∙ (ap (λ b. b && (fits row && true)) kept.fit ∙ ap (λ b. b && true) row_fits));
       drawn = (let h = kept.drawn in omega arith);
       room = subst P (sym len) room;
-      soonest_is = earlier ∙ (ap (λ o. Some (option_map_or (λ at. min at d) o d)) kept.soonest_is ∙ (sym (soonest-more rows row d due) ∙ ap soonest_of (sym is)));
+      soonest_is = earlier ∙ (ap (λ (o : Option ℕ). reduce min (option_to_list o ++ due_moments row)) kept.soonest_is ∙ (sym (soonest-more rows row) ∙ ap soonest_of (sym is)));
     }
 
 -- a task as a plan has it, scheduled
 pub planned-scheduled : (row planned : Row) (number at : ℕ) → row ≡ scheduled number at planned → planned ≡ new_row planned.id planned.definition → row ≡ scheduled number at (new_row planned.id planned.definition)
 planned-scheduled row planned number at is fresh = is ∙ ap (scheduled number at) fresh
 
-pub planned-due : (row planned : Row) (number at : ℕ) → row ≡ scheduled number at planned → planned ≡ new_row planned.id planned.definition → due_moments row ≡ row.definition.deadline ∷ []
-planned-due row planned number at is fresh =
+pub planned-fits : (row planned : Row) (number at : ℕ) → row ≡ scheduled number at planned → planned ≡ new_row planned.id planned.definition → (fits row ≡ true) × (length row.runs ≡ 1)
+planned-fits row planned number at is fresh =
     let whole = planned-scheduled row planned number at is fresh in
-    let P : Row → Type 0 = λ r. due_moments r ≡ r.definition.deadline ∷ [] in
-    subst P (sym whole) refl
-
--- what a plan holds of a task that is created
-abbrev pub plan_of : ℕ → Row → ℕ → Planned
-plan_of at row room = record { change = creating at (record { id = row.id; definition = row.definition }); row = row; room = room }
+    let made : Row = scheduled number at (new_row planned.id planned.definition) in
+    let fit_ : fits made ≡ true = fits-of made (omega arith) (omega arith) in
+    (ap fits whole ∙ fit_, ap (λ (r : Row). length r.runs) whole)
 
 -- the task of a plan is the new one, scheduled
-pub named : (contents : Contents) (plan : Planned) (rows : List Row) (last next at room : ℕ) (row : Row) → contents_of rows last next ≡ contents → plan_of at row room ≡ plan → IsPlanOn contents plan
-    → row ≡ scheduled next at (new_row row.id row.definition)
-named contents plan rows last next at room row same is planned =
-    let here : IsPlanOn (contents_of rows last next) (plan_of at row room) = rw (same, is) planned in here.names
+pub named : (contents : Contents) (rows : List Row) (last next at room : ℕ) (row : Row) → contents_of rows last next ≡ contents → IsPlanOn contents (planned_of at (Create row) [] room) → row ≡ scheduled next at (new_row row.id row.definition)
+named contents rows last next at room row same planned =
+    let here : IsPlanOn (contents_of rows last next) (planned_of at (Create row) [] room) = rw same planned in
+    let creation : Creation = record { id = row.id; definition = row.definition } in
+    let stands = created-stands (contents_of rows last next) at creation here.lawful in
+    let made : row ∷ [] ≡ scheduled next at (new_row row.id row.definition) ∷ [] = here.shows ∙ ap (λ (o : Option Row). option_to_list o ++ []) stands in
+    cc
+
+-- no task has its id
+pub planned-unknown : (contents : Contents) (rows : List Row) (last next at room : ℕ) (row : Row) → contents_of rows last next ≡ contents → IsPlanOn contents (planned_of at (Create row) [] room) → row_with row.id rows ≡ None
+planned-unknown contents rows last next at room row same planned =
+    let here : IsPlanOn (contents_of rows last next) (planned_of at (Create row) [] room) = rw same planned in
+    (may-create (contents_of rows last next) at (record { id = row.id; definition = row.definition }) here.lawful).1
 
 -- a task that was planned is created
 pub applied-made : (contents : Contents) (change : Change) (rows new : List Row) (last next at : ℕ) (row planned : Row) → contents_of rows last next ≡ contents → creating at (record { id = planned.id; definition = planned.definition }) ≡ change → new ≡ rows ++ row ∷ [] → row ≡ scheduled next at planned → planned ≡ new_row planned.id planned.definition → contents_of new at (next + 1) ≡ applied contents change
@@ -113,3 +142,19 @@ unfolding applied
 applied-made contents change rows new last next at row planned same is made draws fresh =
     ap (λ (rs : List Row). contents_of rs at (next + 1)) (made ∙ ap (λ (r : Row). rows ++ r ∷ []) (planned-scheduled row planned next at draws fresh))
     ∙ (ap (applied (contents_of rows last next)) is ∙ ap (λ (c : Contents). applied c change) same)
+
+-- ---- loops over the tasks
+
+more-rows : (rows : List Row) (i : ℕ) (item : Row) → i < length rows → item ≡ get_or rows i item → take (i + 1) rows ≡ take i rows ++ item ∷ []
+more-rows rows i item lt is = take_more rows i item lt ∙ ap (λ (r : Row). take i rows ++ r ∷ []) (sym is)
+
+pub soonest-step : (rows : List Row) (i : ℕ) (item : Row) (so_far then : Option ℕ) → i < length rows → so_far ≡ soonest_of (take i rows) → then ≡ reduce min (option_to_list so_far ++ due_moments item) → item ≡ get_or rows i item
+    → then ≡ soonest_of (take (i + 1) rows)
+soonest-step rows i item so_far then lt is earlier here =
+    earlier ∙ (ap (λ (o : Option ℕ). reduce min (option_to_list o ++ due_moments item)) is ∙ (sym (soonest-more (take i rows) item) ∙ ap soonest_of (sym (more-rows rows i item lt here))))
+
+pub lost-step : (rows : List Row) (i moment : ℕ) (item : Row) (so_far then : Option ℕ) → i < length rows → so_far ≡ first_lost (take i rows) moment
+    → then ≡ reduce min (option_to_list so_far ++ filter (λ due. nat_le due moment) (option_to_list (claim_due item))) → item ≡ get_or rows i item → then ≡ first_lost (take (i + 1) rows) moment
+lost-step rows i moment item so_far then lt is earlier here =
+    earlier ∙ (ap (λ (o : Option ℕ). reduce min (option_to_list o ++ filter (λ due. nat_le due moment) (option_to_list (claim_due item)))) is
+    ∙ (sym (lost-more moment (take i rows) item) ∙ ap (λ (rs : List Row). first_lost rs moment) (sym (more-rows rows i item lt here))))

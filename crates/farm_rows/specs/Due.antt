@@ -1,10 +1,14 @@
 -- What falls due, and in which order it is resolved (the queue service of the Taskcluster reference; the order is this project's own).
-use Rattle.std.specs.Prelude.{ℕ, zero, suc, min, max, Bool, not, ◌&&◌, ◌==◌, nat_le, List, [], ◌∷◌, length, filter, Option, Some, None, if◌then◌else◌}
+use Rattle.std.specs.Prelude.{ℕ, zero, suc, ◌+◌, min, max, Bool, not, ◌&&◌, ◌==◌, nat_le, nat_lt, List, [], ◌∷◌, length, filter, find, Option, Some, None, is_some, if◌then◌else◌}
 use Rattle.std.specs.List.{list_any, flat_map, reduce}
-use Rattle.run_states.specs.Rows.{Row, is_resolved, exceeded, due_moments}
+use Rattle.run_states.specs.declared.reasons.ReasonResolved.{ReasonResolved}
+use Rattle.run_states.specs.declared.reasons.ReasonResolved.TheVariants.{ClaimExpired}
+use Rattle.run_states.specs.Reasons.{retry_after}
+use Rattle.run_states.specs.Rows.{Row, is_resolved, loses_claim, exceeded, due_moments}
+use Rattle.run_states.specs.Moves.{expired}
 use Rattle.farm_rows.specs.Contents.{Contents}
 
--- the moments at which something falls due, task by task
+-- the moments at which something falls due, task by task: deadlines, and ends of claims
 abbrev pub all_due_moments : List Row → List ℕ
 all_due_moments rows = flat_map due_moments rows
 
@@ -25,10 +29,21 @@ abbrev pub change_first : {A : Type 0} → (A → Bool) → (A → A) → List A
 change_first test change [] = []
 change_first test change (x ∷ xs) = if test x then change x ∷ xs else x ∷ change_first test change xs
 
--- The task whose deadline is at this moment, of several the one that was created first, is resolved at it. (The ends of claims come
--- here, behind the deadlines, once tasks can be claimed.)
+-- how many numbers a task draws whose run ends for a reason: one, where a new run follows
+abbrev pub draws : ReasonResolved → Option Row → ℕ
+draws reason None = 0
+draws reason (Some row) = if is_some (retry_after reason) && nat_lt 0 row.retries_left then 1 else 0
+
+-- What falls due first does so at this moment, and is resolved: of the tasks whose deadline is then the one that was created first; and where
+-- there is none, of those whose claim ends then the one that was created first, whose next run draws the next number.
 abbrev pub resolved_at : Contents → ℕ → Contents
-resolved_at contents at = record contents { rows = change_first (meets_deadline at) (exceeded at) contents.rows }
+resolved_at contents at =
+    if list_any (meets_deadline at) contents.rows
+    then record contents { rows = change_first (meets_deadline at) (exceeded at) contents.rows }
+    else record contents {
+      rows = change_first (loses_claim at) (expired contents.next at) contents.rows;
+      next = contents.next + draws ClaimExpired (find (loses_claim at) contents.rows);
+    }
 
 -- one turn: what falls due first is resolved at its own moment. (No task waits for another yet, so none becomes ready by it.)
 abbrev pub after_first : Contents → Option ℕ → Contents

@@ -1,9 +1,9 @@
 //! Laws of what falls due and of the changes: empty functions, whose contracts are the laws.
-ghost use Rattle.std.specs.Prelude.{◌≡◌, ◌≤◌, ℕ, List, max, true, false, Some};
+ghost use Rattle.std.specs.Prelude.{◌≡◌, ◌<◌, ◌≤◌, ℕ, List, max, true, false, Some};
 ghost use Rattle.task_defs.specs.declared.task_def.TaskDef.{TaskDef};
 ghost use Rattle.task_defs.specs.Faults.{AllHold};
 ghost use Rattle.task_defs.specs.Alone.{alone_rules};
-ghost use Rattle.run_states.specs.Rows.{Row, new_row, scheduled};
+ghost use Rattle.run_states.specs.Rows.{Row, claim_due, new_row, scheduled};
 ghost use Rattle.run_states.specs.Later.{RowsLater};
 ghost use Rattle.farm_record.specs.declared.change.Change.{Change};
 ghost use Rattle.farm_record.specs.declared.change.Creation.{Creation};
@@ -47,6 +47,12 @@ pub fn a_task_is_created_once()
     ensures advanced { (contents : Contents) (moment : ℕ) → HaveOwnIds contents.rows → HaveOwnIds (advance contents moment).rows }
     ensures applied { (contents : Contents) (change : Change) → HaveOwnIds contents.rows → may_apply contents change ≡ true
         → HaveOwnIds (applied contents change).rows }
+{}
+
+/// No change is made while a claim that has ended stands: so a report, like any other change, comes before the end of each claim.
+pub fn a_change_comes_before_the_ends_of_claims()
+    ensures { (contents : Contents) (change : Change) (id : List ℕ) (row : Row) (end : ℕ) → may_apply contents change ≡ true
+        → row_with id contents.rows ≡ Some row → claim_due row ≡ Some end → change.at < end }
 {}
 
 /// A definition that is found to be alone may be created: the test of the reader and that of a creation are one.

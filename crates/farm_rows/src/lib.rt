@@ -4,18 +4,26 @@
 //! change may be made and what it leaves. A change comes in two steps: `plan` judges it and takes all its memory, `apply` makes it.
 #![tactic(auto)]
 
+mod checks;
+mod copies;
 mod counts;
 mod laws;
+mod moves;
+mod picks;
 mod plan;
 mod room;
+mod shown;
 mod sweep;
 mod tables;
+mod work;
 
 pub use counts::RowCounts;
 pub use laws::{
-    a_checked_definition_is_alone, a_task_is_created_once, advances_go_together,
-    an_advance_goes_turn_by_turn, nothing_is_due_after_an_advance, tasks_and_runs_stay,
+    a_change_comes_before_the_ends_of_claims, a_checked_definition_is_alone,
+    a_task_is_created_once, advances_go_together, an_advance_goes_turn_by_turn,
+    nothing_is_due_after_an_advance, tasks_and_runs_stay,
 };
+pub use moves::reason_of;
 pub use plan::TaskPlan;
 pub use tables::{MOST_TASKS, TaskTables};
 

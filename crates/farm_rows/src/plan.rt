@@ -1,44 +1,65 @@
 //! A change that may be made and has all its memory.
 ghost use Rattle.std.specs.Prelude.{◌≡◌};
 
-use farm_text::Moment;
-use run_states::TaskRow;
+use farm_record::{Claim, Reclaim, Resolution};
+use farm_text::{Moment, SlugId};
+use run_states::{Claim as RunClaim, TaskRow};
 use std::marker::Model;
+use std::slice;
 
-/// A change that may be made of the tasks, with all the memory that it takes: a task that is created, as it will be.
+/// What is changed.
+#[derive(Debug, Drop)]
+pub(crate) enum Deed {
+    /// This task is created, as it will be.
+    Create(TaskRow),
+    Rerun(SlugId),
+    Cancel(SlugId),
+    Claim(Claim),
+    Reclaim(Reclaim),
+    Resolve(Resolution),
+}
+
+/// A change that may be made of the tasks, with all the memory that it takes.
 #[derive(Debug, Drop)]
 pub struct TaskPlan {
     pub(crate) at: Moment,
-    pub(crate) row: TaskRow,
-    /// A longer list for the tasks, without any yet, where the tables are full; else one without room.
+    pub(crate) deed: Deed,
+    /// The tasks that stand and that the change names, as they will be. Their definitions are shared with those that stand.
+    pub(crate) rows: Vec<TaskRow>,
+    /// A longer list for the tasks, without any yet, where the tables are full and a task is created; else one without room.
     pub(crate) grown: Vec<TaskRow>,
+    /// A claim for each run that is taken.
+    pub(crate) claims: Vec<RunClaim>,
 }
 
 impl Model for TaskPlan {
     ghost use Rattle.std.specs.Prelude.{◌≡◌, [], vec_capacity};
     ghost use Rattle.std.specs.Coded.{codes};
     ghost use Rattle.task_defs.specs.Codes.{members_code};
-    ghost use Rattle.farm_record.specs.declared.change.Kind.TheVariants.{Create};
     ghost use Rattle.farm_rows.specs.Plans.{Planned};
+    ghost use Rattle.farm_rows.specs.Deeds.{claims_of, planned_of};
 
     ghost Value = { Planned };
 
     ghost coded = { Prim.hlevel (codes, members_code) };
 
-    ghost view = { λ p. record {
-      change = record { at = p.at; kind = Create (record { id = p.row.id; definition = p.row.definition }) };
-      row = p.row;
-      room = vec_capacity p.grown;
-    } };
+    ghost view = { λ p. planned_of p.at p.deed p.rows.items (vec_capacity p.grown) };
 
-    ghost invariant = { λ p. p.grown.items ≡ [] };
+    ghost invariant = { λ p. (p.grown.items ≡ []) × (p.claims.items ≡ claims_of p.at p.deed) };
 }
 
 impl TaskPlan {
-    /// The task that the change names, as it will be.
-    pub fn row(&self) -> &TaskRow
-        ensures { result.now ≡ self.now.row }
+    /// The tasks that the change names, as they will be: the one that it creates, or those that stand.
+    pub fn rows(&self) -> &[TaskRow]
+        ensures { result.now ≡ self.now.rows }
     {
-        &self.row
+        match &self.deed {
+            Deed::Create(row) => slice::from_ref(row),
+            Deed::Rerun(_)
+            | Deed::Cancel(_)
+            | Deed::Claim(_)
+            | Deed::Reclaim(_)
+            | Deed::Resolve(_) => &self.rows,
+        }
     }
 }

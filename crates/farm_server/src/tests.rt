@@ -22,7 +22,10 @@ use std::alloc::{AllocError, Global};
 use std::test::Fail;
 
 mod clients;
+mod rows;
+mod runs;
 mod tasks;
+mod work;
 
 const PING: &[u8] = b"GET /api/queue/v1/ping HTTP/1.1\r\n\r\n";
 

@@ -9,6 +9,7 @@ mod entries;
 mod moment;
 mod pointer;
 mod reading;
+mod same;
 mod slug;
 #[cfg(test)]
 mod tests;
@@ -23,5 +24,6 @@ pub use moment::{
     LAST_MOMENT, LAST_TOLD_MOMENT, Moment, moment_texts_are_one, the_last_moments, write_moment,
 };
 pub use reading::{ReadFault, a_text_is_of_one_document};
+pub use same::same_doc;
 pub use slug::{SlugId, slugs_are_texts_of_uuids};
 pub use text::Text;

@@ -7,13 +7,14 @@ ghost use Rattle.http_wire.specs.Host.{untold};
 
 use crate::link::{Link, Sink, Source};
 use causes::{Failed, FaultCount};
-use std::io::{Read, Write};
+use std::io::{ErrorKind, Read, Write};
 
 /// A source over any reader. Each error of a read counts, also an interrupted one.
 #[derive(Drop)]
 pub struct HostSource<R> {
     inner: R,
     faults: FaultCount,
+    why: Option<ErrorKind>,
 }
 
 impl<R: Read> HostSource<R> {
@@ -25,7 +26,13 @@ impl<R: Read> HostSource<R> {
         HostSource {
             inner,
             faults: FaultCount::new(),
+            why: None,
         }
+    }
+
+    /// Why the last read failed that did, as the reader told it.
+    pub fn why(&self) -> Option<ErrorKind> {
+        self.why
     }
 }
 
@@ -37,8 +44,9 @@ impl<R: Read> Source for HostSource<R> {
     fn read(&mut self, buf: &mut [u8]) -> Result<usize, Failed> {
         match self.inner.read(buf) {
             Ok(count) => Ok(count),
-            Err(_) => {
+            Err(error) => {
                 self.faults.raise();
+                self.why = Some(error.kind());
                 Err(Failed)
             }
         }
@@ -50,6 +58,7 @@ impl<R: Read> Source for HostSource<R> {
 pub struct HostSink<W> {
     inner: W,
     faults: FaultCount,
+    why: Option<ErrorKind>,
 }
 
 impl<W: Write> HostSink<W> {
@@ -61,7 +70,13 @@ impl<W: Write> HostSink<W> {
         HostSink {
             inner,
             faults: FaultCount::new(),
+            why: None,
         }
+    }
+
+    /// Why the last write failed that did, as the writer told it.
+    pub fn why(&self) -> Option<ErrorKind> {
+        self.why
     }
 }
 
@@ -72,12 +87,12 @@ impl<W: Write> Sink for HostSink<W> {
 
     fn write(&mut self, buf: &[u8]) -> Result<usize, Failed> {
         match self.inner.write(buf) {
-            Ok(count) if count > 0 || buf.is_empty() => Ok(count),
-            _ => {
-                self.faults.raise();
-                Err(Failed)
-            }
+            Ok(count) if count > 0 || buf.is_empty() => return Ok(count),
+            Ok(_) => self.why = Some(ErrorKind::WriteZero),
+            Err(error) => self.why = Some(error.kind()),
         }
+        self.faults.raise();
+        Err(Failed)
     }
 }
 

@@ -4,3 +4,9 @@ pub mod TruthLemmas
 pub mod WeightLemmas
 pub mod MemberLemmas
 pub mod SliceLemmas
+pub mod RangeLemmas
+pub mod OneLemmas
+pub mod SpanLemmas
+pub mod MapLemmas
+pub mod JoinLemmas
+pub mod SplitLemmas

@@ -6,3 +6,12 @@ pub mod Members
 pub mod Weights
 pub mod Slices
 pub mod Builtins
+pub mod Indexes
+pub mod Letters
+pub mod Lists
+pub mod Maps
+pub mod Meets
+pub mod Operators
+pub mod Ranges
+pub mod Spans
+pub mod Splits

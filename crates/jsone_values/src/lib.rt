@@ -5,11 +5,19 @@
 
 pub mod builtins;
 pub mod faults;
+pub mod indexes;
+pub mod letters;
+pub mod lists;
+pub mod maps;
 pub mod members;
 pub mod numbers;
+pub mod operators;
 pub mod order;
 pub mod places;
+pub mod ranges;
 pub mod slices;
+pub mod spans;
+pub mod splits;
 #[cfg(test)]
 mod tests;
 pub mod texts;

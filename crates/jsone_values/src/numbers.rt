@@ -1,5 +1,5 @@
 //! Whole numbers of 64 bits with a sign.
-ghost use Rattle.std.specs.Prelude.{◌≡◌, ◌<◌, ◌+◌, ◌-◌, ◌*◌, ◌^◌, ℤ, pos, neg_ℤ, ◌+ℤ◌, ◌-ℤ◌, ◌*ℤ◌};
+ghost use Rattle.std.specs.Prelude.{◌≡◌, ◌<◌, ◌+◌, ◌-◌, ◌*◌, ◌^◌, min, ℤ, pos, neg_ℤ, ◌+ℤ◌, ◌-ℤ◌, ◌*ℤ◌};
 ghost use Rattle.std.specs.Char.{is_ascii_digit};
 ghost use Rattle.std.specs.List.{list_all};
 ghost use Rattle.std.specs.Option.{SomeIff};
@@ -107,6 +107,16 @@ fn size_of(digits: &[u8]) -> Option<u64>
         }
     }
     Some(size)
+}
+
+/// What these digits write; 2^64 - 1 stands for all that is more.
+pub(crate) fn saturated(digits: &[u8]) -> u64
+    ensures { result ≡ min (digits_from 0 digits.now) 18446744073709551615 }
+{
+    match size_of(digits) {
+        Some(size) => size,
+        None => u64::MAX,
+    }
 }
 
 /// The number that these digits write.

@@ -13,6 +13,8 @@ use std::alloc::{AllocError, Global};
 use std::cmp::Ordering;
 use std::test::Fail;
 
+mod kinds;
+mod made;
 mod numbers;
 
 const GREATEST: i64 = i64::MAX;

@@ -1,2 +1,4 @@
 pub mod LaterLemmas
 pub mod RunLemmas
+pub mod NameLemmas
+pub mod ClaimLemmas

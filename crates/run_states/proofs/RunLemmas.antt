@@ -1,10 +1,7 @@
 -- The last of a list, by its place; and what changes where it is changed.
-use Rattle.std.proofs.Common.{◌≡◌, ℕ, suc, false, ◌-◌, List, [], ◌∷◌, length, Option, None, refl, ap, ◌∙◌, slice_index_or, slice_set, arith, option_map}
+use Rattle.std.proofs.Common.{◌≡◌, ℕ, zero, suc, ◌-◌, ◌<◌, ◌≤◌, List, [], ◌∷◌, length, None, refl, ap, slice_index_or, slice_set, arith, option_map}
 use Rattle.std.specs.List.{last_or, slice_get}
-use Rattle.run_states.specs.declared.run.ReasonResolved.TheVariants.{DeadlineExceeded}
-use Rattle.run_states.specs.declared.run.Run.{Run}
-use Rattle.run_states.specs.Runs.{ended, change_last}
-use Rattle.run_states.specs.Rows.{Row, is_resolved, exceeded}
+use Rattle.run_states.specs.Runs.{change_last, change_at}
 
 -- the last item stands at the last place
 pub get-last : {A : Type 0} (xs : List A) → slice_get xs (length xs - 1) ≡ last_or None xs
@@ -13,10 +10,6 @@ get-last (x ∷ []) = refl
 get-last (x ∷ y ∷ ys) =
     let e : length (x ∷ y ∷ ys) - 1 ≡ suc (length (y ∷ ys) - 1) = omega arith in
     rw e (get-last (y ∷ ys))
-
--- what comes before the first item is the last only of no items
-pub last-or : {A : Type 0} (o : Option A) (x : A) (xs : List A) → last_or o (x ∷ xs) ≡ last_or None (x ∷ xs)
-last-or o x xs = refl
 
 -- the last item of a list whose last is changed
 pub last-change : {A : Type 0} (f : A → A) (xs : List A) → last_or None (change_last f xs) ≡ option_map f (last_or None xs)
@@ -32,12 +25,19 @@ set-last f x (y ∷ ys) d =
     let e : length (x ∷ y ∷ ys) - 1 ≡ suc (length (y ∷ ys) - 1) = omega arith in
     rw e (ap (λ zs. x ∷ zs) (set-last f y ys d))
 
--- a task whose last run is written to has ended
-pub exceeded-last : (at : ℕ) (row : Row) (runs : List Run) (number : ℕ) (run : Run) → is_resolved row ≡ false → row.runs ≡ runs → number ≡ length runs → (number ≡ 0 → ⊥) → run ≡ slice_index_or runs (number - 1) run → record row { runs = slice_set runs (number - 1) (ended DeadlineExceeded at run) } ≡ exceeded at row
-exceeded-last at row [] number run unresolved same is some found = absurd (some is)
-exceeded-last at row (first ∷ runs) number run unresolved same is some found =
-    let written : slice_set (first ∷ runs) (number - 1) (ended DeadlineExceeded at run) ≡ slice_set (first ∷ runs) (number - 1) (ended DeadlineExceeded at (slice_index_or (first ∷ runs) (number - 1) run)) =
-    ap (λ (r : Run). slice_set (first ∷ runs) (number - 1) (ended DeadlineExceeded at r)) found in
-    let changed : slice_set (first ∷ runs) (number - 1) (ended DeadlineExceeded at run) ≡ change_last (ended DeadlineExceeded at) (first ∷ runs) =
-    written ∙ rw is (set-last (ended DeadlineExceeded at) first runs run) in
-    rw (unresolved, same) (ap (λ (rs : List Run). let r : Row = record row { runs = rs } in r) changed)
+-- a write at a place changes the one there
+pub set-at : {A : Type 0} (f : A → A) (xs : List A) (place : ℕ) (d : A) → slice_set xs place (f (slice_index_or xs place d)) ≡ change_at place f xs
+set-at f [] place d = refl
+set-at f (x ∷ xs) zero d = refl
+set-at f (x ∷ xs) (suc place) d = ap (λ zs. x ∷ zs) (set-at f xs place d)
+
+-- a list of which no place is changed stays
+pub change-none : {A : Type 0} (f : A → A) (xs : List A) (place : ℕ) → length xs ≤ place → change_at place f xs ≡ xs
+change-none f [] place le = refl
+change-none f (x ∷ xs) zero le = absurd (omega arith)
+change-none f (x ∷ xs) (suc place) le = ap (λ zs. x ∷ zs) (change-none f xs place (omega arith))
+
+-- the same of a list that has some item
+pub set-last-some : {A : Type 0} (f : A → A) (xs : List A) (d : A) → 0 < length xs → slice_set xs (length xs - 1) (f (slice_index_or xs (length xs - 1) d)) ≡ change_last f xs
+set-last-some f [] d some_ = absurd (omega arith)
+set-last-some f (x ∷ xs) d some_ = set-last f x xs d

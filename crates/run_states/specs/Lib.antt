@@ -1,3 +1,5 @@
+pub mod Reasons
 pub mod Runs
 pub mod Rows
+pub mod Moves
 pub mod Later

@@ -1,53 +1,75 @@
-//! The row of a task.
-ghost use Rattle.std.specs.Prelude.{◌≡◌, ◌≤◌, ◌↔◌, [], length, not, None, IsTrue, IfOk};
-ghost use Rattle.std.specs.List.{last_or};
-ghost use Rattle.run_states.specs.Rows.{new_row, row_state, is_resolved, scheduled, exceeded};
+//! The row of a task, how it is scheduled, and how it ends without a worker.
+ghost use Rattle.std.specs.Prelude.{◌≡◌, ◌+◌, ◌≤◌, ◌↔◌, [], length, not, IsTrue, IfOk};
+ghost use Rattle.run_states.specs.Rows.{new_row, row_state, is_unscheduled, is_resolved, is_pending, claim_due, scheduled, finished, exceeded};
 
-use crate::run::{Outcome, ReasonCreated, ReasonResolved, Run, RunState};
+use crate::copies::copies;
+use crate::reasons::{ReasonCreated, ReasonResolved, RunState};
+use crate::run::{Outcome, Run};
+use crate::runs::{add_pending, end_last, last};
 use farm_text::{Moment, SlugId};
 use std::alloc::{AllocError, Global};
 use std::marker::Model;
+use std::sync::Arc;
 use task_defs::TaskDef;
 
 /// How many runs a task has at most.
 pub const MOST_RUNS: usize = 50;
 
+/// How often a task is run again at most.
+pub const MOST_RETRIES: u8 = 49;
+
 /// A task that stands: its id, its definition, the retries that it has left and its runs.
 ///
-/// It has room for all its runs from its making, so nothing that happens to it later takes memory.
+/// Its definition is shared with its copies. It has room for all its runs from its making, so nothing that happens to it later takes
+/// memory. The runs and the retries that are left are at most 50, so there is always room for a retry.
 #[derive(Debug, Drop)]
 pub struct TaskRow {
-    id: SlugId,
-    definition: TaskDef,
-    retries_left: u8,
-    runs: Vec<Run>,
+    pub(crate) id: SlugId,
+    pub(crate) definition: Arc<TaskDef>,
+    pub(crate) retries_left: u8,
+    pub(crate) runs: Vec<Run>,
 }
 
 impl Model for TaskRow {
-    ghost use Rattle.std.specs.Prelude.{◌≤◌, vec_len, vec_capacity};
+    ghost use Rattle.std.specs.Prelude.{◌+◌, ◌≤◌, vec_len, vec_capacity};
     ghost use Rattle.std.specs.Coded.{codes};
     ghost use Rattle.task_defs.specs.Codes.{members_code};
+    ghost use Rattle.std.specs.Arc.{arc_value};
     ghost use Rattle.run_states.specs.Rows.{Row};
 
     ghost Value = { Row };
 
     ghost coded = { Prim.hlevel (codes, members_code) };
 
-    ghost view = { λ r. record { id = r.id; definition = r.definition; retries_left = r.retries_left; runs = r.runs.items } };
+    ghost view = { λ r. record { id = r.id; definition = arc_value r.definition; retries_left = r.retries_left; runs = r.runs.items } };
 
-    ghost invariant = { λ r. (vec_len r.runs ≤ 50) × (50 ≤ vec_capacity r.runs) };
+    ghost invariant = { λ r. (vec_len r.runs + r.retries_left ≤ 50) × (r.retries_left ≤ 49) × (50 ≤ vec_capacity r.runs) };
 }
 
 impl TaskRow {
-    /// The row of a new task: without runs, with all the retries of its definition.
+    /// The row of a new task: without runs, with all the retries of its definition, which are at most 49.
     pub fn make(alloc: Global, id: SlugId, definition: TaskDef) -> Result<TaskRow, AllocError>
         ensures { IfOk result (λ row. row ≡ new_row id definition) }
     {
         let runs = Vec::with_capacity(alloc, MOST_RUNS)?;
+        let retries_left = definition.retries.min(MOST_RETRIES);
         Ok(TaskRow {
             id,
-            retries_left: definition.retries,
-            definition,
+            retries_left,
+            definition: Arc::new(alloc, definition)?,
+            runs,
+        })
+    }
+
+    /// The same row. Its definition is shared with this one, and so is not copied.
+    pub fn copy(&self, alloc: Global) -> Result<TaskRow, AllocError>
+        ensures { IfOk result (λ row. row ≡ self.now) }
+    {
+        let runs = copies(alloc, &self.runs)?;
+        Ok(TaskRow {
+            id: self.id,
+            definition: Arc::try_clone(&self.definition)?,
+            retries_left: self.retries_left,
             runs,
         })
     }
@@ -77,6 +99,7 @@ impl TaskRow {
     pub fn runs(&self) -> &[Run]
         ensures value { result.now ≡ self.now.runs }
         ensures few { length self.now.runs ≤ 50 }
+        ensures fit { length self.now.runs + self.now.retries_left ≤ 50 }
     {
         &self.runs
     }
@@ -85,7 +108,17 @@ impl TaskRow {
     pub fn state(&self) -> Option<RunState>
         ensures { result ≡ row_state self.now }
     {
-        last(&self.runs).map(|run| run.state())
+        match last(&self.runs) {
+            Some(run) => Some(run.state()),
+            None => None,
+        }
+    }
+
+    /// Whether it has no run.
+    pub fn is_unscheduled(&self) -> bool
+        ensures { result ≡ is_unscheduled self.now }
+    {
+        last(&self.runs).is_none()
     }
 
     /// Whether the last run has ended.
@@ -98,6 +131,26 @@ impl TaskRow {
         }
     }
 
+    /// Whether the last run waits for a worker.
+    pub fn is_pending(&self) -> bool
+        ensures { result ≡ is_pending self.now }
+    {
+        match last(&self.runs) {
+            Some(run) => run.is_pending(),
+            None => false,
+        }
+    }
+
+    /// The moment at which the claim of the last run falls due, where it is running.
+    pub fn claim_due(&self) -> Option<Moment>
+        ensures { result ≡ claim_due self.now }
+    {
+        match last(&self.runs) {
+            Some(run) => run.due(),
+            None => None,
+        }
+    }
+
     /// Makes the first pending run, with the number that it draws, where the task is unscheduled. Answers whether it did. It takes
     /// no memory.
     pub fn schedule(&mut self, at: Moment, number: u64) -> bool
@@ -107,15 +160,7 @@ impl TaskRow {
         if !self.runs.is_empty() {
             return false;
         }
-        let run = Run {
-            created: ReasonCreated::Scheduled,
-            number: Some(number),
-            scheduled: at,
-            outcome: None,
-        };
-        if self.runs.push(run).is_err() {
-            unreachable!();
-        }
+        add_pending(&mut self.runs, ReasonCreated::Scheduled, number, at);
         true
     }
 
@@ -125,34 +170,31 @@ impl TaskRow {
         ensures changed { result ≡ not (is_resolved self.old) }
         ensures row { self.new ≡ exceeded at self.old }
     {
+        self.finish(ReasonResolved::DeadlineExceeded, at)
+    }
+
+    /// Resolves the task without a worker, where it is not resolved. Answers whether it did.
+    pub(crate) fn finish(&mut self, reason: ReasonResolved, at: Moment) -> bool
+        ensures changed { result ≡ not (is_resolved self.old) }
+        ensures row { self.new ≡ finished reason at self.old }
+    {
         if self.is_resolved() {
             return false;
         }
-        let outcome = Some(Outcome {
-            reason: ReasonResolved::DeadlineExceeded,
-            at,
-        });
-        let number = self.runs.len();
-        if number == 0 {
+        if self.runs.is_empty() {
             let run = Run {
                 created: ReasonCreated::Exception,
                 number: None,
                 scheduled: at,
-                outcome,
+                claim: None,
+                outcome: Some(Outcome { reason, at }),
             };
             if self.runs.push(run).is_err() {
                 unreachable!();
             }
         } else {
-            self.runs[number - 1].outcome = outcome;
+            end_last(&mut self.runs, reason, at);
         }
         true
     }
-}
-
-/// The last run, if there is one.
-fn last(runs: &[Run]) -> Option<Run>
-    ensures { result ≡ last_or None runs.now }
-{
-    runs.last().copied()
 }

@@ -1,32 +1,20 @@
 //! The run of a task.
 ghost use Rattle.std.specs.Prelude.{◌≡◌};
-ghost use Rattle.run_states.specs.Runs.{run_state};
+ghost use Rattle.run_states.specs.Runs.{run_state, open_state, is_pending_run, is_running_run, run_due, ended_for};
 
+use crate::reasons::{ReasonCreated, ReasonResolved, RunState};
 use farm_text::Moment;
+use task_defs::Identifier;
 
-/// Why a run was made.
-#[derive(Clone, Copy, Debug, PartialEq, Eq)]
-pub enum ReasonCreated {
-    /// The task was made, or what it waits for came.
-    Scheduled,
-    /// The run stands only for how the task ended.
-    Exception,
-}
-
-/// Why a run ended.
-#[derive(Clone, Copy, Debug, PartialEq, Eq)]
-pub enum ReasonResolved {
-    /// The task's deadline came.
-    DeadlineExceeded,
-}
-
-/// The state of a run.
-#[derive(Clone, Copy, Debug, PartialEq, Eq)]
-pub enum RunState {
-    /// It waits for a worker.
-    Pending,
-    /// It ended, and no worker told that it completed or failed.
-    Exception,
+/// The claim of a worker on a run.
+#[derive(Debug, Drop)]
+pub struct Claim {
+    pub worker_group: Identifier,
+    pub worker_id: Identifier,
+    /// When the worker took the run.
+    pub started: Moment,
+    /// The run is the worker's before this moment; it falls due at it, where it has not ended.
+    pub taken_until: Moment,
 }
 
 /// How a run ended, and when.
@@ -37,7 +25,7 @@ pub struct Outcome {
 }
 
 /// A run of a task.
-#[derive(Clone, Copy, Debug, PartialEq, Eq)]
+#[derive(Debug, Drop)]
 pub struct Run {
     pub created: ReasonCreated,
     /// The number that it drew when it became pending, by which runs of one priority are ordered. A run that was made as an exception
@@ -45,6 +33,8 @@ pub struct Run {
     pub number: Option<u64>,
     /// When it was made.
     pub scheduled: Moment,
+    /// None while no worker took it. It stays when the run ends.
+    pub claim: Option<Claim>,
     /// None while it has not ended.
     pub outcome: Option<Outcome>,
 }
@@ -55,8 +45,52 @@ impl Run {
         ensures { result ≡ run_state self.now }
     {
         match self.outcome {
+            Some(outcome) => outcome.reason.state(),
+            None => self.open_state(),
+        }
+    }
+
+    /// The state of the run while it has not ended.
+    fn open_state(&self) -> RunState
+        ensures { result ≡ open_state self.now.claim }
+    {
+        match self.claim {
+            Some(_) => RunState::Running,
             None => RunState::Pending,
-            Some(_) => RunState::Exception,
+        }
+    }
+
+    /// Whether it waits for a worker.
+    pub fn is_pending(&self) -> bool
+        ensures { result ≡ is_pending_run self.now }
+    {
+        self.claim.is_none() && self.outcome.is_none()
+    }
+
+    /// Whether a worker has it, and it has not ended.
+    pub fn is_running(&self) -> bool
+        ensures { result ≡ is_running_run self.now }
+    {
+        self.claim.is_some() && self.outcome.is_none()
+    }
+
+    /// The moment at which it falls due, where it is running.
+    pub fn due(&self) -> Option<Moment>
+        ensures { result ≡ run_due self.now }
+    {
+        match &self.claim {
+            Some(claim) if self.outcome.is_none() => Some(claim.taken_until),
+            _ => None,
+        }
+    }
+
+    /// Whether it ended, and for this reason.
+    pub fn ended_for(&self, reason: ReasonResolved) -> bool
+        ensures { result ≡ ended_for reason self.now }
+    {
+        match self.outcome {
+            Some(outcome) => outcome.reason.name() == reason.name(),
+            None => false,
         }
     }
 }

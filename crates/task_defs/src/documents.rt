@@ -1,4 +1,4 @@
-//! How deep a document nests, and whether two are the same.
+//! How deep a document nests, and what kind it is of.
 ghost use Rattle.std.specs.Prelude.{◌≡◌, ◌≤◌, ◌↔◌, IsTrue, option_map};
 ghost use Rattle.serde_json.specs.Data.{items_depth, members_depth};
 ghost use Rattle.farm_text.specs.Document.{items_of, members_of, items_data, members_data};
@@ -62,48 +62,4 @@ fn members_nest_within(members: &BTreeMap<String, Doc>, most: usize) -> bool
         }
     }
     true
-}
-
-/// Whether two documents are the same. It takes no memory.
-#[cycle(same)]
-pub(crate) fn same_doc(a: &Doc, b: &Doc) -> bool
-    ensures { IsTrue result ↔ (document a.now ≡ document b.now) }
-{
-    match (a, b) {
-        (Doc::Null, Doc::Null) => true,
-        (Doc::Bool(x), Doc::Bool(y)) => x == y,
-        (Doc::Int(x), Doc::Int(y)) => x == y,
-        (Doc::Text(x), Doc::Text(y)) => x.as_str() == y.as_str(),
-        (Doc::List(xs), Doc::List(ys)) => same_items(xs, ys),
-        (Doc::Map(xs), Doc::Map(ys)) => same_members(xs, ys),
-        _ => false,
-    }
-}
-
-#[cycle(same)]
-fn same_items(a: &Vec<Doc>, b: &Vec<Doc>) -> bool
-    ensures { IsTrue result ↔ (items_of (documents a.now.items) ≡ items_of (documents b.now.items)) }
-{
-    let mut others = b.iter();
-    for item in a {
-        match others.next() {
-            Some(other) if same_doc(item, other) => {}
-            _ => return false,
-        }
-    }
-    others.next().is_none()
-}
-
-#[cycle(same)]
-fn same_members(a: &BTreeMap<String, Doc>, b: &BTreeMap<String, Doc>) -> bool
-    ensures { IsTrue result ↔ (members_of (entries_of a.now.entries) ≡ members_of (entries_of b.now.entries)) }
-{
-    let mut others = b.iter();
-    for (key, value) in a.iter() {
-        match others.next() {
-            Some((name, other)) if key.as_str() == name.as_str() && same_doc(value, other) => {}
-            _ => return false,
-        }
-    }
-    others.next().is_none()
 }

@@ -76,6 +76,19 @@ fn queue_of(alloc: Global, provisioner: &str, worker: &str) -> Result<TaskQueue,
     })
 }
 
+impl TaskQueue {
+    /// The queue of this name, if it is one.
+    pub fn from_name(alloc: Global, name: &str) -> Result<Option<TaskQueue>, AllocError>
+        ensures { IfOk result (λ found. MatchOption found (¬ IsQueue name.now)
+            (λ q. IsIdentifier q.provisioner_id × IsIdentifier q.worker_type × (name.now ≡ queue_name q.provisioner_id q.worker_type))) }
+    {
+        match parts_of(name) {
+            Some((provisioner, worker)) => Ok(Some(queue_of(alloc, provisioner, worker)?)),
+            None => Ok(None),
+        }
+    }
+}
+
 /// The parts of the queue that is named, if one is; `None` where the value names none.
 fn name_parts(name: Option<&Doc>) -> Option<Option<(&str, &str)>>
     ensures { MatchOption result (Ill (IsTextOf IsQueue) (seen name.entry))

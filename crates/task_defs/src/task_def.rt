@@ -2,11 +2,10 @@
 ghost use Rattle.std.specs.Prelude.{◌≡◌, ◌↔◌, IsTrue};
 
 use crate::choices::{Priority, Requires};
-use crate::documents::same_doc;
 use crate::lists::{Dependencies, Routes, Scopes};
 use crate::names::{Identifier, ProjectName, Route, TaskQueue};
 use crate::objects::{Metadata, Object, Tags};
-use farm_text::{Moment, SlugId};
+use farm_text::{Moment, SlugId, same_doc};
 use scope_sets::Scope;
 
 /// A task definition, with each default filled in.

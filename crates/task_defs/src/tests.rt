@@ -24,48 +24,79 @@ fn whole(alloc: Global, row: &str) -> Result<String, AllocError> {
     }
 }
 
-/// The definition that a document says for the first task.
-fn read_doc(alloc: Global, doc: &Doc) -> Result<TaskDef, DefError> {
-    match SlugId::read(FIRST_TASK) {
-        Some(id) => read_task(alloc, doc, id),
-        None => Err(DefError::NoMemory),
-    }
-}
-
-/// The definition that a row says for the first task.
-fn read(alloc: Global, row: &str) -> Result<TaskDef, DefError> {
-    let text = whole(alloc, row)?;
-    match Doc::read(alloc, text.as_str().as_bytes()) {
-        Ok(doc) => read_doc(alloc, &doc),
-        Err(_) => Err(DefError::NoMemory),
-    }
+/// The document of a row.
+fn row_doc(alloc: Global, row: &str) -> Option<Doc> {
+    let text = whole(alloc, row).ok()?;
+    Doc::read(alloc, text.as_str().as_bytes()).ok()
 }
 
 /// The rule that is broken and the key that shows it, with a space between them, or `ok`.
-fn outcome(alloc: Global, read: Result<TaskDef, DefError>) -> Result<String, AllocError> {
+fn outcome(alloc: Global, read: &Result<TaskDef, DefError>) -> Result<String, AllocError> {
     match read {
         Ok(_) => String::from_str(alloc, "ok"),
         Err(DefError::Fault(fault)) => {
             format!(in alloc; "{} {}", fault.rule, fault.key.as_str())
         }
-        Err(DefError::NoMemory) => String::from_str(alloc, "no document"),
+        Err(DefError::NoMemory) => String::from_str(alloc, "no memory"),
     }
 }
 
-/// Whether a row has this outcome.
-fn has_outcome(alloc: Global, wanted: &str, row: &str) -> bool {
-    match outcome(alloc, read(alloc, row)) {
+/// Whether this is the outcome.
+fn is_outcome(alloc: Global, read: &Result<TaskDef, DefError>, wanted: &str) -> bool {
+    match outcome(alloc, read) {
         Ok(found) => found.as_str() == wanted,
         Err(_) => false,
     }
+}
+
+/// What a test asks of the reading of a document.
+#[derive(Clone, Copy)]
+enum Check<'a> {
+    HasOutcome(&'a str),
+    HasWords(&'a str),
+    SaysPart(&'a str),
+    SaysTheSame(&'a Doc),
+    BreaksAlone(u8),
+}
+
+/// Whether it holds of the document for the first task. Here alone, and in `says_it`, a definition is owned, so that the proofs of the tests are short.
+fn reads_so(alloc: Global, doc: &Doc, id: SlugId, check: Check) -> bool {
+    let read = read_task(alloc, doc, id);
+    passes(alloc, &read, id, check)
+}
+
+fn passes(alloc: Global, read: &Result<TaskDef, DefError>, id: SlugId, check: Check) -> bool {
+    match check {
+        Check::HasOutcome(wanted) => is_outcome(alloc, read, wanted),
+        Check::HasWords(wanted) => are_words(alloc, read, wanted),
+        Check::SaysPart(part) => matches!(read, Ok(def) if has_part(alloc, def, part)),
+        Check::SaysTheSame(other) => matches!(read, Ok(def) if says_it(alloc, def, other, id)),
+        Check::BreaksAlone(rule) => matches!(read, Ok(def) if alone_rule(alloc, def, id) == rule),
+    }
+}
+
+/// Whether it holds of a document.
+fn holds_of(alloc: Global, doc: &Doc, check: Check) -> bool {
+    match SlugId::read(FIRST_TASK) {
+        Some(id) => reads_so(alloc, doc, id, check),
+        None => false,
+    }
+}
+
+/// Whether it holds of a row, if that is a document.
+fn holds(alloc: Global, row: &str, check: Check) -> Option<bool> {
+    let doc = row_doc(alloc, row)?;
+    Some(holds_of(alloc, &doc, check))
 }
 
 /// Whether a document has this outcome.
 fn tells(alloc: Global, doc: &Doc, wanted: &str) -> bool {
-    match outcome(alloc, read_doc(alloc, doc)) {
-        Ok(found) => found.as_str() == wanted,
-        Err(_) => false,
-    }
+    holds_of(alloc, doc, Check::HasOutcome(wanted))
+}
+
+/// Whether a row has this outcome.
+fn has_outcome(alloc: Global, wanted: &str, row: &str) -> bool {
+    holds(alloc, row, Check::HasOutcome(wanted)) == Some(true)
 }
 
 /// The first of some rows whose outcome is not the one that it begins with, or `none`.
@@ -175,29 +206,35 @@ fn moments_and_labels_that_are_refused(rt: HostRuntime) {
     assert_eq!(rt; first_other(rt.alloc(), MOMENTS_AND_LABELS), "none");
 }
 
-/// What is said of a row that is refused.
-fn words(alloc: Global, row: &str) -> Result<String, AllocError> {
-    match read(alloc, row) {
+/// What is said of a definition that is refused.
+fn words(alloc: Global, read: &Result<TaskDef, DefError>) -> Result<String, AllocError> {
+    match read {
         Err(DefError::Fault(fault)) => format!(in alloc; "{fault}"),
         _ => String::from_str(alloc, "no fault"),
     }
 }
 
-/// Whether this is said of a row.
-fn has_words(alloc: Global, row: &str, wanted: &str) -> bool {
-    match words(alloc, row) {
+/// Whether this is said.
+fn are_words(alloc: Global, read: &Result<TaskDef, DefError>, wanted: &str) -> bool {
+    match words(alloc, read) {
         Ok(found) => found.as_str() == wanted,
         Err(_) => false,
     }
 }
 
+/// Whether this is said of a row.
+fn has_words(alloc: Global, row: &str, wanted: &str) -> Option<bool> {
+    holds(alloc, row, Check::HasWords(wanted))
+}
+
 #[test]
 fn what_is_said_of_faults(rt: HostRuntime) {
     let retries = "retries: it is 0 to 49 (rule 9)";
-    assert!(rt; has_words(rt.alloc(), ",\"retries\":50", retries));
+    assert!(rt; has_words(rt.alloc(), ",\"retries\":50", retries) == Some(true));
+    assert!(rt; has_words(rt.alloc(), ",\"retries\":49", retries) == Some(false));
     let whole =
         "the definition: a definition is a map of known keys, each of its kind, that nests at most 127 deep (rule 1)";
-    assert!(rt; has_words(rt.alloc(), "[]", whole));
+    assert!(rt; has_words(rt.alloc(), "[]", whole) == Some(true));
 }
 
 /// The full form of a definition, as text.
@@ -214,17 +251,14 @@ fn has_part(alloc: Global, def: &TaskDef, part: &str) -> bool {
 }
 
 /// Whether the full form of what a row says has this text in it.
-fn says(alloc: Global, row: &str, part: &str) -> bool {
-    match read(alloc, row) {
-        Ok(def) => has_part(alloc, &def, part),
-        Err(_) => false,
-    }
+fn says(alloc: Global, row: &str, part: &str) -> Option<bool> {
+    holds(alloc, row, Check::SaysPart(part))
 }
 
 #[test]
 fn the_plain_definition_in_full_form(rt: HostRuntime) {
-    assert!(rt; says(rt.alloc(), "", PLAIN_IN_FULL));
-    assert!(rt; says(rt.alloc(), PLAIN_IN_FULL, PLAIN_IN_FULL));
+    assert!(rt; says(rt.alloc(), "", PLAIN_IN_FULL) == Some(true));
+    assert!(rt; says(rt.alloc(), PLAIN_IN_FULL, PLAIN_IN_FULL) == Some(true));
 }
 
 /// A member of the full form, and the members that the smallest definition gains for it.
@@ -250,14 +284,19 @@ const SAID: &str = r#""priority":"lowest"|,"priority":"normal"
 "created":"2023-12-28T00:00:00.000Z"|,"created":"2023-12-28T00:00:00Z"
 "created":"2024-01-01T23:00:00.000Z"|,"created":"2024-01-01T18:00:00-05:00""#;
 
+/// Whether the row says what stands before its bar.
+fn says_its_part(alloc: Global, row: &str) -> Option<bool> {
+    let (part, members) = row.split_once('|')?;
+    says(alloc, members, part)
+}
+
 #[test]
 fn what_members_say(rt: HostRuntime) {
     for row in SAID.split('\n') {
-        match row.split_once('|') {
-            Some((part, members)) => assert!(rt; says(rt.alloc(), members, part), "{row}"),
-            None => assert!(rt; false, "{row}"),
-        }
+        assert!(rt; says_its_part(rt.alloc(), row) == Some(true), "{row}");
     }
+    let other = says_its_part(rt.alloc(), "\"retries\":7|,\"retries\":6");
+    assert!(rt; other == Some(false));
 }
 
 /// One member more or another value, and the definition is another.
@@ -279,66 +318,63 @@ const OTHERS: &str = r#","tags":{"a":"b"}
 ,"expires":"2024-12-31T23:59:59.999Z"
 ,"metadata":{"description":"d","name":"n","owner":"o@example.com","source":"x"}"#;
 
-/// Whether a row says this definition.
-fn says_it(alloc: Global, def: &TaskDef, row: &str) -> bool {
-    match read(alloc, row) {
-        Ok(other) => same(def, &other),
-        Err(_) => false,
-    }
+/// Whether a document says this definition.
+fn says_it(alloc: Global, def: &TaskDef, doc: &Doc, id: SlugId) -> bool {
+    let read = read_task(alloc, doc, id);
+    is_same(def, &read)
+}
+
+fn is_same(def: &TaskDef, read: &Result<TaskDef, DefError>) -> bool {
+    matches!(read, Ok(other) if same(def, other))
 }
 
 /// Whether two rows say the same definition.
-fn alike(alloc: Global, first: &str, second: &str) -> bool {
-    match read(alloc, first) {
-        Ok(def) => says_it(alloc, &def, second),
-        Err(_) => false,
-    }
+fn alike(alloc: Global, first: &str, second: &str) -> Option<bool> {
+    let other = row_doc(alloc, second)?;
+    holds(alloc, first, Check::SaysTheSame(&other))
 }
 
 #[test]
 fn definitions_that_differ(rt: HostRuntime) {
     for members in OTHERS.split('\n') {
-        assert!(rt; !alike(rt.alloc(), "", members), "{members}");
-        assert!(rt; alike(rt.alloc(), members, members), "{members}");
-    }
-    assert!(rt;
-        alike(
-            rt.alloc(),
-            "",
-            ",\"retries\":5,\"tags\":{},\"priority\":\"normal\""
-        )
-    );
-}
-
-/// The rule that a definition breaks while the first task stands alone, or 0.
-fn alone_rule(alloc: Global, def: &TaskDef) -> u8 {
-    match SlugId::read(FIRST_TASK) {
-        Some(id) => match check_alone(alloc, def, id) {
-            Ok(()) => 0,
-            Err(DefError::Fault(fault)) => fault.rule,
-            Err(DefError::NoMemory) => 98,
-        },
-        None => 99,
-    }
-}
-
-/// The same of a row's definition.
-fn alone(alloc: Global, row: &str) -> u8 {
-    match read(alloc, row) {
-        Ok(def) => alone_rule(alloc, &def),
-        Err(_) => 97,
+        let other = alike(rt.alloc(), "", members);
+        assert!(rt; other == Some(false), "{members}");
+        let own = alike(rt.alloc(), members, members);
+        assert!(rt; own == Some(true), "{members}");
     }
 }
 
 #[test]
+fn defaults_that_are_written_out(rt: HostRuntime) {
+    let defaults = ",\"retries\":5,\"tags\":{},\"priority\":\"normal\"";
+    assert!(rt; alike(rt.alloc(), "", defaults) == Some(true));
+}
+
+/// The rule that is broken, or 0. Want of memory has no number: 98.
+fn rule_of(read: &Result<(), DefError>) -> u8 {
+    match read {
+        Ok(()) => 0,
+        Err(DefError::Fault(fault)) => fault.rule,
+        Err(DefError::NoMemory) => 98,
+    }
+}
+
+/// The rule that a definition breaks while this task stands alone.
+fn alone_rule(alloc: Global, def: &TaskDef, id: SlugId) -> u8 {
+    rule_of(&check_alone(alloc, def, id))
+}
+
+/// Whether a row's definition breaks this rule while the first task stands alone.
+fn breaks_alone(alloc: Global, row: &str, rule: u8) -> Option<bool> {
+    holds(alloc, row, Check::BreaksAlone(rule))
+}
+
+#[test]
 fn tasks_that_are_not_alone(rt: HostRuntime) {
-    assert_eq!(rt; alone(rt.alloc(), ""), 0);
-    assert_eq!(rt;
-        alone(rt.alloc(), ",\"taskGroupId\":\"AAAAAAAAQACAAAAAAAAAAQ\""),
-        4
-    );
-    assert_eq!(rt;
-        alone(rt.alloc(), ",\"dependencies\":[\"AAAAAAAAQACAAAAAAAAAAw\"]"),
-        5
-    );
+    assert!(rt; breaks_alone(rt.alloc(), "", 0) == Some(true));
+    assert!(rt; breaks_alone(rt.alloc(), "", 4) == Some(false));
+    let group = ",\"taskGroupId\":\"AAAAAAAAQACAAAAAAAAAAQ\"";
+    assert!(rt; breaks_alone(rt.alloc(), group, 4) == Some(true));
+    let dependencies = ",\"dependencies\":[\"AAAAAAAAQACAAAAAAAAAAw\"]";
+    assert!(rt; breaks_alone(rt.alloc(), dependencies, 5) == Some(true));
 }

@@ -1,2 +1,3 @@
 pub mod CalendarLemmas
+pub mod DefinitionLemmas
 mod MemberLemmas

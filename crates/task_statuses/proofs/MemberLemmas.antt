@@ -1,5 +1,5 @@
 -- Members put one after the other, and a run's document of its parts.
-use Rattle.std.proofs.Common.{◌≡◌, ◌≤◌, ℕ, suc, pos, List, [], ◌∷◌, ◌++◌, codes, Some, None, refl, sym, ap, ◌∙◌, append_assoc, append-nil, ◌<◌, length, drop, get_or, rules}
+use Rattle.std.proofs.Common.{◌≡◌, ◌≤◌, ℕ, suc, List, [], ◌∷◌, ◌++◌, Option, Some, None, refl, sym, ap, ◌∙◌, append_assoc, append-nil, ◌<◌, length, drop, get_or, rules}
 use Rattle.std.proofs.Math.Seq.{drop-cons}
 use Rattle.std.proofs.lemmas.List.{drop_all}
 use Rattle.task_statuses.specs.Calendar.{moment_text}
@@ -10,10 +10,10 @@ use Rattle.farm_text.specs.declared.doc.Doc.{the_lemmas}
 use Rattle.farm_text.specs.declared.doc.Doc.TheVariants.{Text as TextDoc}
 use Rattle.task_statuses.proofs.CalendarLemmas.{IsMomentText-moment_text}
 use Rattle.farm_text.proofs.MomentLemmas.{IsMomentText-one}
-use Rattle.run_states.specs.Runs.{run_state}
+use Rattle.run_states.specs.declared.run.Claim.{Claim}
 use Rattle.run_states.specs.declared.run.Outcome.{Outcome}
 use Rattle.run_states.specs.declared.run.Run.{Run}
-use Rattle.task_statuses.specs.Parts.{run_members}
+use Rattle.task_statuses.specs.Parts.{run_members, with_claim, with_outcome}
 use Rattle.task_statuses.specs.Statuses as statuses
 
 -- the text that is written of a moment is the one that is counted out
@@ -37,12 +37,14 @@ pub four_put : (k l m j : List ℕ) (a b c e x y z w : Document) (ms n o p q : M
 four_put k l m j a b c e x y z w ms n o p q hn ho hp hq ha hb hc he =
     hq ∙ ap (λ (d : Document). put j d p) he ∙ ap (put j w) (three_put k l m a b c x y z ms n o p hn ho hp ha hb hc)
 
-pub run-unended : (number : ℕ) (run : Run) → run.outcome ≡ None → object (run_members number run) ≡ statuses.run_doc number run
-run-unended number run is = rw is refl
-
-pub run-ended : (number : ℕ) (run : Run) (outcome : Outcome) → run.outcome ≡ Some outcome
-    → object (put (codes "resolved") (statuses.moment_doc outcome.at) (put (codes "reasonResolved") (text (statuses.resolved_name outcome.reason)) (run_members number run))) ≡ statuses.run_doc number run
-run-ended number run outcome is = rw is refl
+-- a run's members, part by part, are those of its document
+pub run_whole : (number : ℕ) (run : Run) → object (with_outcome run.outcome (with_claim run.claim (run_members number run))) ≡ statuses.run_doc number run
+run_whole number run = by run.claim run.outcome refl refl where
+  by : (k : Option Claim) (o : Option Outcome) → run.claim ≡ k → run.outcome ≡ o → object (with_outcome run.outcome (with_claim run.claim (run_members number run))) ≡ statuses.run_doc number run
+  by None None claim outcome = rw (claim, outcome) refl
+  by None (Some o) claim outcome = rw (claim, outcome) refl
+  by (Some k) None claim outcome = rw (claim, outcome) refl
+  by (Some k) (Some o) claim outcome = rw (claim, outcome) refl
 
 -- the documents of runs, the first with this number
 pub run_list : ℕ → List Run → List Document

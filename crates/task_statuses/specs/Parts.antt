@@ -1,5 +1,5 @@
 -- The members of a status, part by part; for private clauses.
-use Rattle.std.specs.Prelude.{ℕ, pos, codes}
+use Rattle.std.specs.Prelude.{ℕ, pos, codes, Option, Some, None}
 use Rattle.farm_text.specs.Document.{whole, text, array, Members, no_members, put}
 use Rattle.farm_text.specs.Slug.{slug_text}
 use Rattle.task_defs.specs.Forms.{queue_name}
@@ -7,8 +7,11 @@ use Rattle.task_defs.specs.declared.names.TaskQueue.{TaskQueue}
 use Rattle.task_defs.specs.declared.task_def.TaskDef.{TaskDef}
 use Rattle.run_states.specs.Rows.{Row, row_state}
 use Rattle.run_states.specs.Runs.{run_state}
+use Rattle.run_states.specs.Reasons.{state_name, created_name, resolved_name}
+use Rattle.run_states.specs.declared.run.Claim.{Claim}
+use Rattle.run_states.specs.declared.run.Outcome.{Outcome}
 use Rattle.run_states.specs.declared.run.Run.{Run}
-use Rattle.task_statuses.specs.Statuses.{created_name, moment_doc, runs_from, state_name, task_state_name}
+use Rattle.task_statuses.specs.Statuses.{moment_doc, runs_from, task_state_name}
 
 -- the moments
 abbrev pub with_times : TaskDef → Members
@@ -36,3 +39,16 @@ abbrev pub run_members : ℕ → Run → Members
 run_members number run =
     put (codes "state") (text (state_name (run_state run))) (put (codes "scheduled") (moment_doc run.scheduled)
     (put (codes "runId") (whole (pos number)) (put (codes "reasonCreated") (text (created_name run.created)) no_members)))
+
+-- and what a run that was claimed has
+abbrev pub with_claim : Option Claim → Members → Members
+with_claim None ms = ms
+with_claim (Some claim) ms =
+    put (codes "workerId") (text claim.worker_id) (put (codes "workerGroup") (text claim.worker_group)
+    (put (codes "takenUntil") (moment_doc claim.taken_until) (put (codes "started") (moment_doc claim.started) ms)))
+
+-- and what a run that ended has
+abbrev pub with_outcome : Option Outcome → Members → Members
+with_outcome None ms = ms
+with_outcome (Some outcome) ms =
+    put (codes "resolved") (moment_doc outcome.at) (put (codes "reasonResolved") (text (resolved_name outcome.reason)) ms)

@@ -3,35 +3,19 @@ use Rattle.std.specs.Prelude.{ℕ, suc, pos, List, [], ◌∷◌, ◌++◌, code
 use Rattle.task_statuses.specs.Calendar.{moment_text}
 use Rattle.farm_text.specs.Document.{Document, whole, text, array, object, Items, no_items, item, members_of}
 use Rattle.farm_text.specs.Slug.{slug_text}
+use Rattle.task_defs.specs.Definitions.{full_form}
 use Rattle.task_defs.specs.Forms.{queue_name}
+use Rattle.task_defs.specs.declared.task_def.TaskDef.{TaskDef}
 use Rattle.run_states.specs.Rows.{Row, row_state}
 use Rattle.run_states.specs.Runs.{run_state}
-use Rattle.run_states.specs.declared.run.ReasonCreated.{ReasonCreated}
-use Rattle.run_states.specs.declared.run.ReasonCreated.TheVariants.{Scheduled, Exception as MadeAsException}
-use Rattle.run_states.specs.declared.run.ReasonResolved.{ReasonResolved}
-use Rattle.run_states.specs.declared.run.ReasonResolved.TheVariants.{DeadlineExceeded}
+use Rattle.run_states.specs.Reasons.{state_name, created_name, resolved_name}
+use Rattle.run_states.specs.declared.reasons.RunState.{RunState}
 use Rattle.run_states.specs.declared.run.Run.{Run}
-use Rattle.run_states.specs.declared.run.RunState.{RunState}
-use Rattle.run_states.specs.declared.run.RunState.TheVariants.{Pending, Exception}
-
--- the name of a state
-abbrev pub state_name : RunState → List ℕ
-state_name Pending = codes "pending"
-state_name Exception = codes "exception"
 
 -- the name of a task's state
 abbrev pub task_state_name : Option RunState → List ℕ
 task_state_name None = codes "unscheduled"
 task_state_name (Some state) = state_name state
-
--- the name of why a run was made
-abbrev pub created_name : ReasonCreated → List ℕ
-created_name Scheduled = codes "scheduled"
-created_name MadeAsException = codes "exception"
-
--- the name of why a run ended
-abbrev pub resolved_name : ReasonResolved → List ℕ
-resolved_name DeadlineExceeded = codes "deadline-exceeded"
 
 -- a moment as a document
 abbrev pub moment_doc : ℕ → Document
@@ -42,7 +26,7 @@ abbrev pub where_some : List ℕ → Option Document → List (List ℕ × Docum
 where_some key None = []
 where_some key (Some d) = (key, d) ∷ []
 
--- a run, with its number from 0
+-- a run, with its number from 0: what came of its claim and how it ended stand there where they exist (the end of the claim also once it ended)
 abbrev pub run_doc : ℕ → Run → Document
 run_doc number run =
     object (members_of (
@@ -51,13 +35,20 @@ run_doc number run =
     ++ where_some (codes "resolved") (option_map (λ o. moment_doc o.at) run.outcome)
     ++ (codes "runId", whole (pos number))
     ∷ (codes "scheduled", moment_doc run.scheduled)
-    ∷ (codes "state", text (state_name (run_state run)))
-    ∷ []))
+    ∷ where_some (codes "started") (option_map (λ c. moment_doc c.started) run.claim)
+    ++ (codes "state", text (state_name (run_state run)))
+    ∷ where_some (codes "takenUntil") (option_map (λ c. moment_doc c.taken_until) run.claim)
+    ++ where_some (codes "workerGroup") (option_map (λ c. text c.worker_group) run.claim)
+    ++ where_some (codes "workerId") (option_map (λ c. text c.worker_id) run.claim)))
 
 -- runs, the first with this number
 abbrev pub runs_from : ℕ → List Run → Items
 runs_from number [] = no_items
 runs_from number (run ∷ runs) = item (run_doc number run) (runs_from (suc number) runs)
+
+-- the definition of a task in full form
+abbrev pub definition_of : TaskDef → Document
+definition_of def = full_form def (moment_text def.created) (moment_text def.deadline) (moment_text def.expires)
 
 -- the status of a task
 abbrev pub status_of : Row → Document

@@ -1,6 +1,7 @@
-//! The status of a task as a JSON document, as the queue service of the Taskcluster reference tells it.
+//! The status of a task and its definition as JSON documents, as the queue service of the Taskcluster reference tells them.
 #![tactic(auto)]
 
+mod definition;
 mod laws;
 mod names;
 mod runs;
@@ -8,5 +9,7 @@ mod status;
 #[cfg(test)]
 mod tests;
 
+pub use definition::definition_doc;
 pub use laws::moments_have_texts;
+pub use runs::moment_doc;
 pub use status::status_doc;

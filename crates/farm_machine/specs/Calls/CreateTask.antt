@@ -1,32 +1,21 @@
 -- createTask: a task is made, once (the queue service of the Taskcluster reference; its rules and their order are this project's profile).
-use Rattle.std.specs.Prelude.{◌≡◌, ℕ, nat_le, List, [], ◌∷◌, ◌++◌, Option, Some, None}
+use Rattle.std.specs.Prelude.{◌≡◌, nat_le, List, [], ◌∷◌, ◌++◌, Option, Some, None}
 use Rattle.call_rules.specs.Policy.{create_policy}
-use Rattle.farm_text.specs.Document.{Document, null, document_text}
 use Rattle.farm_record.specs.declared.change.Creation.{Creation}
+use Rattle.farm_record.specs.declared.change.Kind.TheVariants.{Create}
 use Rattle.task_defs.specs.declared.task_def.TaskDef.{TaskDef}
 use Rattle.run_states.specs.Rows.{Row}
-use Rattle.farm_rows.specs.Changes.{creating}
 use Rattle.farm_rows.specs.Contents.{row_with}
-use Rattle.farm_machine.specs.Case.{Setting, Deed, Rule, when, Case, passing}
-use Rattle.farm_machine.specs.Replies.{ok, status_body, conflict, too_late}
+use Rattle.farm_machine.specs.Case.{Setting, Rule, when, Case, passing, changing}
+use Rattle.farm_machine.specs.Replies.{tells_status, conflict, too_late}
 
 -- where a task of the id stands: with an equal definition its status is answered, and with another one that is a conflict
 abbrev pub standing : TaskDef → Option Row → List Rule
 standing definition None = []
 standing definition (Some row) =
-    record { Ends = row.definition ≡ definition; answer = ok (document_text (status_body row)) }
+    record { Ends = row.definition ≡ definition; answer = tells_status row }
     ∷ record { Ends = Unit {0}; answer = conflict 1 row }
     ∷ []
-
--- the status of the task with this id, as the body of an answer
-abbrev pub body_of : Option Row → Document
-body_of None = null
-body_of (Some row) = status_body row
-
--- the task is made, and its status is answered
-abbrev pub making : ℕ → Creation → Deed
-making moment creation =
-    record { change = Some (creating moment creation); body = λ contents. body_of (row_with creation.id contents.rows) }
 
 -- Nothing has to stand. A task that stands under the id is not made again; and the deadline has to be still to come.
 abbrev pub create_task : Creation → Setting → Case
@@ -36,5 +25,5 @@ create_task creation at = record passing {
       standing creation.definition (row_with creation.id at.state.contents.rows)
       ++ when (nat_le creation.definition.deadline at.moment) too_late
       ∷ [];
-  deed = making at.moment creation;
+  deed = changing at.moment (Create creation);
 }

@@ -4,8 +4,8 @@ ghost use Rattle.farm_rows.specs.Changes.{is_alone};
 use crate::answers;
 use crate::case::{Called, Done, Scene};
 use crate::reply::Answer;
-use call_rules::{Call, expression};
-use farm_record::Creation;
+use call_rules::create_policy;
+use farm_record::{Creation, Kind};
 use scope_sets::Expr;
 use std::alloc::{AllocError, Global};
 use std::marker::Model;
@@ -53,17 +53,16 @@ impl Called for CreateTask {
     }
 
     fn policy(&self, alloc: Global, _at: &Scene<'_>) -> Result<Expr, AllocError> {
-        expression(alloc, Call::CreateTask(&self.creation.definition))
+        create_policy(alloc, &self.creation.definition)
     }
 
     fn rule(&self, alloc: Global, at: &Scene<'_>) -> Result<Option<Answer>, AllocError> {
         let definition = &self.creation.definition;
         if let Some(row) = at.tables.row(self.creation.id) {
             if same(row.definition(), definition) {
-                let body = answers::status_body(alloc, row)?;
-                return Ok(Some(answers::ok(alloc, &body)?));
+                return Ok(Some(answers::status(alloc, row)?));
             }
-            return Ok(Some(answers::another_stands(alloc, row)?));
+            return Ok(Some(answers::conflict(alloc, 1, row)?));
         }
         if definition.deadline <= at.moment {
             return Ok(Some(answers::too_late(alloc)?));
@@ -72,6 +71,6 @@ impl Called for CreateTask {
     }
 
     fn deed(self, _alloc: Global, _at: &Scene<'_>) -> Result<Done, AllocError> {
-        Ok(Done::Makes(self.creation))
+        Ok(Done::Changes(Kind::Create(self.creation)))
     }
 }

@@ -23,8 +23,7 @@ impl Called for Status {
         if at.tables.row(self.id).is_some() {
             return Ok(None);
         }
-        let name = self.id.to_text(alloc)?;
-        Ok(Some(answers::not_found(alloc, "task", name.as_str())?))
+        Ok(Some(answers::no_task(alloc, self.id)?))
     }
 
     fn policy(&self, alloc: Global, _at: &Scene<'_>) -> Result<Expr, AllocError> {

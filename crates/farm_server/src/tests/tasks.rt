@@ -88,7 +88,7 @@ fn reply_of(alloc: Global, exchange: &Exchange) -> Result<String, AllocError> {
 }
 
 /// A farm that takes so many tasks, where whoever gives no credentials has these scopes.
-fn farm(alloc: Global, scopes: &[&str], max_tasks: u32) -> Result<Solo<Bare>, Fail> {
+pub(super) fn farm(alloc: Global, scopes: &[&str], max_tasks: u32) -> Result<Solo<Bare>, Fail> {
     let mut held = Vec::new(alloc);
     for scope in scopes {
         held.push(Scope::new(String::from_str(alloc, scope)?).ok_or("a scope")?)?;

@@ -4,9 +4,8 @@ use std::alloc::Global;
 
 #[test]
 fn headers(rt: HostRuntime) {
-    let alloc = rt.alloc();
     let read = HawkHeader::read(
-        alloc,
+        rt.alloc(),
         b"hAwK   ts=\"007\" ,mac=\"m,=\",  nonce=\"n\", id=\"a b\",ext=\"\"  ",
     );
     let same = HawkHeader {
@@ -27,24 +26,25 @@ fn is_bad(alloc: Global, value: &str) -> bool {
     )
 }
 
+const BAD: &str = r#"Hawkid="a", ts="1", nonce="n", mac="m"
+Hawk id="", ts="1", nonce="n", mac="m"
+Hawk id="a", ts="1x", nonce="n", mac="m"
+Hawk id="a", ts="1234567890123", nonce="n", mac="m"
+Hawk id="a", ts="1", nonce="n"
+Hawk id="a", id="a", ts="1", nonce="n", mac="m"
+Hawk id="a", ts="1", nonce="n", mac="m", app="x"
+Hawk id="a", ts="1", nonce="n", mac="m",
+Hawk id = "a", ts="1", nonce="n", mac="m"
+Hawk id="a\", ts="1", nonce="n", mac="m"
+Hawk id="a" ts="1", nonce="n", mac="m""#;
+
 #[test]
 fn bad_headers(rt: HostRuntime) {
-    let alloc = rt.alloc();
-    let values = [
-        "Hawkid=\"a\", ts=\"1\", nonce=\"n\", mac=\"m\"",
-        "Hawk id=\"\", ts=\"1\", nonce=\"n\", mac=\"m\"",
-        "Hawk id=\"a\", ts=\"1x\", nonce=\"n\", mac=\"m\"",
-        "Hawk id=\"a\", ts=\"1234567890123\", nonce=\"n\", mac=\"m\"",
-        "Hawk id=\"a\", ts=\"1\", nonce=\"n\"",
-        "Hawk id=\"a\", id=\"a\", ts=\"1\", nonce=\"n\", mac=\"m\"",
-        "Hawk id=\"a\", ts=\"1\", nonce=\"n\", mac=\"m\", app=\"x\"",
-        "Hawk id=\"a\", ts=\"1\", nonce=\"n\", mac=\"m\",",
-        "Hawk id = \"a\", ts=\"1\", nonce=\"n\", mac=\"m\"",
-        "Hawk id=\"a\\\", ts=\"1\", nonce=\"n\", mac=\"m\"",
-        "Hawk\tid=\"a\", ts=\"1\", nonce=\"n\", mac=\"m\"",
-        "Hawk id=\"a\" ts=\"1\", nonce=\"n\", mac=\"m\"",
-    ];
-    for value in values {
-        assert!(rt; is_bad(alloc, value), "{value}");
+    for value in BAD.split('\n') {
+        assert!(rt; is_bad(rt.alloc(), value), "{value}");
     }
+    let tab = "Hawk\tid=\"a\", ts=\"1\", nonce=\"n\", mac=\"m\"";
+    assert!(rt; is_bad(rt.alloc(), tab));
+    let good = "Hawk id=\"a\", ts=\"1\", nonce=\"n\", mac=\"m\"";
+    assert!(rt; !is_bad(rt.alloc(), good));
 }

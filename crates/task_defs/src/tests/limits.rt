@@ -85,10 +85,7 @@ fn lists(alloc: Global, depth: usize) -> Result<String, AllocError> {
 
 /// The document that a text is, if it is one.
 fn document(alloc: Global, text: &str) -> Option<Doc> {
-    match Doc::read(alloc, text.as_bytes()) {
-        Ok(doc) => Some(doc),
-        Err(_) => None,
-    }
+    Doc::read(alloc, text.as_bytes()).ok()
 }
 
 /// The map with so many lists inside each other, as a document.
@@ -99,33 +96,33 @@ fn deep(alloc: Global, depth: usize) -> Option<Doc> {
     }
 }
 
-/// The definition with this payload.
-fn paid(alloc: Global, definition: Doc, payload: Doc) -> Result<Doc, AllocError> {
+/// Gives the definition this payload, and says whether it could.
+fn pay(definition: &mut Doc, key: String, payload: Doc) -> bool {
     match definition {
-        Doc::Map(mut members) => {
-            drop(members.insert(String::from_str(alloc, "payload")?, payload)?);
-            Ok(Doc::Map(members))
-        }
-        other => Ok(other),
+        Doc::Map(members) => members.insert(key, payload).is_ok(),
+        _ => false,
     }
 }
 
-/// The smallest definition, whose payload has so many lists inside each other.
-fn deep_definition(alloc: Global, depth: usize) -> Option<Doc> {
-    let payload = match deep(alloc, depth) {
-        Some(payload) => payload,
-        None => return None,
-    };
-    match document(alloc, super::PLAIN_IN_FULL) {
-        Some(definition) => paid(alloc, definition, payload).ok(),
-        None => None,
+/// Gives the definition a payload that has so many lists inside each other.
+fn pay_deep(alloc: Global, definition: &mut Doc, depth: usize) -> Option<bool> {
+    let key = String::from_str(alloc, "payload").ok()?;
+    let payload = deep(alloc, depth)?;
+    Some(pay(definition, key, payload))
+}
+
+/// Whether a definition with such a payload has this outcome.
+fn pays_so(alloc: Global, definition: &mut Doc, depth: usize, wanted: &str) -> bool {
+    match pay_deep(alloc, definition, depth) {
+        Some(true) => super::tells(alloc, definition, wanted),
+        _ => false,
     }
 }
 
 /// Whether the smallest definition with such a payload has this outcome. The definition is one map, the payload another.
 fn is_deep(alloc: Global, depth: usize, wanted: &str) -> bool {
-    match deep_definition(alloc, depth) {
-        Some(definition) => super::tells(alloc, &definition, wanted),
+    match document(alloc, super::PLAIN_IN_FULL) {
+        Some(mut definition) => pays_so(alloc, &mut definition, depth, wanted),
         None => false,
     }
 }

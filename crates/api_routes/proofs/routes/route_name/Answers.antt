@@ -1,6 +1,6 @@
 use Rattle.std.proofs.Common.{◌≡◌, rules, sym}
 use Rattle.std.specs.List.{list_all}
-use Rattle.api_routes.specs.Routes.{is_printable}
+use Rattle.api_routes.specs.Segments.{is_printable}
 use Rattle.api_routes.proofs.PathLemmas.{printable_test, route_name-no_text}
 use Rattle.api_routes.proofs.routes.route_name.Goals as goal
 use Rattle.api_routes.proofs.routes.route_name.Goals.{in_default-via-in-Ok+else-is_printable, in_default-via-in_default}

@@ -22,5 +22,5 @@ returns-clause-conversed g c =
       served = c.serve_connection-served.result;
       spoke = serves.spoke;
       history = IsHistoryOf-from_turns (empty_state c.args.config) c.into_object-bare.result _ _ _ _ (c.new-desk.ensures.fresh (record { state = (empty_state c.args.config) }) (sym c.new.ensures) tt) serves.asked (λ seen mine stands. ((c.into_object-bare.ensures.stood (record { state = (empty_state c.args.config) }) seen mine).0 stands).0);
-      status_is = c.status_of.ensures;
+      status_is = c.after_serving.ensures;
     }

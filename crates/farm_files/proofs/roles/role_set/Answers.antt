@@ -4,8 +4,8 @@ use Rattle.role_expand.specs.Roles.{role_data, roles_data}
 use Rattle.farm_files.proofs.RowLemmas.{on_cycle_within, first_place}
 use Rattle.farm_files.proofs.roles.role_set.Goals as goal
 
-pub overflow_cast-index : goal.overflow_cast-index
-overflow_cast-index c =
+pub overflow_cast-row : goal.overflow_cast-row
+overflow_cast-row c =
     let r = rw c.in-Err-ParameterCycle.field-0-is at c.in-Err-ParameterCycle.ensures in
     let same = first_place _ r.2.0 r.2.1 _ r.2.2 c.index.ensures in
     let within = on_cycle_within (roles_data c.args.roles.items) r.2.0 r.2.1 r.2.3.cycle in

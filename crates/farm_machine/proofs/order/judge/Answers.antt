@@ -2,7 +2,7 @@
 use Rattle.std.proofs.Common.{Option, ap, ◌∙◌, subst}
 use Rattle.farm_text.specs.Doc.{document}
 use Rattle.farm_text.specs.Document.{document_text}
-use Rattle.farm_machine.specs.declared.case.Done.TheVariants.{Reads, Makes}
+use Rattle.farm_machine.specs.declared.case.Done.TheVariants.{Reads, Changes}
 use Rattle.farm_machine.specs.declared.reply.Answer.{Answer}
 use Rattle.farm_machine.specs.Deeds.{IsDeed}
 use Rattle.farm_machine.specs.Judgement.{only_answer}
@@ -24,10 +24,10 @@ returns-in_ok-ok-in-Reads-clause-judged g c =
     (c.only-in-Reads.ensures.answer ∙ c.in_ok-ok-in-Reads.ensures) c.only-in-Reads.ensures.change
     (asks-passed at c.args.caller.now case (only_answer (ok text)) passes first)
 
-pub returns-in_ok-made-in-Makes-clause-judged : goal.returns-in_ok-made-in-Makes-clause-judged
-returns-in_ok-made-in-Makes-clause-judged g c =
+pub returns-in_ok-made-in-Changes-clause-judged : goal.returns-in_ok-made-in-Changes-clause-judged
+returns-in_ok-made-in-Changes-clause-judged g c =
     let case = g.C.Called.case c.args.call in
     let at = setting_at c.args.config.now c.args.tables.now c.args.moment c.args.drawn in
     let passes : Passes at c.args.caller.now (case at) = subst (λ (a : Option Answer). IsRefusal at c.args.caller.now case a) c.in_default.is c.in_ok-answer.ensures in
-    let deed : IsDeed at (case at).deed (Makes c.in-Makes.creation) = subst (IsDeed at (case at).deed) c.in-Makes.is c.in_ok-body.ensures in
-    IsJudged-made at c.args.caller.now case c.in-Makes.creation c.in_ok-made-in-Makes.made passes deed.0 c.in_ok-made-in-Makes.ensures.made
+    let deed : IsDeed at (case at).deed (Changes c.in-Changes.kind) = subst (IsDeed at (case at).deed) c.in-Changes.is c.in_ok-body.ensures in
+    IsJudged-made at c.args.caller.now case c.in-Changes.kind c.in_ok-made-in-Changes.made passes deed.0 c.in_ok-made-in-Changes.ensures.made

@@ -1,8 +1,5 @@
 -- Whoever has access is asked for its scopes, and another caller is refused.
-use Rattle.std.proofs.Common.{◌≡◌, List, ℕ, Option, IfOk, Result, subst}
-use Rattle.farm_machine.specs.declared.reply.Answer.{Answer}
 use Rattle.farm_machine.specs.Access.{Has, Refused, HasAccess}
-use Rattle.farm_machine.specs.Refused.{IsRefusal}
 use Rattle.farm_machine.proofs.AccessLemmas.{has_kept, has_made, has_refused}
 use Rattle.farm_machine.proofs.OrderLemmas.{asks-refused, refused-within}
 use Rattle.farm_machine.proofs.order.refusal.Goals as goal

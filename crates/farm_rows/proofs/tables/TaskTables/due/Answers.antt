@@ -2,7 +2,7 @@ use Rattle.std.proofs.Common.{◌≡◌, ap, sym, ◌∙◌, Some, nat_le, rules
 use Rattle.farm_rows.specs.Due.{all_due_moments, is_due}
 use Rattle.farm_rows.specs.Sweep.{soonest_of}
 use Rattle.farm_rows.specs.Contents.{Contents}
-use Rattle.farm_rows.proofs.DueLemmas.{is_reached, reached_is}
+use Rattle.farm_rows.proofs.LeastLemmas.{is_reached, reached_is}
 use Rattle.farm_rows.proofs.tables.TaskTables.due.Goals as goal
 
 pub returns-in-Some : goal.returns-in-Some

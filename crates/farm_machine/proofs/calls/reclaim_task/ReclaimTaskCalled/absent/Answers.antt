@@ -1,0 +1,8 @@
+use Rattle.std.proofs.Common.{◌≡◌, Option, IfOk, refl, sym, subst}
+use Rattle.farm_machine.specs.declared.reply.Answer.{Answer}
+use Rattle.farm_machine.proofs.MayLemmas.{absent-same}
+use Rattle.farm_machine.proofs.calls.reclaim_task.ReclaimTaskCalled.absent.Goals as goal
+
+pub returns : goal.returns
+returns c =
+    subst (λ (absent : Option Answer). IfOk c.absent_run.result (λ a. a ≡ absent)) (sym (absent-same c.args.self.now.name c.args.at.now _ (λ row. refl))) c.absent_run.ensures

@@ -1,0 +1,66 @@
+ghost use Rattle.std.specs.Prelude.{None, ◌≡◌, IfOk};
+
+use crate::case::{Called, Done, Scene};
+use crate::question::WorkRequest;
+use crate::reply::Answer;
+use crate::works::work_body;
+use call_rules::claim_scopes;
+use farm_record::{Claim, Kind, RunNames};
+use farm_text::Moment;
+use scope_sets::Expr;
+use std::alloc::{AllocError, Global};
+
+/// How many runs a worker takes together at most.
+const MOST_RUNS: u8 = 32;
+
+/// A worker takes the runs of a queue that are next.
+#[derive(Drop)]
+pub(crate) struct ClaimWork {
+    pub(crate) work: WorkRequest,
+}
+
+impl Called for ClaimWork {
+    ghost use Rattle.farm_machine.specs.Calls.ClaimWork.{claim_work};
+
+    ghost case = { λ call. claim_work call.work };
+
+    fn absent(&self, _alloc: Global, _at: &Scene<'_>) -> Result<Option<Answer>, AllocError> {
+        Ok(None)
+    }
+
+    fn policy(&self, alloc: Global, _at: &Scene<'_>) -> Result<Expr, AllocError> {
+        let work = &self.work;
+        claim_scopes(alloc, &work.queue, &work.worker_group, &work.worker_id)
+    }
+
+    fn rule(&self, _alloc: Global, _at: &Scene<'_>) -> Result<Option<Answer>, AllocError> {
+        Ok(None)
+    }
+
+    fn deed(self, alloc: Global, at: &Scene<'_>) -> Result<Done, AllocError> {
+        let most = self.work.tasks.min(MOST_RUNS);
+        let names = at.tables.picks(alloc, &self.work.queue, most)?;
+        match RunNames::from_list(names) {
+            Some(runs) => Ok(Done::Changes(taking(self.work, runs, at.taken_until()))),
+            None => Ok(Done::Reads(work_body(alloc, &[])?)),
+        }
+    }
+}
+
+/// The claim of these runs until a moment.
+fn taking(work: WorkRequest, runs: RunNames, taken_until: Moment) -> Kind
+    ensures { result ≡ Kind.Claim (record { taken_until = taken_until; worker_group = work.worker_group; worker_id = work.worker_id; runs = runs }) }
+{
+    let WorkRequest {
+        queue: _,
+        worker_group,
+        worker_id,
+        tasks: _,
+    } = work;
+    Kind::Claim(Claim {
+        taken_until,
+        worker_group,
+        worker_id,
+        runs,
+    })
+}

@@ -1,0 +1,14 @@
+use Rattle.std.proofs.Common.{ap, sym, ◌∙◌, slice_set}
+use Rattle.run_states.specs.Rows.{Row}
+use Rattle.run_states.specs.Moves.{reclaimed}
+use Rattle.farm_rows.specs.Changes.{has_id}
+use Rattle.farm_rows.proofs.PlaceLemmas.{place-changed, place-none}
+use Rattle.farm_rows.proofs.moves.reclaim.Goals as goal
+
+pub returns-in-Some : goal.returns-in-Some
+returns-in-Some c =
+    ap (slice_set c.args.rows.now c.in-Some.place) c.reclaim.ensures.row
+    ∙ place-changed (has_id c.args.reclaim.id) (λ (r : Row). reclaimed c.args.reclaim.run c.args.reclaim.taken_until r) c.args.rows.now c.in-Some.place c.index-rows-place.result (sym c.in-Some.ensures)
+
+pub returns-in_default : goal.returns-in_default
+returns-in_default c = place-none (has_id c.args.reclaim.id) (λ (r : Row). reclaimed c.args.reclaim.run c.args.reclaim.taken_until r) c.args.rows.now (sym c.in_default.ensures)

@@ -1,0 +1,25 @@
+use Rattle.std.proofs.Common.{◌≡◌, false, List, length, ap, sym, ◌∙◌, rules, arith}
+use Rattle.std.proofs.lemmas.List.{with_items_is}
+use Rattle.run_states.specs.Rows.{Row}
+use Rattle.farm_rows.specs.Contents.{Contents}
+use Rattle.farm_rows.specs.Due.{is_due}
+use Rattle.farm_rows.specs.Sweep.{numbered, all_turns}
+use Rattle.farm_rows.proofs.TableLemmas.{turns-idle, turns-numbered}
+use Rattle.farm_rows.proofs.tables.TaskTables.resolve_due.Goals as goal
+
+pub returns-then-not-due : goal.returns-then-not-due
+returns-then-not-due c =
+    let none : is_due c.args.self.now c.args.moment ≡ false = sym c.due.ensures ∙ c.if-not-due.true in
+    turns-idle c.args.self.now c.args.moment none
+
+pub returns : goal.returns
+returns c =
+    let rows = c.self.inside.rows.items in
+    let new = c.resolve_due-self-inside.new.rows in
+    let last = c.self.inside.last in
+    let next = c.self.inside.next in
+    let drawn = c.resolve_due-self-inside.result in
+    let len : length new ≡ c.self.inside.rows.len = search (rules, arith) in
+    ap (λ (rs : List Row). let k : Contents = record { rows = rs; last = last; next = drawn } in k) (with_items_is c.self.inside.rows new len)
+    ∙ turns-numbered c.args.self.now rows last next c.args.moment new drawn c.self.view_is
+    (ap (λ (rs : List Row). all_turns (numbered rs next) c.args.moment) (sym c.deref_mut.ensures.value) ∙ c.resolve_due-self-inside.ensures.turns)

@@ -1,0 +1,112 @@
+//! What changes of one task, by its id. None of it takes memory.
+ghost use Rattle.std.specs.Prelude.{◌≡◌, Some, option_copied};
+ghost use Rattle.std.specs.List.{position};
+ghost use Rattle.run_states.specs.Moves.{run_again, canceled, claimed, reclaimed, resolved};
+ghost use Rattle.farm_rows.specs.Contents.{row_with};
+ghost use Rattle.farm_rows.specs.Due.{draws};
+ghost use Rattle.farm_rows.specs.Changes.{has_id, change_row, reason_of};
+
+use farm_record::{Reclaim, Report, Resolution};
+use farm_text::{Moment, SlugId};
+use run_states::{Claim as RunClaim, ReasonResolved, TaskRow};
+
+/// The place of the task with this id.
+fn place_of(rows: &[TaskRow], id: SlugId) -> Option<usize>
+    ensures { result ≡ position (has_id id) rows.now }
+{
+    rows.iter().position(|row| row.id() == id)
+}
+
+/// The task with this id.
+pub(crate) fn row_with(rows: &[TaskRow], id: SlugId) -> Option<&TaskRow>
+    ensures { option_copied result ≡ row_with id rows.now }
+{
+    rows.iter().find(|row| row.id() == id)
+}
+
+/// The task is run again, where it may be.
+pub(crate) fn rerun(rows: &mut [TaskRow], id: SlugId, at: Moment, number: u64)
+    ensures { rows.new ≡ change_row id (run_again number at) rows.old }
+{
+    if let Some(place) = place_of(rows, id) {
+        let row = &mut rows[place];
+        let _ = row.rerun(at, number);
+    }
+}
+
+/// The task is canceled, where it is not resolved.
+pub(crate) fn cancel(rows: &mut [TaskRow], id: SlugId, at: Moment)
+    ensures { rows.new ≡ change_row id (canceled at) rows.old }
+{
+    if let Some(place) = place_of(rows, id) {
+        let row = &mut rows[place];
+        row.cancel(at);
+    }
+}
+
+/// A worker takes the pending run of the task.
+pub(crate) fn claim(rows: &mut [TaskRow], id: SlugId, claim: RunClaim)
+    ensures { rows.new ≡ change_row id (claimed claim) rows.old }
+{
+    if let Some(place) = place_of(rows, id) {
+        let row = &mut rows[place];
+        row.claim(claim);
+    }
+}
+
+/// A worker keeps its run.
+pub(crate) fn reclaim(rows: &mut [TaskRow], reclaim: Reclaim)
+    ensures { rows.new ≡ change_row reclaim.id (reclaimed reclaim.run reclaim.taken_until) rows.old }
+{
+    if let Some(place) = place_of(rows, reclaim.id) {
+        let row = &mut rows[place];
+        let _ = row.reclaim(reclaim.run, reclaim.taken_until);
+    }
+}
+
+/// The run of a task ends, as its worker reports.
+pub(crate) fn resolve(rows: &mut [TaskRow], resolution: &Resolution, at: Moment, number: u64)
+    ensures { let r = resolution.now in rows.new ≡ change_row r.id (resolved r.run (reason_of r.reason) number at) rows.old }
+{
+    if let Some(place) = place_of(rows, resolution.id) {
+        let row = &mut rows[place];
+        let reason = reason_of(resolution.reason);
+        let _ = row.resolve(at, resolution.run, reason, number);
+    }
+}
+
+/// How many numbers a report draws: one, where a new run follows.
+pub(crate) fn drawn(rows: &[TaskRow], resolution: &Resolution) -> u64
+    ensures { result ≡ draws (reason_of resolution.now.reason) (row_with resolution.now.id rows.now) }
+{
+    match row_with(rows, resolution.id) {
+        Some(row) => drawn_of(row, reason_of(resolution.reason)),
+        None => 0,
+    }
+}
+
+fn drawn_of(row: &TaskRow, reason: ReasonResolved) -> u64
+    ensures { result ≡ draws reason (Some row.now) }
+{
+    if reason.retry_after().is_some() && row.retries_left() > 0 {
+        1
+    } else {
+        0
+    }
+}
+
+/// Why a run ends that is reported so.
+pub fn reason_of(report: Report) -> ReasonResolved
+    ensures { result ≡ reason_of report }
+{
+    match report {
+        Report::Completed => ReasonResolved::Completed,
+        Report::Failed => ReasonResolved::Failed,
+        Report::Superseded => ReasonResolved::Superseded,
+        Report::WorkerShutdown => ReasonResolved::WorkerShutdown,
+        Report::MalformedPayload => ReasonResolved::MalformedPayload,
+        Report::ResourceUnavailable => ReasonResolved::ResourceUnavailable,
+        Report::InternalError => ReasonResolved::InternalError,
+        Report::IntermittentTask => ReasonResolved::IntermittentTask,
+    }
+}

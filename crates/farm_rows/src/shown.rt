@@ -1,0 +1,79 @@
+//! The tasks that a change names, as they will be: copies, which share their definitions with the tasks that stand.
+ghost use Rattle.std.specs.Prelude.{◌≡◌, [], ◌∷◌, ◌++◌, map, IfOk, OnOk};
+ghost use Rattle.std.specs.Option.{option_to_list};
+ghost use Rattle.farm_rows.specs.Contents.{row_with};
+ghost use Rattle.farm_rows.specs.Plans.{rows_with, named_rows};
+ghost use Rattle.farm_rows.specs.Deeds.{kind_of, rows_after};
+
+use crate::copies::claims;
+use crate::moves::row_with;
+use crate::plan::Deed;
+use crate::work::make;
+use farm_record::RunName;
+use farm_text::{Moment, SlugId};
+use run_states::TaskRow;
+use std::alloc::{AllocError, Global};
+
+/// The tasks that a change of tasks that stand names, as they will be, where a new run has this number.
+pub(crate) fn shown(
+    alloc: Global,
+    rows: &[TaskRow],
+    at: Moment,
+    number: u64,
+    deed: &Deed,
+) -> Result<Vec<TaskRow>, AllocError>
+    ensures { IfOk result (λ v. v.items ≡ rows_after at number deed.now (named_rows (kind_of deed.now) rows.now)) }
+{
+    let mut shown = named(alloc, rows, deed)?;
+    let claims = claims(alloc, at, deed)?;
+    make(&mut shown, at, number, deed, claims);
+    Ok(shown)
+}
+
+/// Copies of the tasks that a change names, as far as they stand.
+fn named(alloc: Global, rows: &[TaskRow], deed: &Deed) -> Result<Vec<TaskRow>, AllocError>
+    ensures { IfOk result (λ v. v.items ≡ named_rows (kind_of deed.now) rows.now) }
+{
+    match deed {
+        Deed::Create(row) => one(alloc, rows, row.id()),
+        Deed::Rerun(id) | Deed::Cancel(id) => one(alloc, rows, *id),
+        Deed::Claim(claim) => each(alloc, rows, claim.runs.list()),
+        Deed::Reclaim(reclaim) => one(alloc, rows, reclaim.id),
+        Deed::Resolve(resolution) => one(alloc, rows, resolution.id),
+    }
+}
+
+/// A copy of the task with this id, if it stands.
+fn one(alloc: Global, rows: &[TaskRow], id: SlugId) -> Result<Vec<TaskRow>, AllocError>
+    ensures { IfOk result (λ v. v.items ≡ rows_with (id ∷ []) rows.now) }
+{
+    let mut found = Vec::new(alloc);
+    add(alloc, &mut found, rows, id)?;
+    Ok(found)
+}
+
+/// Copies of the tasks of these runs, as far as they stand.
+fn each(alloc: Global, rows: &[TaskRow], names: &[RunName]) -> Result<Vec<TaskRow>, AllocError>
+    ensures { IfOk result (λ v. v.items ≡ rows_with (map (λ name. name.id) names.now) rows.now) }
+{
+    let mut found = Vec::with_capacity(alloc, names.len())?;
+    for name in names {
+        add(alloc, &mut found, rows, name.id)?;
+    }
+    Ok(found)
+}
+
+/// Adds a copy of the task with this id, if it stands.
+fn add(
+    alloc: Global,
+    found: &mut Vec<TaskRow>,
+    rows: &[TaskRow],
+    id: SlugId,
+) -> Result<(), AllocError>
+    ensures { OnOk result (found.new.items ≡ found.old.items ++ option_to_list (row_with id rows.now)) }
+{
+    if let Some(row) = row_with(rows, id) {
+        found.push(row.copy(alloc)?)?;
+    }
+    Ok(())
+}

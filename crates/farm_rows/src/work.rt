@@ -1,0 +1,68 @@
+//! What a change makes of the tasks that stand. None of it takes memory.
+ghost use Rattle.std.specs.Prelude.{◌≡◌, length, replicate};
+ghost use Rattle.farm_rows.specs.Changes.{claim_of, all_claimed};
+ghost use Rattle.farm_rows.specs.Deeds.{rows_after, drawn_by, claims_of};
+
+use crate::moves::{cancel, claim, drawn, reclaim, rerun, resolve};
+use crate::plan::Deed;
+use farm_record::{Claim, Resolution};
+use farm_text::Moment;
+use run_states::{Claim as RunClaim, TaskRow};
+
+/// Makes a change of the tasks that stand, and answers how many numbers it draws.
+pub(crate) fn make(
+    rows: &mut [TaskRow],
+    at: Moment,
+    number: u64,
+    deed: &Deed,
+    claims: Vec<RunClaim>,
+) -> u64
+    requires { claims.items ≡ claims_of at deed.now }
+    ensures rows { rows.new ≡ rows_after at number deed.now rows.old }
+    ensures drawn { result ≡ drawn_by deed.now rows.old }
+{
+    match deed {
+        Deed::Create(_) => 0,
+        Deed::Rerun(id) => {
+            rerun(rows, *id, at, number);
+            1
+        }
+        Deed::Cancel(id) => {
+            cancel(rows, *id, at);
+            0
+        }
+        Deed::Claim(taken) => {
+            claim_all(rows, at, taken, claims);
+            0
+        }
+        Deed::Reclaim(kept) => {
+            reclaim(rows, *kept);
+            0
+        }
+        Deed::Resolve(resolution) => report(rows, resolution, at, number),
+    }
+}
+
+/// Ends the run of a report, and answers how many numbers it draws.
+fn report(rows: &mut [TaskRow], resolution: &Resolution, at: Moment, number: u64) -> u64
+    ensures rows { rows.new ≡ rows_after at number (Deed.Resolve resolution.now) rows.old }
+    ensures drawn { result ≡ drawn_by (Deed.Resolve resolution.now) rows.old }
+{
+    let drawn = drawn(rows, resolution);
+    resolve(rows, resolution, at, number);
+    drawn
+}
+
+/// A worker takes runs, one after the other, each by one of the claims.
+fn claim_all(rows: &mut [TaskRow], at: Moment, taken: &Claim, mut claims: Vec<RunClaim>)
+    requires { claims.items ≡ replicate (length taken.now.runs) (claim_of at taken.now) }
+    ensures { rows.new ≡ all_claimed (claim_of at taken.now) taken.now.runs rows.old }
+{
+    let names = taken.runs.list();
+    for name in names {
+        match claims.pop() {
+            Some(one) => claim(rows, name.id, one),
+            None => unreachable!(),
+        }
+    }
+}

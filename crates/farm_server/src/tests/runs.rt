@@ -1,0 +1,312 @@
+//! The runs of one task over connections in memory. The replies were written by hand after the queue service's reference, and by a model of it.
+use super::rows::{Row, first_other};
+use super::tasks::{CREATED, farm, written_at};
+use super::*;
+
+/// A worker takes the task, and then it is made again.
+const AGAIN: [Row; 3] = [
+    (
+        0,
+        "PUT /api/queue/v1/task/AAAAAAAAQACAAAAAAAAAAA",
+        r#"{"created":"2024-01-01T00:00:00.000Z","deadline":"2024-01-02T00:00:00.000Z","metadata":{"description":"d","name":"n","owner":"o@example.com","source":"https://example.com/"},"payload":{},"taskQueueId":"prov/wt"}"#,
+        "200 OK",
+        r#"{"status":{"deadline":"2024-01-02T00:00:00.000Z","expires":"2025-01-01T00:00:00.000Z","projectId":"none","provisionerId":"prov","retriesLeft":5,"runs":[{"reasonCreated":"scheduled","runId":0,"scheduled":"2024-01-01T00:00:00.000Z","state":"pending"}],"schedulerId":"-","state":"pending","taskGroupId":"AAAAAAAAQACAAAAAAAAAAA","taskId":"AAAAAAAAQACAAAAAAAAAAA","taskQueueId":"prov/wt","workerType":"wt"}}"#,
+    ),
+    (
+        10_000,
+        "POST /api/queue/v1/claim-work/prov%2Fwt",
+        r#"{"workerGroup":"g","workerId":"w"}"#,
+        "200 OK",
+        r#"{"tasks":[{"runId":0,"status":{"deadline":"2024-01-02T00:00:00.000Z","expires":"2025-01-01T00:00:00.000Z","projectId":"none","provisionerId":"prov","retriesLeft":5,"runs":[{"reasonCreated":"scheduled","runId":0,"scheduled":"2024-01-01T00:00:00.000Z","started":"2024-01-01T00:00:10.000Z","state":"running","takenUntil":"2024-01-01T00:20:10.000Z","workerGroup":"g","workerId":"w"}],"schedulerId":"-","state":"running","taskGroupId":"AAAAAAAAQACAAAAAAAAAAA","taskId":"AAAAAAAAQACAAAAAAAAAAA","taskQueueId":"prov/wt","workerType":"wt"},"takenUntil":"2024-01-01T00:20:10.000Z","task":{"created":"2024-01-01T00:00:00.000Z","deadline":"2024-01-02T00:00:00.000Z","dependencies":[],"expires":"2025-01-01T00:00:00.000Z","extra":{},"metadata":{"description":"d","name":"n","owner":"o@example.com","source":"https://example.com/"},"payload":{},"priority":"lowest","projectId":"none","provisionerId":"prov","requires":"all-completed","retries":5,"routes":[],"schedulerId":"-","scopes":[],"tags":{},"taskGroupId":"AAAAAAAAQACAAAAAAAAAAA","taskQueueId":"prov/wt","workerType":"wt"},"workerGroup":"g","workerId":"w"}]}"#,
+    ),
+    (
+        11_000,
+        "PUT /api/queue/v1/task/AAAAAAAAQACAAAAAAAAAAA",
+        r#"{"created":"2024-01-01T00:00:00.000Z","deadline":"2024-01-02T00:00:00.000Z","metadata":{"description":"d","name":"n","owner":"o@example.com","source":"https://example.com/"},"payload":{},"taskQueueId":"prov/wt"}"#,
+        "200 OK",
+        r#"{"status":{"deadline":"2024-01-02T00:00:00.000Z","expires":"2025-01-01T00:00:00.000Z","projectId":"none","provisionerId":"prov","retriesLeft":5,"runs":[{"reasonCreated":"scheduled","runId":0,"scheduled":"2024-01-01T00:00:00.000Z","started":"2024-01-01T00:00:10.000Z","state":"running","takenUntil":"2024-01-01T00:20:10.000Z","workerGroup":"g","workerId":"w"}],"schedulerId":"-","state":"running","taskGroupId":"AAAAAAAAQACAAAAAAAAAAA","taskId":"AAAAAAAAQACAAAAAAAAAAA","taskQueueId":"prov/wt","workerType":"wt"}}"#,
+    ),
+];
+
+#[test]
+fn a_task_that_runs_is_made_again(rt: HostRuntime) -> Result<(), Fail> {
+    let mut desk = farm(rt.alloc(), &["*"], 1_000_000)?;
+    assert_eq!(rt; first_other(rt.alloc(), &mut desk, &AGAIN)?, 3);
+    Ok(())
+}
+
+/// A claim is kept and lapses at its end; then the clock goes back.
+const LAPSE: [Row; 5] = [
+    (
+        0,
+        "PUT /api/queue/v1/task/AAAAAAAAQACAAAAAAAAAAA",
+        r#"{"created":"2024-01-01T00:00:00.000Z","deadline":"2024-01-02T00:00:00.000Z","metadata":{"description":"d","name":"n","owner":"o@example.com","source":"https://example.com/"},"payload":{},"taskQueueId":"prov/wt"}"#,
+        "200 OK",
+        r#"{"status":{"deadline":"2024-01-02T00:00:00.000Z","expires":"2025-01-01T00:00:00.000Z","projectId":"none","provisionerId":"prov","retriesLeft":5,"runs":[{"reasonCreated":"scheduled","runId":0,"scheduled":"2024-01-01T00:00:00.000Z","state":"pending"}],"schedulerId":"-","state":"pending","taskGroupId":"AAAAAAAAQACAAAAAAAAAAA","taskId":"AAAAAAAAQACAAAAAAAAAAA","taskQueueId":"prov/wt","workerType":"wt"}}"#,
+    ),
+    (
+        10_000,
+        "POST /api/queue/v1/claim-work/prov%2Fwt",
+        r#"{"workerGroup":"g","workerId":"w"}"#,
+        "200 OK",
+        r#"{"tasks":[{"runId":0,"status":{"deadline":"2024-01-02T00:00:00.000Z","expires":"2025-01-01T00:00:00.000Z","projectId":"none","provisionerId":"prov","retriesLeft":5,"runs":[{"reasonCreated":"scheduled","runId":0,"scheduled":"2024-01-01T00:00:00.000Z","started":"2024-01-01T00:00:10.000Z","state":"running","takenUntil":"2024-01-01T00:20:10.000Z","workerGroup":"g","workerId":"w"}],"schedulerId":"-","state":"running","taskGroupId":"AAAAAAAAQACAAAAAAAAAAA","taskId":"AAAAAAAAQACAAAAAAAAAAA","taskQueueId":"prov/wt","workerType":"wt"},"takenUntil":"2024-01-01T00:20:10.000Z","task":{"created":"2024-01-01T00:00:00.000Z","deadline":"2024-01-02T00:00:00.000Z","dependencies":[],"expires":"2025-01-01T00:00:00.000Z","extra":{},"metadata":{"description":"d","name":"n","owner":"o@example.com","source":"https://example.com/"},"payload":{},"priority":"lowest","projectId":"none","provisionerId":"prov","requires":"all-completed","retries":5,"routes":[],"schedulerId":"-","scopes":[],"tags":{},"taskGroupId":"AAAAAAAAQACAAAAAAAAAAA","taskQueueId":"prov/wt","workerType":"wt"},"workerGroup":"g","workerId":"w"}]}"#,
+    ),
+    (
+        1_209_999,
+        "POST /api/queue/v1/task/AAAAAAAAQACAAAAAAAAAAA/runs/0/reclaim",
+        r#""#,
+        "200 OK",
+        r#"{"runId":0,"status":{"deadline":"2024-01-02T00:00:00.000Z","expires":"2025-01-01T00:00:00.000Z","projectId":"none","provisionerId":"prov","retriesLeft":5,"runs":[{"reasonCreated":"scheduled","runId":0,"scheduled":"2024-01-01T00:00:00.000Z","started":"2024-01-01T00:00:10.000Z","state":"running","takenUntil":"2024-01-01T00:40:09.999Z","workerGroup":"g","workerId":"w"}],"schedulerId":"-","state":"running","taskGroupId":"AAAAAAAAQACAAAAAAAAAAA","taskId":"AAAAAAAAQACAAAAAAAAAAA","taskQueueId":"prov/wt","workerType":"wt"},"takenUntil":"2024-01-01T00:40:09.999Z","workerGroup":"g","workerId":"w"}"#,
+    ),
+    (
+        2_409_999,
+        "POST /api/queue/v1/task/AAAAAAAAQACAAAAAAAAAAA/runs/0/completed",
+        r#""#,
+        "409 Conflict",
+        r#"{"code":"RequestConflict","details":{"rule":3,"status":{"deadline":"2024-01-02T00:00:00.000Z","expires":"2025-01-01T00:00:00.000Z","projectId":"none","provisionerId":"prov","retriesLeft":4,"runs":[{"reasonCreated":"scheduled","reasonResolved":"claim-expired","resolved":"2024-01-01T00:40:09.999Z","runId":0,"scheduled":"2024-01-01T00:00:00.000Z","started":"2024-01-01T00:00:10.000Z","state":"exception","takenUntil":"2024-01-01T00:40:09.999Z","workerGroup":"g","workerId":"w"},{"reasonCreated":"retry","runId":1,"scheduled":"2024-01-01T00:40:09.999Z","state":"pending"}],"schedulerId":"-","state":"pending","taskGroupId":"AAAAAAAAQACAAAAAAAAAAA","taskId":"AAAAAAAAQACAAAAAAAAAAA","taskQueueId":"prov/wt","workerType":"wt"}},"message":"the state forbids it"}"#,
+    ),
+    (
+        0,
+        "GET /api/queue/v1/task/AAAAAAAAQACAAAAAAAAAAA/status",
+        r#""#,
+        "200 OK",
+        r#"{"status":{"deadline":"2024-01-02T00:00:00.000Z","expires":"2025-01-01T00:00:00.000Z","projectId":"none","provisionerId":"prov","retriesLeft":4,"runs":[{"reasonCreated":"scheduled","reasonResolved":"claim-expired","resolved":"2024-01-01T00:40:09.999Z","runId":0,"scheduled":"2024-01-01T00:00:00.000Z","started":"2024-01-01T00:00:10.000Z","state":"exception","takenUntil":"2024-01-01T00:40:09.999Z","workerGroup":"g","workerId":"w"},{"reasonCreated":"retry","runId":1,"scheduled":"2024-01-01T00:40:09.999Z","state":"pending"}],"schedulerId":"-","state":"pending","taskGroupId":"AAAAAAAAQACAAAAAAAAAAA","taskId":"AAAAAAAAQACAAAAAAAAAAA","taskQueueId":"prov/wt","workerType":"wt"}}"#,
+    ),
+];
+
+#[test]
+fn a_claim_lapses_at_its_end(rt: HostRuntime) -> Result<(), Fail> {
+    let mut desk = farm(rt.alloc(), &["*"], 1_000_000)?;
+    assert_eq!(rt; first_other(rt.alloc(), &mut desk, &LAPSE)?, 5);
+    Ok(())
+}
+
+/// A claim lapses, and no retry is left.
+const LAST: [Row; 3] = [
+    (
+        0,
+        "PUT /api/queue/v1/task/AAAAAAAAQACAAAAAAAAAAA",
+        r#"{"created":"2024-01-01T00:00:00.000Z","deadline":"2024-01-02T00:00:00.000Z","metadata":{"description":"d","name":"n","owner":"o@example.com","source":"https://example.com/"},"payload":{},"retries":0,"taskQueueId":"prov/wt"}"#,
+        "200 OK",
+        r#"{"status":{"deadline":"2024-01-02T00:00:00.000Z","expires":"2025-01-01T00:00:00.000Z","projectId":"none","provisionerId":"prov","retriesLeft":0,"runs":[{"reasonCreated":"scheduled","runId":0,"scheduled":"2024-01-01T00:00:00.000Z","state":"pending"}],"schedulerId":"-","state":"pending","taskGroupId":"AAAAAAAAQACAAAAAAAAAAA","taskId":"AAAAAAAAQACAAAAAAAAAAA","taskQueueId":"prov/wt","workerType":"wt"}}"#,
+    ),
+    (
+        10_000,
+        "POST /api/queue/v1/claim-work/prov%2Fwt",
+        r#"{"workerGroup":"g","workerId":"w"}"#,
+        "200 OK",
+        r#"{"tasks":[{"runId":0,"status":{"deadline":"2024-01-02T00:00:00.000Z","expires":"2025-01-01T00:00:00.000Z","projectId":"none","provisionerId":"prov","retriesLeft":0,"runs":[{"reasonCreated":"scheduled","runId":0,"scheduled":"2024-01-01T00:00:00.000Z","started":"2024-01-01T00:00:10.000Z","state":"running","takenUntil":"2024-01-01T00:20:10.000Z","workerGroup":"g","workerId":"w"}],"schedulerId":"-","state":"running","taskGroupId":"AAAAAAAAQACAAAAAAAAAAA","taskId":"AAAAAAAAQACAAAAAAAAAAA","taskQueueId":"prov/wt","workerType":"wt"},"takenUntil":"2024-01-01T00:20:10.000Z","task":{"created":"2024-01-01T00:00:00.000Z","deadline":"2024-01-02T00:00:00.000Z","dependencies":[],"expires":"2025-01-01T00:00:00.000Z","extra":{},"metadata":{"description":"d","name":"n","owner":"o@example.com","source":"https://example.com/"},"payload":{},"priority":"lowest","projectId":"none","provisionerId":"prov","requires":"all-completed","retries":0,"routes":[],"schedulerId":"-","scopes":[],"tags":{},"taskGroupId":"AAAAAAAAQACAAAAAAAAAAA","taskQueueId":"prov/wt","workerType":"wt"},"workerGroup":"g","workerId":"w"}]}"#,
+    ),
+    (
+        1_210_000,
+        "GET /api/queue/v1/task/AAAAAAAAQACAAAAAAAAAAA/status",
+        r#""#,
+        "200 OK",
+        r#"{"status":{"deadline":"2024-01-02T00:00:00.000Z","expires":"2025-01-01T00:00:00.000Z","projectId":"none","provisionerId":"prov","retriesLeft":0,"runs":[{"reasonCreated":"scheduled","reasonResolved":"claim-expired","resolved":"2024-01-01T00:20:10.000Z","runId":0,"scheduled":"2024-01-01T00:00:00.000Z","started":"2024-01-01T00:00:10.000Z","state":"exception","takenUntil":"2024-01-01T00:20:10.000Z","workerGroup":"g","workerId":"w"}],"schedulerId":"-","state":"exception","taskGroupId":"AAAAAAAAQACAAAAAAAAAAA","taskId":"AAAAAAAAQACAAAAAAAAAAA","taskQueueId":"prov/wt","workerType":"wt"}}"#,
+    ),
+];
+
+#[test]
+fn without_retries_a_lapsed_claim_ends_the_task(rt: HostRuntime) -> Result<(), Fail> {
+    let mut desk = farm(rt.alloc(), &["*"], 1_000_000)?;
+    assert_eq!(rt; first_other(rt.alloc(), &mut desk, &LAST)?, 3);
+    Ok(())
+}
+
+/// A claim and the deadline end together.
+const DEADLINE_FIRST: [Row; 3] = [
+    (
+        0,
+        "PUT /api/queue/v1/task/AAAAAAAAQACAAAAAAAAAAA",
+        r#"{"created":"2024-01-01T00:00:00.000Z","deadline":"2024-01-01T00:20:10.000Z","metadata":{"description":"d","name":"n","owner":"o@example.com","source":"https://example.com/"},"payload":{},"taskQueueId":"prov/wt"}"#,
+        "200 OK",
+        r#"{"status":{"deadline":"2024-01-01T00:20:10.000Z","expires":"2024-12-31T00:20:10.000Z","projectId":"none","provisionerId":"prov","retriesLeft":5,"runs":[{"reasonCreated":"scheduled","runId":0,"scheduled":"2024-01-01T00:00:00.000Z","state":"pending"}],"schedulerId":"-","state":"pending","taskGroupId":"AAAAAAAAQACAAAAAAAAAAA","taskId":"AAAAAAAAQACAAAAAAAAAAA","taskQueueId":"prov/wt","workerType":"wt"}}"#,
+    ),
+    (
+        10_000,
+        "POST /api/queue/v1/claim-work/prov%2Fwt",
+        r#"{"workerGroup":"g","workerId":"w"}"#,
+        "200 OK",
+        r#"{"tasks":[{"runId":0,"status":{"deadline":"2024-01-01T00:20:10.000Z","expires":"2024-12-31T00:20:10.000Z","projectId":"none","provisionerId":"prov","retriesLeft":5,"runs":[{"reasonCreated":"scheduled","runId":0,"scheduled":"2024-01-01T00:00:00.000Z","started":"2024-01-01T00:00:10.000Z","state":"running","takenUntil":"2024-01-01T00:20:10.000Z","workerGroup":"g","workerId":"w"}],"schedulerId":"-","state":"running","taskGroupId":"AAAAAAAAQACAAAAAAAAAAA","taskId":"AAAAAAAAQACAAAAAAAAAAA","taskQueueId":"prov/wt","workerType":"wt"},"takenUntil":"2024-01-01T00:20:10.000Z","task":{"created":"2024-01-01T00:00:00.000Z","deadline":"2024-01-01T00:20:10.000Z","dependencies":[],"expires":"2024-12-31T00:20:10.000Z","extra":{},"metadata":{"description":"d","name":"n","owner":"o@example.com","source":"https://example.com/"},"payload":{},"priority":"lowest","projectId":"none","provisionerId":"prov","requires":"all-completed","retries":5,"routes":[],"schedulerId":"-","scopes":[],"tags":{},"taskGroupId":"AAAAAAAAQACAAAAAAAAAAA","taskQueueId":"prov/wt","workerType":"wt"},"workerGroup":"g","workerId":"w"}]}"#,
+    ),
+    (
+        1_210_000,
+        "GET /api/queue/v1/task/AAAAAAAAQACAAAAAAAAAAA/status",
+        r#""#,
+        "200 OK",
+        r#"{"status":{"deadline":"2024-01-01T00:20:10.000Z","expires":"2024-12-31T00:20:10.000Z","projectId":"none","provisionerId":"prov","retriesLeft":5,"runs":[{"reasonCreated":"scheduled","reasonResolved":"deadline-exceeded","resolved":"2024-01-01T00:20:10.000Z","runId":0,"scheduled":"2024-01-01T00:00:00.000Z","started":"2024-01-01T00:00:10.000Z","state":"exception","takenUntil":"2024-01-01T00:20:10.000Z","workerGroup":"g","workerId":"w"}],"schedulerId":"-","state":"exception","taskGroupId":"AAAAAAAAQACAAAAAAAAAAA","taskId":"AAAAAAAAQACAAAAAAAAAAA","taskQueueId":"prov/wt","workerType":"wt"}}"#,
+    ),
+];
+
+#[test]
+fn a_deadline_comes_before_a_claim(rt: HostRuntime) -> Result<(), Fail> {
+    let mut desk = farm(rt.alloc(), &["*"], 1_000_000)?;
+    assert_eq!(rt; first_other(rt.alloc(), &mut desk, &DEADLINE_FIRST)?, 3);
+    Ok(())
+}
+
+/// A task has one retry, and fails twice so that it may be run again.
+const RETRY: [Row; 5] = [
+    (
+        0,
+        "PUT /api/queue/v1/task/AAAAAAAAQACAAAAAAAAAAA",
+        r#"{"created":"2024-01-01T00:00:00.000Z","deadline":"2024-01-02T00:00:00.000Z","metadata":{"description":"d","name":"n","owner":"o@example.com","source":"https://example.com/"},"payload":{},"retries":1,"taskQueueId":"prov/wt"}"#,
+        "200 OK",
+        r#"{"status":{"deadline":"2024-01-02T00:00:00.000Z","expires":"2025-01-01T00:00:00.000Z","projectId":"none","provisionerId":"prov","retriesLeft":1,"runs":[{"reasonCreated":"scheduled","runId":0,"scheduled":"2024-01-01T00:00:00.000Z","state":"pending"}],"schedulerId":"-","state":"pending","taskGroupId":"AAAAAAAAQACAAAAAAAAAAA","taskId":"AAAAAAAAQACAAAAAAAAAAA","taskQueueId":"prov/wt","workerType":"wt"}}"#,
+    ),
+    (
+        10_000,
+        "POST /api/queue/v1/claim-work/prov%2Fwt",
+        r#"{"workerGroup":"g","workerId":"w"}"#,
+        "200 OK",
+        r#"{"tasks":[{"runId":0,"status":{"deadline":"2024-01-02T00:00:00.000Z","expires":"2025-01-01T00:00:00.000Z","projectId":"none","provisionerId":"prov","retriesLeft":1,"runs":[{"reasonCreated":"scheduled","runId":0,"scheduled":"2024-01-01T00:00:00.000Z","started":"2024-01-01T00:00:10.000Z","state":"running","takenUntil":"2024-01-01T00:20:10.000Z","workerGroup":"g","workerId":"w"}],"schedulerId":"-","state":"running","taskGroupId":"AAAAAAAAQACAAAAAAAAAAA","taskId":"AAAAAAAAQACAAAAAAAAAAA","taskQueueId":"prov/wt","workerType":"wt"},"takenUntil":"2024-01-01T00:20:10.000Z","task":{"created":"2024-01-01T00:00:00.000Z","deadline":"2024-01-02T00:00:00.000Z","dependencies":[],"expires":"2025-01-01T00:00:00.000Z","extra":{},"metadata":{"description":"d","name":"n","owner":"o@example.com","source":"https://example.com/"},"payload":{},"priority":"lowest","projectId":"none","provisionerId":"prov","requires":"all-completed","retries":1,"routes":[],"schedulerId":"-","scopes":[],"tags":{},"taskGroupId":"AAAAAAAAQACAAAAAAAAAAA","taskQueueId":"prov/wt","workerType":"wt"},"workerGroup":"g","workerId":"w"}]}"#,
+    ),
+    (
+        11_000,
+        "POST /api/queue/v1/task/AAAAAAAAQACAAAAAAAAAAA/runs/0/exception",
+        r#"{"reason":"intermittent-task"}"#,
+        "200 OK",
+        r#"{"status":{"deadline":"2024-01-02T00:00:00.000Z","expires":"2025-01-01T00:00:00.000Z","projectId":"none","provisionerId":"prov","retriesLeft":0,"runs":[{"reasonCreated":"scheduled","reasonResolved":"intermittent-task","resolved":"2024-01-01T00:00:11.000Z","runId":0,"scheduled":"2024-01-01T00:00:00.000Z","started":"2024-01-01T00:00:10.000Z","state":"exception","takenUntil":"2024-01-01T00:20:10.000Z","workerGroup":"g","workerId":"w"},{"reasonCreated":"task-retry","runId":1,"scheduled":"2024-01-01T00:00:11.000Z","state":"pending"}],"schedulerId":"-","state":"pending","taskGroupId":"AAAAAAAAQACAAAAAAAAAAA","taskId":"AAAAAAAAQACAAAAAAAAAAA","taskQueueId":"prov/wt","workerType":"wt"}}"#,
+    ),
+    (
+        12_000,
+        "POST /api/queue/v1/claim-work/prov%2Fwt",
+        r#"{"workerGroup":"g","workerId":"w"}"#,
+        "200 OK",
+        r#"{"tasks":[{"runId":1,"status":{"deadline":"2024-01-02T00:00:00.000Z","expires":"2025-01-01T00:00:00.000Z","projectId":"none","provisionerId":"prov","retriesLeft":0,"runs":[{"reasonCreated":"scheduled","reasonResolved":"intermittent-task","resolved":"2024-01-01T00:00:11.000Z","runId":0,"scheduled":"2024-01-01T00:00:00.000Z","started":"2024-01-01T00:00:10.000Z","state":"exception","takenUntil":"2024-01-01T00:20:10.000Z","workerGroup":"g","workerId":"w"},{"reasonCreated":"task-retry","runId":1,"scheduled":"2024-01-01T00:00:11.000Z","started":"2024-01-01T00:00:12.000Z","state":"running","takenUntil":"2024-01-01T00:20:12.000Z","workerGroup":"g","workerId":"w"}],"schedulerId":"-","state":"running","taskGroupId":"AAAAAAAAQACAAAAAAAAAAA","taskId":"AAAAAAAAQACAAAAAAAAAAA","taskQueueId":"prov/wt","workerType":"wt"},"takenUntil":"2024-01-01T00:20:12.000Z","task":{"created":"2024-01-01T00:00:00.000Z","deadline":"2024-01-02T00:00:00.000Z","dependencies":[],"expires":"2025-01-01T00:00:00.000Z","extra":{},"metadata":{"description":"d","name":"n","owner":"o@example.com","source":"https://example.com/"},"payload":{},"priority":"lowest","projectId":"none","provisionerId":"prov","requires":"all-completed","retries":1,"routes":[],"schedulerId":"-","scopes":[],"tags":{},"taskGroupId":"AAAAAAAAQACAAAAAAAAAAA","taskQueueId":"prov/wt","workerType":"wt"},"workerGroup":"g","workerId":"w"}]}"#,
+    ),
+    (
+        13_000,
+        "POST /api/queue/v1/task/AAAAAAAAQACAAAAAAAAAAA/runs/1/exception",
+        r#"{"reason":"intermittent-task"}"#,
+        "200 OK",
+        r#"{"status":{"deadline":"2024-01-02T00:00:00.000Z","expires":"2025-01-01T00:00:00.000Z","projectId":"none","provisionerId":"prov","retriesLeft":0,"runs":[{"reasonCreated":"scheduled","reasonResolved":"intermittent-task","resolved":"2024-01-01T00:00:11.000Z","runId":0,"scheduled":"2024-01-01T00:00:00.000Z","started":"2024-01-01T00:00:10.000Z","state":"exception","takenUntil":"2024-01-01T00:20:10.000Z","workerGroup":"g","workerId":"w"},{"reasonCreated":"task-retry","reasonResolved":"intermittent-task","resolved":"2024-01-01T00:00:13.000Z","runId":1,"scheduled":"2024-01-01T00:00:11.000Z","started":"2024-01-01T00:00:12.000Z","state":"exception","takenUntil":"2024-01-01T00:20:12.000Z","workerGroup":"g","workerId":"w"}],"schedulerId":"-","state":"exception","taskGroupId":"AAAAAAAAQACAAAAAAAAAAA","taskId":"AAAAAAAAQACAAAAAAAAAAA","taskQueueId":"prov/wt","workerType":"wt"}}"#,
+    ),
+];
+
+#[test]
+fn an_intermittent_fault_is_retried_once(rt: HostRuntime) -> Result<(), Fail> {
+    let mut desk = farm(rt.alloc(), &["*"], 1_000_000)?;
+    assert_eq!(rt; first_other(rt.alloc(), &mut desk, &RETRY)?, 5);
+    Ok(())
+}
+
+/// A task without retries.
+const ONCE: &str =
+    r#"{"created":"2024-01-01T00:00:00.000Z","deadline":"2024-01-02T00:00:00.000Z","metadata":{"description":"d","name":"n","owner":"o@example.com","source":"https://example.com/"},"payload":{},"retries":0,"taskQueueId":"prov/wt"}"#;
+
+const MAKE: &str = "PUT /api/queue/v1/task/AAAAAAAAQACAAAAAAAAAAA";
+
+const CLAIM: &str = "POST /api/queue/v1/claim-work/prov/wt";
+
+const RERUN: &str = "POST /api/queue/v1/task/AAAAAAAAQACAAAAAAAAAAA/rerun";
+
+const WORKER: &str = r#"{"workerGroup":"g","workerId":"w"}"#;
+
+const DONE: &[u8] = b"HTTP/1.1 200 OK\r\n";
+
+/// What a desk writes to a request at the moment of the task's making.
+fn answer(
+    alloc: Global,
+    desk: &mut Solo<Bare>,
+    request: &str,
+    body: &str,
+) -> Result<Vec<u8>, Fail> {
+    let at = Moment::from_millis(CREATED).ok_or("a moment")?;
+    let length = body.len();
+    let bytes = format!(in alloc; "{request} HTTP/1.1\r\nContent-Length: {length}\r\n\r\n{body}")?;
+    written_at(alloc, desk, bytes.as_str().as_bytes(), at)
+}
+
+/// Whether a request is answered with success.
+fn is_done(alloc: Global, desk: &mut Solo<Bare>, request: &str, body: &str) -> Result<bool, Fail> {
+    let written = answer(alloc, desk, request, body)?;
+    Ok(written.as_slice().starts_with(DONE))
+}
+
+/// The report that a run failed.
+fn report_of(alloc: Global, run: u32) -> Result<String, AllocError> {
+    format!(in alloc; "POST /api/queue/v1/task/AAAAAAAAQACAAAAAAAAAAA/runs/{run}/failed")
+}
+
+/// Whether a worker may take the pending run, of this number, and tell that it failed.
+fn fails(alloc: Global, desk: &mut Solo<Bare>, run: u32) -> Result<bool, Fail> {
+    if !is_done(alloc, desk, CLAIM, WORKER)? {
+        return Ok(false);
+    }
+    let report = report_of(alloc, run)?;
+    is_done(alloc, desk, report.as_str(), "")
+}
+
+/// A run that failed.
+fn failed_run(alloc: Global, reason: &str, run: u32) -> Result<String, AllocError> {
+    format!(in alloc;
+        r#"{{"reasonCreated":"{reason}","reasonResolved":"failed","resolved":"2024-01-01T00:00:00.000Z","runId":{run},"scheduled":"2024-01-01T00:00:00.000Z","started":"2024-01-01T00:00:00.000Z","state":"failed","takenUntil":"2024-01-01T00:20:00.000Z","workerGroup":"g","workerId":"w"}}"#
+    )
+}
+
+/// Fifty of them.
+fn fifty_runs(alloc: Global) -> Result<String, AllocError> {
+    let mut text = failed_run(alloc, "scheduled", 0)?;
+    for run in 1..50_u32 {
+        let one = failed_run(alloc, "rerun", run)?;
+        text.push_str(",")?;
+        text.push_str(one.as_str())?;
+    }
+    Ok(text)
+}
+
+/// The reply of this status whose body has the task's status between these texts, once it ran fifty times.
+fn fifty_told(alloc: Global, status: &str, front: &str, back: &str) -> Result<String, AllocError> {
+    let runs = fifty_runs(alloc)?;
+    let body = format!(in alloc;
+        r#"{front}{{"deadline":"2024-01-02T00:00:00.000Z","expires":"2025-01-01T00:00:00.000Z","projectId":"none","provisionerId":"prov","retriesLeft":0,"runs":[{runs}],"schedulerId":"-","state":"failed","taskGroupId":"AAAAAAAAQACAAAAAAAAAAA","taskId":"AAAAAAAAQACAAAAAAAAAAA","taskQueueId":"prov/wt","workerType":"wt"}}{back}"#
+    )?;
+    let length = body.len();
+    format!(in alloc;
+        "HTTP/1.1 {status}\r\nContent-Length: {length}\r\nContent-Type: application/json\r\n\r\n{body}"
+    )
+}
+
+/// How many of the fifty runs of the task that was made fail, with a rerun after each but the last.
+fn rounds(alloc: Global, desk: &mut Solo<Bare>) -> Result<u32, Fail> {
+    for run in 0..50_u32 {
+        if !fails(alloc, desk, run)? {
+            return Ok(run);
+        }
+        if run < 49 && !is_done(alloc, desk, RERUN, "")? {
+            return Ok(run);
+        }
+    }
+    Ok(50)
+}
+
+#[test]
+fn a_task_runs_fifty_times_at_most(rt: HostRuntime) -> Result<(), Fail> {
+    let alloc = rt.alloc();
+    let mut desk = farm(alloc, &["*"], 1_000_000)?;
+    assert!(rt; is_done(alloc, &mut desk, MAKE, ONCE)?);
+    assert_eq!(rt; rounds(alloc, &mut desk)?, 50);
+    let refused = answer(alloc, &mut desk, RERUN, "")?;
+    let wanted = fifty_told(
+        alloc,
+        "409 Conflict",
+        r#"{"code":"RequestConflict","details":{"rule":6,"status":"#,
+        r#"},"message":"the state forbids it"}"#,
+    )?;
+    assert_eq!(rt; refused.as_slice(), wanted.as_str().as_bytes());
+    Ok(())
+}
+
+#[test]
+fn the_last_of_fifty_runs_is_told_of_again(rt: HostRuntime) -> Result<(), Fail> {
+    let alloc = rt.alloc();
+    let mut desk = farm(alloc, &["*"], 1_000_000)?;
+    assert!(rt; is_done(alloc, &mut desk, MAKE, ONCE)?);
+    assert_eq!(rt; rounds(alloc, &mut desk)?, 50);
+    let report = report_of(alloc, 49)?;
+    let told = answer(alloc, &mut desk, report.as_str(), "")?;
+    let wanted = fifty_told(alloc, "200 OK", r#"{"status":"#, "}")?;
+    assert_eq!(rt; told.as_slice(), wanted.as_str().as_bytes());
+    Ok(())
+}

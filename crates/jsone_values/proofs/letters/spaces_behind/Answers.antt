@@ -1,0 +1,15 @@
+use Rattle.std.proofs.Common.{◌≡◌, ℕ, List, [], ◌∷◌, map, refl, ap, ◌∙◌}
+use Rattle.std.specs.List.{suffix_len}
+use Rattle.std.proofs.lemmas.Iterator.{YieldsList-from_chars}
+use Rattle.std.proofs.lemmas.Iterator.Consumers.{YieldsList-end}
+use Rattle.jsone_values.specs.Letters.{is_space}
+use Rattle.jsone_values.proofs.letters.spaces_behind.Goals as goal
+
+same : (xs : List ℕ) → xs ≡ map (λ x. x) xs
+same [] = refl
+same (x ∷ xs) = ap (λ l. x ∷ l) (same xs)
+
+pub returns : goal.returns
+returns c =
+    let all = YieldsList-end (YieldsList-from_chars c.args.text.now c.utf8.text cc) c.loop-character.yielded _ c.loop-character.yielded_by _ _ c.in-None.is c.next.ensures.steps in
+    c.loop-character.invariant.counted ∙ ap (suffix_len is_space) (same c.loop-character.yielded ∙ all.0)

@@ -1,0 +1,8 @@
+//! Texts of others, made fit for a terminal: what is no printable ASCII is escaped.
+#![tactic(auto)]
+
+mod escapes;
+#[cfg(test)]
+mod tests;
+
+pub use escapes::{escape_line, escape_lines};

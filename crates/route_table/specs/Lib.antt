@@ -1,0 +1,6 @@
+pub mod Segments
+pub mod Routes
+pub mod Fits
+pub mod Texts
+pub mod Tokens
+pub mod Contents

@@ -1,6 +1,0 @@
-use Rattle.std.proofs.Common.{◌∙◌}
-use Rattle.run_states.proofs.RunLemmas.{get-last}
-use Rattle.run_states.proofs.row.last.Goals as goal
-
-pub returns : goal.returns
-returns c = c.copied.ensures ∙ c.last.ensures.value ∙ get-last c.args.runs.now
