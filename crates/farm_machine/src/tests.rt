@@ -132,108 +132,61 @@ fn ask(
     Ok(apply(tables, planned))
 }
 
-/// An authorization, what is called, the status of the reply, and its body.
-type Row = (&'static [u8], &'static str, u16, &'static str);
+/// An authorization, what is called, the status of the reply, and its body. A bad parameter is told before bad credentials.
+const ROWS: &str =
+    r#"|run|400|{"code":"InputError","details":{"name":"runId","rule":22},"message":"the request breaks a rule"}
+|queue|400|{"code":"InputError","details":{"name":"queue","rule":22},"message":"the request breaks a rule"}
+|work|400|{"code":"InputError","details":{"rule":23},"message":"the request breaks a rule"}
+|reason|400|{"code":"InputError","details":{"rule":24},"message":"the request breaks a rule"}
+|ping|200|{"alive":true}
+|status|404|{"code":"ResourceNotFound","details":{"kind":"task","name":"AAAAAAAAQACAAAAAAAAAAA"},"message":"nothing has that name"}
+|/a"b|404|{"code":"ResourceNotFound","details":{"kind":"route","name":"/a\"b"},"message":"nothing has that name"}
+x|parameter|400|{"code":"InputError","details":{"name":"taskId","rule":22},"message":"the request breaks a rule"}
+x|body|400|{"code":"InputError","details":{"rule":20},"message":"the request breaks a rule"}
+x|status|401|{"code":"AuthenticationFailed","details":{"reason":"BadHeader"},"message":"the caller is not who it says"}
+Hawk id="one", ts="1", nonce="n", mac="m"|ping|401|{"code":"AuthenticationFailed","details":{"reason":"Expired"},"message":"the caller is not who it says"}"#;
 
-/// A bad parameter is told before bad credentials, and before too many scopes.
-const PARAMETER: Row = (
-    b"x",
-    "parameter",
-    400,
-    r#"{"code":"InputError","details":{"name":"taskId","rule":22},"message":"the request breaks a rule"}"#,
-);
+/// Too many scopes are told behind a bad parameter.
+const TOO_MANY: &str =
+    r#"|status|403|{"code":"ExpansionLimit","details":{"limit":10000},"message":"too many scopes are derivable"}
+x|parameter|400|{"code":"InputError","details":{"name":"taskId","rule":22},"message":"the request breaks a rule"}"#;
 
-const ROWS: [Row; 11] = [
-    (
-        b"",
-        "run",
-        400,
-        r#"{"code":"InputError","details":{"name":"runId","rule":22},"message":"the request breaks a rule"}"#,
-    ),
-    (
-        b"",
-        "queue",
-        400,
-        r#"{"code":"InputError","details":{"name":"queue","rule":22},"message":"the request breaks a rule"}"#,
-    ),
-    (
-        b"",
-        "work",
-        400,
-        r#"{"code":"InputError","details":{"rule":23},"message":"the request breaks a rule"}"#,
-    ),
-    (
-        b"",
-        "reason",
-        400,
-        r#"{"code":"InputError","details":{"rule":24},"message":"the request breaks a rule"}"#,
-    ),
-    (b"", "ping", 200, "{\"alive\":true}"),
-    (
-        b"",
-        "status",
-        404,
-        r#"{"code":"ResourceNotFound","details":{"kind":"task","name":"AAAAAAAAQACAAAAAAAAAAA"},"message":"nothing has that name"}"#,
-    ),
-    (
-        b"",
-        "/a\"b",
-        404,
-        r#"{"code":"ResourceNotFound","details":{"kind":"route","name":"/a\"b"},"message":"nothing has that name"}"#,
-    ),
-    PARAMETER,
-    (
-        b"x",
-        "body",
-        400,
-        r#"{"code":"InputError","details":{"rule":20},"message":"the request breaks a rule"}"#,
-    ),
-    (
-        b"x",
-        "status",
-        401,
-        r#"{"code":"AuthenticationFailed","details":{"reason":"BadHeader"},"message":"the caller is not who it says"}"#,
-    ),
-    (
-        b"Hawk id=\"one\", ts=\"1\", nonce=\"n\", mac=\"m\"",
-        "ping",
-        401,
-        r#"{"code":"AuthenticationFailed","details":{"reason":"Expired"},"message":"the caller is not who it says"}"#,
-    ),
-];
-
-/// The place of the first row that is answered otherwise, or how many there are.
-fn first_other(alloc: Global, config: &Config, rows: &[Row]) -> Result<usize, Fail> {
-    let mut tables = Tables::new(alloc);
-    for (place, (header, word, status, body)) in rows.iter().enumerate() {
-        let reply = ask(alloc, &mut tables, config, header, word)?;
-        if reply.status().as_u16() != *status || reply.body() != *body {
-            return Ok(place);
-        }
-    }
-    Ok(rows.len())
+/// Whether the call of a row is answered as it says.
+fn is_answered(
+    alloc: Global,
+    tables: &mut Tables,
+    config: &Config,
+    row: &str,
+) -> Result<bool, Fail> {
+    let (header, rest) = row.split_once('|').ok_or("a header")?;
+    let (word, wanted) = rest.split_once('|').ok_or("a call")?;
+    let reply = ask(alloc, tables, config, header.as_bytes(), word)?;
+    let told = format!(in alloc; "{}|{}", reply.status().as_u16(), reply.body())?;
+    Ok(told.as_str() == wanted)
 }
 
-const TOO_MANY: [Row; 2] = [
-    (
-        b"",
-        "status",
-        403,
-        r#"{"code":"ExpansionLimit","details":{"limit":10000},"message":"too many scopes are derivable"}"#,
-    ),
-    PARAMETER,
-];
+/// The first row that is answered otherwise, or `none`.
+fn first_other<'a>(alloc: Global, config: &Config, rows: &'a str) -> Result<&'a str, Fail> {
+    let mut tables = Tables::new(alloc);
+    for row in rows.split('\n') {
+        if !is_answered(alloc, &mut tables, config, row)? {
+            return Ok(row);
+        }
+    }
+    Ok("none")
+}
 
 #[test]
 fn replies_are_those_of_the_reference(rt: HostRuntime) -> Result<(), Fail> {
-    assert_eq!(rt;
-        first_other(rt.alloc(), &config(rt.alloc(), 9_998)?, &ROWS)?,
-        11
-    );
-    assert_eq!(rt;
-        first_other(rt.alloc(), &config(rt.alloc(), 9_999)?, &TOO_MANY)?,
-        2
-    );
+    let config = config(rt.alloc(), 9_998)?;
+    assert_eq!(rt; first_other(rt.alloc(), &config, ROWS)?, "none");
+    Ok(())
+}
+
+#[test]
+fn too_many_scopes_are_refused(rt: HostRuntime) -> Result<(), Fail> {
+    let config = config(rt.alloc(), 9_999)?;
+    assert_eq!(rt; first_other(rt.alloc(), &config, TOO_MANY)?, "none");
     Ok(())
 }
 

@@ -37,54 +37,49 @@ fn operated(alloc: Global, operator: &str, left: &Doc, right: &Doc) -> Result<Do
     }
 }
 
-fn operates(
-    alloc: Global,
-    operator: &str,
-    left: &str,
-    right: &str,
-    wanted: &str,
-) -> Result<bool, Fail> {
+/// Whether the operator of a row, between its two sides, gives what the row ends with.
+fn operates(alloc: Global, row: &str) -> Result<bool, Fail> {
+    let (left, rest) = row.split_once('|').ok_or("a left side")?;
+    let (operator, rest) = rest.split_once('|').ok_or("an operator")?;
+    let (right, wanted) = rest.split_once('|').ok_or("a right side")?;
     let left = read(alloc, left)?;
     let right = read(alloc, right)?;
     Ok(is(alloc, operated(alloc, operator, &left, &right), wanted)?)
 }
 
+const OPERATIONS: &str = r#"1|+|2|3
+"a"|+|"b"|"ab"
+1|+|"b"|!3
+9223372036854775807|+|1|!4
+1|-|2|-1
+"a"|-|"a"|!3
+3|*|-4|-12
+6|/|3|2
+7|/|2|!5
+2|**|3|8
+2|**|-1|!5
+null|**|1|!3
+"ex"|in|"text"|true
+"xe"|in|"text"|false
+[1]|in|[[1],2]|true
+1|in|[[1],2]|false
+"k"|in|{"k":0}|true
+""|in|{"":0}|true
+1|in|{"k":0}|!3
+[10,20]|[]|-1|20
+"aéb"|[]|1|"é"
+"ab"|[]|2|!6
+{"k":5}|[]|"k"|5
+{"k":5}|[]|"x"|!6
+[10]|[]|"k"|!3
+[10,20,30]|[:]|1|[20,30]
+"abc"|[:]|-1|"c"
+[10]|[:]|null|!3"#;
+
 #[test]
 fn operators_take_values_of_any_kind(rt: HostRuntime) -> Result<(), Fail> {
-    for (left, operator, right, wanted) in [
-        ("1", "+", "2", "3"),
-        ("\"a\"", "+", "\"b\"", "\"ab\""),
-        ("1", "+", "\"b\"", "!3"),
-        ("9223372036854775807", "+", "1", "!4"),
-        ("1", "-", "2", "-1"),
-        ("\"a\"", "-", "\"a\"", "!3"),
-        ("3", "*", "-4", "-12"),
-        ("6", "/", "3", "2"),
-        ("7", "/", "2", "!5"),
-        ("2", "**", "3", "8"),
-        ("2", "**", "-1", "!5"),
-        ("null", "**", "1", "!3"),
-        ("\"ex\"", "in", "\"text\"", "true"),
-        ("\"xe\"", "in", "\"text\"", "false"),
-        ("[1]", "in", "[[1],2]", "true"),
-        ("1", "in", "[[1],2]", "false"),
-        ("\"k\"", "in", "{\"k\":0}", "true"),
-        ("\"\"", "in", "{\"\":0}", "true"),
-        ("1", "in", "{\"k\":0}", "!3"),
-        ("[10,20]", "[]", "-1", "20"),
-        ("\"a\u{e9}b\"", "[]", "1", "\"\u{e9}\""),
-        ("\"ab\"", "[]", "2", "!6"),
-        ("{\"k\":5}", "[]", "\"k\"", "5"),
-        ("{\"k\":5}", "[]", "\"x\"", "!6"),
-        ("[10]", "[]", "\"k\"", "!3"),
-        ("[10,20,30]", "[:]", "1", "[20,30]"),
-        ("\"abc\"", "[:]", "-1", "\"c\""),
-        ("[10]", "[:]", "null", "!3"),
-    ] {
-        assert!(rt;
-            operates(rt.alloc(), operator, left, right, wanted)?,
-            "{operator} {wanted}"
-        );
+    for row in OPERATIONS.split('\n') {
+        assert!(rt; operates(rt.alloc(), row)?, "{row}");
     }
     Ok(())
 }
@@ -103,38 +98,38 @@ fn answered(alloc: Global, function: &str, value: &Doc) -> Result<Doc, Stop> {
     }
 }
 
-fn answers(alloc: Global, function: &str, value: &str, wanted: &str) -> Result<bool, Fail> {
+/// Whether the function of a row gives, for its value, what the row ends with.
+fn answers(alloc: Global, row: &str) -> Result<bool, Fail> {
+    let (function, rest) = row.split_once('|').ok_or("a function")?;
+    let (value, wanted) = rest.split_once('|').ok_or("a value")?;
     let value = read(alloc, value)?;
     Ok(is(alloc, answered(alloc, function, &value), wanted)?)
 }
 
+const ANSWERS: &str = r#"-|5|-5
+-|-9223372036854775808|!4
+-|true|!3
++|5|5
++|"5"|!3
+abs|-5|5
+abs|-9223372036854775808|!4
+abs|[]|!3
+number|"-12"|-12
+number|"+12"|!3
+number|12|!3
+lowercase|"AbCÉ"|"abcÉ"
+uppercase|"aBcé"|"ABCé"
+uppercase|1|!3
+strip|" \ta b\n\r "|"a b"
+strip|"   "|""
+lstrip|" a "|"a "
+rstrip|" a "|" a"
+rstrip|null|!3"#;
+
 #[test]
 fn functions_take_a_value_of_any_kind(rt: HostRuntime) -> Result<(), Fail> {
-    for (function, value, wanted) in [
-        ("-", "5", "-5"),
-        ("-", "-9223372036854775808", "!4"),
-        ("-", "true", "!3"),
-        ("+", "5", "5"),
-        ("+", "\"5\"", "!3"),
-        ("abs", "-5", "5"),
-        ("abs", "-9223372036854775808", "!4"),
-        ("abs", "[]", "!3"),
-        ("number", "\"-12\"", "-12"),
-        ("number", "\"+12\"", "!3"),
-        ("number", "12", "!3"),
-        ("lowercase", "\"AbC\u{c9}\"", "\"abc\u{c9}\""),
-        ("uppercase", "\"aBc\u{e9}\"", "\"ABC\u{e9}\""),
-        ("uppercase", "1", "!3"),
-        ("strip", "\" \\ta b\\n\\r \"", "\"a b\""),
-        ("strip", "\"   \"", "\"\""),
-        ("lstrip", "\" a \"", "\"a \""),
-        ("rstrip", "\" a \"", "\" a\""),
-        ("rstrip", "null", "!3"),
-    ] {
-        assert!(rt;
-            answers(rt.alloc(), function, value, wanted)?,
-            "{function} {wanted}"
-        );
+    for row in ANSWERS.split('\n') {
+        assert!(rt; answers(rt.alloc(), row)?, "{row}");
     }
     Ok(())
 }
@@ -145,12 +140,6 @@ fn items(alloc: Global, text: &str) -> Result<Vec<Doc>, Fail> {
         Doc::List(items) => Ok(items),
         _ => Err(Fail::from("no list")),
     }
-}
-
-fn picks(alloc: Global, values: &str, least: &str, greatest: &str) -> Result<bool, Fail> {
-    let values = items(alloc, values)?;
-    let is_least = is(alloc, least_of(&values), least)?;
-    Ok(is_least && is(alloc, greatest_of(&values), greatest)?)
 }
 
 #[test]

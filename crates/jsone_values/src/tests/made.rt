@@ -20,57 +20,54 @@ fn or_null(made: Result<Option<Doc>, Stop>) -> Result<Doc, Stop> {
     }
 }
 
-fn splits(alloc: Global, text: &str, separator: &str, pieces: &str) -> Result<bool, Fail> {
+/// Whether the text of a row is split at its separator into its pieces.
+fn splits(alloc: Global, row: &str) -> Result<bool, Fail> {
+    let (text, rest) = row.split_once('|').ok_or("a text")?;
+    let (separator, pieces) = rest.split_once('|').ok_or("a separator")?;
     let text = read(alloc, text)?;
     let separator = read(alloc, separator)?;
     Ok(is(alloc, split_of(alloc, &text, &separator), pieces)?)
 }
 
+const SPLIT: &str = r#""a,b,c"|","|["a","b","c"]
+",a,,"|","|["","a","",""]
+"a--b-c"|"--"|["a","b-c"]
+"aaa"|"aa"|["","a"]
+""|","|[""]
+""|""|[]
+"aéb"|""|["a","é","b"]
+"a"|1|!3
+[]|"a"|!3"#;
+
 #[test]
 fn texts_are_split(rt: HostRuntime) -> Result<(), Fail> {
-    for (text, separator, pieces) in [
-        ("\"a,b,c\"", "\",\"", "[\"a\",\"b\",\"c\"]"),
-        ("\",a,,\"", "\",\"", "[\"\",\"a\",\"\",\"\"]"),
-        ("\"a--b-c\"", "\"--\"", "[\"a\",\"b-c\"]"),
-        ("\"aaa\"", "\"aa\"", "[\"\",\"a\"]"),
-        ("\"\"", "\",\"", "[\"\"]"),
-        ("\"\"", "\"\"", "[]"),
-        ("\"a\u{e9}b\"", "\"\"", "[\"a\",\"\u{e9}\",\"b\"]"),
-        ("\"a\"", "1", "!3"),
-        ("[]", "\"a\"", "!3"),
-    ] {
-        assert!(rt; splits(rt.alloc(), text, separator, pieces)?, "{pieces}");
+    for row in SPLIT.split('\n') {
+        assert!(rt; splits(rt.alloc(), row)?, "{row}");
     }
     Ok(())
 }
 
-fn joins(
-    alloc: Global,
-    parts: &str,
-    separator: &str,
-    most: usize,
-    whole: &str,
-) -> Result<bool, Fail> {
+/// Whether the parts of a row are joined by its separator to its whole.
+fn joins(alloc: Global, row: &str) -> Result<bool, Fail> {
+    let (parts, rest) = row.split_once('|').ok_or("parts")?;
+    let (separator, whole) = rest.split_once('|').ok_or("a separator")?;
     let parts = read(alloc, parts)?;
     let separator = read(alloc, separator)?;
-    let made = or_null(join_of(alloc, &parts, &separator, most));
+    let made = or_null(join_of(alloc, &parts, &separator, 9));
     Ok(is(alloc, made, whole)?)
 }
 
+const JOINED: &str = r#"["a",1,"b"]|", "|"a, 1, b"
+[]|"x"|""
+[-7]|"x"|"-7"
+[null]|"x"|!3
+["a"]|1|!3
+"ab"|"x"|!3"#;
+
 #[test]
 fn lists_are_joined(rt: HostRuntime) -> Result<(), Fail> {
-    for (parts, separator, most, whole) in [
-        ("[\"a\",1,\"b\"]", "\", \"", 9, "\"a, 1, b\""),
-        ("[]", "\"x\"", 9, "\"\""),
-        ("[-7]", "\"x\"", 9, "\"-7\""),
-        ("[null]", "\"x\"", 9, "!3"),
-        ("[\"a\"]", "1", 9, "!3"),
-        ("\"ab\"", "\"x\"", 9, "!3"),
-    ] {
-        assert!(rt;
-            joins(rt.alloc(), parts, separator, most, whole)?,
-            "{whole}"
-        );
+    for row in JOINED.split('\n') {
+        assert!(rt; joins(rt.alloc(), row)?, "{row}");
     }
     Ok(())
 }
@@ -137,36 +134,35 @@ fn a_map_has_no_key_twice(rt: HostRuntime) -> Result<(), Fail> {
     Ok(())
 }
 
-fn leads(alloc: Global, span: &str, from: &Doc, moment: &str) -> Result<bool, AllocError> {
+/// Whether the span of a row leads from this moment to its own.
+fn leads(alloc: Global, from: &Doc, row: &str) -> Result<bool, Fail> {
+    let (span, moment) = row.split_once('|').ok_or("a span")?;
     let span = Doc::text(alloc, span)?;
-    is(alloc, from_now_of(alloc, &span, Some(from)), moment)
+    Ok(is(alloc, from_now_of(alloc, &span, Some(from)), moment)?)
 }
+
+const SPANS: &str = r#"|"2024-02-28T12:00:00.250Z"
+1 day|"2024-02-29T12:00:00.250Z"
+- 1 day|"2024-02-27T12:00:00.250Z"
++2w1d|"2024-03-14T12:00:00.250Z"
+ 2 weeks 1 day 3 hours 4 minutes 5 seconds |"2024-03-14T15:04:05.250Z"
+90 min|"2024-02-28T13:30:00.250Z"
+0s|"2024-02-28T12:00:00.250Z"
+1 hour 1 day|!11
+1 day 1 day|!11
+1|!11
+day|!11
+1 month|!11
+--1 day|!11
+1 Day|!11
+99999999999999999999999 weeks|!4
+-99999 weeks|!4"#;
 
 #[test]
 fn spans_lead_from_moment_to_moment(rt: HostRuntime) -> Result<(), Fail> {
     let from = Doc::text(rt.alloc(), "2024-02-28T12:00:00.250Z")?;
-    for (span, moment) in [
-        ("", "\"2024-02-28T12:00:00.250Z\""),
-        ("1 day", "\"2024-02-29T12:00:00.250Z\""),
-        ("- 1 day", "\"2024-02-27T12:00:00.250Z\""),
-        ("+2w1d", "\"2024-03-14T12:00:00.250Z\""),
-        (
-            " 2 weeks 1 day 3 hours 4 minutes 5 seconds ",
-            "\"2024-03-14T15:04:05.250Z\"",
-        ),
-        ("90 min", "\"2024-02-28T13:30:00.250Z\""),
-        ("0s", "\"2024-02-28T12:00:00.250Z\""),
-        ("1 hour 1 day", "!11"),
-        ("1 day 1 day", "!11"),
-        ("1", "!11"),
-        ("day", "!11"),
-        ("1 month", "!11"),
-        ("--1 day", "!11"),
-        ("1 Day", "!11"),
-        ("99999999999999999999999 weeks", "!4"),
-        ("-99999 weeks", "!4"),
-    ] {
-        assert!(rt; leads(rt.alloc(), span, &from, moment)?, "{moment}");
+    for row in SPANS.split('\n') {
+        assert!(rt; leads(rt.alloc(), &from, row)?, "{row}");
     }
     Ok(())
 }
