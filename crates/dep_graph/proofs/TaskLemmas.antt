@@ -1,7 +1,7 @@
 -- The task of a row: no two tasks have one row.
-use Rattle.std.proofs.Common.{◌≡◌, ℕ, zero, suc, ◌<◌, Bool, true, false, List, [], ◌∷◌, ◌++◌, length, get_or, Option, Some, None, refl, sym, ◌∙◌, ap, subst, arith, min, ◌==◌, position, nat_lt}
+use Rattle.std.proofs.Common.{◌≡◌, ℕ, zero, suc, ◌<◌, Bool, true, false, ◌&&◌, List, [], ◌∷◌, ◌++◌, length, get_or, Option, Some, None, refl, sym, ◌∙◌, ap, subst, arith, min, ◌==◌, position, nat_lt}
 use Rattle.std.specs.Prelude.{slice_get, filter, if◌then◌else◌, IfSome, IfNone}
-use Rattle.std.specs.List.{IsDistinct, AllByRecursion, fold, reduce, position_or_len}
+use Rattle.std.specs.List.{IsDistinct, AllByRecursion, list_any, fold, reduce, position_or_len}
 use Rattle.std.specs.Option.{option_map_or}
 use Rattle.std.proofs.Math.ListN.{set}
 use Rattle.std.proofs.lemmas.Bool.{ltb-false}
@@ -25,13 +25,17 @@ same_row a b is = search (arith, is)
 pub row_same : (a : ℕ) → (a == a) ≡ true
 row_same a = search arith
 
--- where no task has the row, none serves under it
-pub none-serves : (tasks : List Task) (needs : Requires) (row : ℕ) → is_in (rows_of tasks) row ≡ false → row_serves tasks needs row ≡ false
-none-serves [] needs row none = refl
-none-serves (t ∷ ts) needs row none = by (none-serves ts needs row) (t.row == row) refl where
-  by : (is_in (rows_of ts) row ≡ false → row_serves ts needs row ≡ false) → (b : Bool) → (t.row == row) ≡ b → row_serves (t ∷ ts) needs row ≡ false
+-- where no task has the row, none passes a test under it
+pub none-passes : (test : Task → Bool) (tasks : List Task) (row : ℕ) → is_in (rows_of tasks) row ≡ false → list_any (λ task. (task.row == row) && test task) tasks ≡ false
+none-passes test [] row none = refl
+none-passes test (t ∷ ts) row none = by (none-passes test ts row) (t.row == row) refl where
+  by : (is_in (rows_of ts) row ≡ false → list_any (λ task. (task.row == row) && test task) ts ≡ false) → (b : Bool) → (t.row == row) ≡ b → list_any (λ task. (task.row == row) && test task) (t ∷ ts) ≡ false
   by rest true is = absurd (let e : true ≡ false = rw is at none in cc)
   by rest false is = let others : is_in (rows_of ts) row ≡ false = rw is at none in rw is (rest others)
+
+-- and none serves
+pub none-serves : (tasks : List Task) (needs : Requires) (row : ℕ) → is_in (rows_of tasks) row ≡ false → row_serves tasks needs row ≡ false
+none-serves tasks needs row none = none-passes (λ task. serves needs task.progress) tasks row none
 
 -- a row that differs from all is in no list
 pub none-in : (row : ℕ) (rows : List ℕ) → AllByRecursion (λ y. (row == y) ≡ false) rows → is_in rows row ≡ false
@@ -54,20 +58,24 @@ differs-at row held (x ∷ xs) zero differ at =
     subst P same differ.0
 differs-at row held (x ∷ xs) (suc place) differ at = differs-at row held xs place differ.1 at
 
+-- a test under a row is that of the task with it
+pub one-passes : (test : Task → Bool) (tasks : List Task) (row place : ℕ) (d : Task) → HaveOwnRows tasks → slice_get (rows_of tasks) place ≡ Some row → test (get_or tasks place d) ≡ list_any (λ task. (task.row == row) && test task) tasks
+unfolding IsDistinct
+one-passes test [] row place d own at = absurd (none-some row at)
+one-passes test (t ∷ ts) row zero d own at =
+    let same : t.row ≡ row = (let e : Some t.row ≡ Some row = at in cc) in
+    let P : ℕ → Type 0 = λ r. test t ≡ list_any (λ task. (task.row == r) && test task) (t ∷ ts) in
+    subst P same (by (test t) refl)
+  where
+    by : (b : Bool) → test t ≡ b → test t ≡ list_any (λ task. (task.row == t.row) && test task) (t ∷ ts)
+    by true is = rw (row_same t.row, is) refl
+    by false is = rw (row_same t.row, is, none-passes test ts t.row (none-in t.row (rows_of ts) own.0)) refl
+one-passes test (t ∷ ts) row (suc place) d own at =
+    rw (differs-at row t.row (rows_of ts) place own.0 at) (one-passes test ts row place d own.1 at)
+
 -- the task with a row serves as it alone does
 pub one-serves : (tasks : List Task) (needs : Requires) (row place : ℕ) (d : Task) → HaveOwnRows tasks → slice_get (rows_of tasks) place ≡ Some row → serves needs ((get_or tasks place d).progress) ≡ row_serves tasks needs row
-unfolding IsDistinct
-one-serves [] needs row place d own at = absurd (none-some row at)
-one-serves (t ∷ ts) needs row zero d own at =
-    let same : t.row ≡ row = (let e : Some t.row ≡ Some row = at in cc) in
-    let P : ℕ → Type 0 = λ r. serves needs t.progress ≡ row_serves (t ∷ ts) needs r in
-    subst P same (by (serves needs t.progress) refl)
-  where
-    by : (b : Bool) → serves needs t.progress ≡ b → serves needs t.progress ≡ row_serves (t ∷ ts) needs t.row
-    by true is = rw (row_same t.row, is) refl
-    by false is = rw (row_same t.row, is, none-serves ts needs t.row (none-in t.row (rows_of ts) own.0)) refl
-one-serves (t ∷ ts) needs row (suc place) d own at =
-    rw (differs-at row t.row (rows_of ts) place own.0 at) (one-serves ts needs row place d own.1 at)
+one-serves tasks needs row place d own at = one-passes (λ task. serves needs task.progress) tasks row place d own at
 
 -- the row of the task at a place
 pub row-at : (tasks : List Task) (place : ℕ) (d : Task) → place < length tasks → slice_get (rows_of tasks) place ≡ Some ((get_or tasks place d).row)

@@ -23,6 +23,10 @@ all_serve tasks needs rows = list_all (row_serves tasks needs) rows
 abbrev pub is_ready : List Task → Task → Bool
 is_ready tasks task = task.progress.unscheduled && all_serve tasks task.needs task.dependencies
 
+-- the task with this row is ready
+abbrev pub row_is_ready : List Task → ℕ → Bool
+row_is_ready tasks row = list_any (λ task. (task.row == row) && is_ready tasks task) tasks
+
 -- the rows of the tasks that are ready
 abbrev pub ready_rows : List Task → List ℕ
 ready_rows tasks = rows_of (filter (is_ready tasks) tasks)

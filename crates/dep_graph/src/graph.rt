@@ -7,7 +7,7 @@ ghost use Rattle.dep_graph.specs.Kept.{edges_of, own_edges};
 
 use crate::edges::{Edges, add_edges, make_room};
 use crate::node::{Node, Progress, Requires};
-use crate::tasks::{all_stand, are_distinct, holds, place_of, proceed, ready_row};
+use crate::tasks::{all_stand, are_distinct, holds, place_of, proceed, ready_row, row_is_ready};
 use std::alloc::{AllocError, Global};
 use std::marker::Model;
 
@@ -116,6 +116,13 @@ impl Graph {
         ensures { self.new ≡ record { tasks = moved row progress self.old.tasks; room = self.old.room } }
     {
         proceed(&mut self.tasks, row, progress);
+    }
+
+    /// Whether a task has this row and is ready. It takes no memory.
+    pub fn is_ready(&self, row: u32) -> bool
+        ensures { result ≡ judged.row_is_ready self.now.tasks row }
+    {
+        row_is_ready(&self.tasks, row)
     }
 
     /// The least row of a task that is ready. It takes no memory.

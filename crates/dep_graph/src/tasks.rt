@@ -59,6 +59,17 @@ fn is_ready(tasks: &[Node], task: &Node) -> bool
     task.progress().unscheduled && all_serve(tasks, task.needs(), task.dependencies())
 }
 
+/// Whether the task with this row is ready.
+pub(crate) fn row_is_ready(tasks: &[Node], row: u32) -> bool
+    requires { HaveOwnRows tasks.now }
+    ensures { result ≡ judged.row_is_ready tasks.now row }
+{
+    match place_of(tasks, row) {
+        Some(place) => is_ready(tasks, &tasks[place]),
+        None => false,
+    }
+}
+
 /// Whether each of these tasks meets what is required.
 fn all_serve(tasks: &[Node], needs: Requires, rows: &[u32]) -> bool
     requires { HaveOwnRows tasks.now }

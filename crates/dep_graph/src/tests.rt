@@ -95,6 +95,19 @@ fn a_failed_task_is_resolved_and_not_completed(rt: HostRuntime) -> Result<(), Fa
 }
 
 #[test]
+fn a_row_is_ready_where_its_task_is(rt: HostRuntime) -> Result<(), Fail> {
+    let mut graph = diamond(rt.alloc(), Requires::AllCompleted)?;
+    assert!(rt; graph.is_ready(0));
+    assert!(rt; !graph.is_ready(1));
+    assert!(rt; !graph.is_ready(9), "a row that is not there");
+    proceed(&mut graph, 0, COMPLETED);
+    assert!(rt; !graph.is_ready(0));
+    assert!(rt; graph.is_ready(1) && graph.is_ready(2));
+    assert!(rt; !graph.is_ready(3));
+    Ok(())
+}
+
+#[test]
 fn dependants_are_told_in_order(rt: HostRuntime) -> Result<(), Fail> {
     let graph = diamond(rt.alloc(), Requires::AllCompleted)?;
     assert_eq!(rt; graph.dependants(0), [1, 2].as_slice());

@@ -5,7 +5,7 @@ use Rattle.std.specs.Option.{option_map_or, option_to_list}
 use Rattle.std.proofs.lemmas.Bool.{leb-true, leb-false, le-leb, lt-leb, ltb-true, eqb-true, and_parts, and_from}
 use Rattle.std.proofs.lemmas.List.Folds.{list_any-append, list_all-append}
 use Rattle.run_states.specs.declared.reasons.ReasonResolved.TheVariants.{ClaimExpired}
-use Rattle.run_states.specs.Rows.{Row, is_resolved, claim_due, loses_claim, exceeded, due_moments}
+use Rattle.run_states.specs.Rows.{Row, is_unscheduled, is_resolved, claim_due, loses_claim, exceeded, due_moments}
 use Rattle.run_states.specs.Moves.{expired}
 use Rattle.run_states.proofs.LaterLemmas.{exceeded-resolved}
 use Rattle.run_states.proofs.ClaimLemmas.{resolved-due, open-due}
@@ -14,8 +14,8 @@ use Rattle.farm_rows.specs.Due.{all_due_moments, meets_deadline, change_first, d
 use Rattle.farm_rows.specs.Sweep.{ends_before, comes_due, swept, lost, claim_ends, first_lost, numbered, all_turns}
 use Rattle.farm_rows.proofs.LeastLemmas.{first-some, first-is, first-none, least-is, reduce-all, reduce-any}
 use Rattle.farm_rows.proofs.DueLemmas.{any_none, from, rows-from, lost-due, loses-turn}
-use Rattle.farm_rows.proofs.TurnLemmas.{claim-resolved, idle-first, all-step, all-idle}
-use Rattle.farm_rows.proofs.SweepLemmas.{swept-twice, all-fewer, pass-same}
+use Rattle.farm_rows.proofs.TurnLemmas.{claim-resolved, idle-first, all-idle, busy-expired, busy-step}
+use Rattle.farm_rows.proofs.SweepLemmas.{swept-twice, all-fewer, busy-swept, pass-same}
 
 -- ---- one task that a pass leaves as it is
 
@@ -188,27 +188,30 @@ pub record Round (moment at next : ℕ) (rows : List Row) : Type 0 where
   pub fixed : map (swept moment) (change_first (loses_claim at) (lost moment at next) rows) ≡ change_first (loses_claim at) (lost moment at next) rows
   pub turns : all_turns (numbered (change_first (loses_claim at) (lost moment at next) rows) (next + draws ClaimExpired (find (loses_claim at) rows))) moment ≡ all_turns (numbered rows next) moment
   pub fewer : length (all_due_moments (change_first (loses_claim at) (lost moment at next) rows)) < length (all_due_moments rows)
+  pub busy : list_any is_unscheduled (change_first (loses_claim at) (lost moment at next) rows) ≡ false
 
 all-pass : (moment : ℕ) (rows : List Row) → map (swept moment) (map (swept moment) rows) ≡ map (swept moment) rows
 all-pass moment [] = refl
 all-pass moment (row ∷ rows) = ap (λ (r : Row). r ∷ map (swept moment) (map (swept moment) rows)) (swept-twice moment row) ∙ ap (λ (rs : List Row). swept moment row ∷ rs) (all-pass moment rows)
 
-pub round-is : (moment at next : ℕ) (rows : List Row) → map (swept moment) rows ≡ rows → first_lost rows moment ≡ Some at → Round moment at next rows
-round-is moment at next rows same is =
+pub round-is : (moment at next : ℕ) (rows : List Row) → map (swept moment) rows ≡ rows → list_any is_unscheduled rows ≡ false → first_lost rows moment ≡ Some at → Round moment at next rows
+round-is moment at next rows same busy is =
     let step = next-is moment at rows same is in
     let turned : List Row = change_first (loses_claim at) (expired next at) rows in
     let passed = change-pass moment (loses_claim at) (expired next at) rows same in
     let drawn : ℕ = next + draws ClaimExpired (find (loses_claim at) rows) in
+    let free = busy-expired next at rows busy in
     record {
       fixed = ap (map (swept moment)) (sym passed) ∙ (all-pass moment turned ∙ passed);
       turns =
           ap (λ (rs : List Row). all_turns (numbered rs drawn) moment) (sym passed)
-          ∙ (pass-same (numbered turned drawn) moment
-          ∙ (ap (λ (c : Contents). all_turns c moment) (sym (claim-resolved (numbered rows next) at step.none)) ∙ sym (all-step (numbered rows next) moment at step.first)));
+          ∙ (pass-same (numbered turned drawn) moment free
+          ∙ (ap (λ (c : Contents). all_turns c moment) (sym (claim-resolved (numbered rows next) at step.none)) ∙ sym (busy-step (numbered rows next) moment at busy step.first)));
       fewer =
           (let e = ap (λ (rs : List Row). length (all_due_moments rs)) passed in
           let less = loses-turn next at rows step.lost in
           let few = all-fewer moment turned in omega arith);
+      busy = ap (list_any is_unscheduled) (sym passed) ∙ busy-swept moment turned free;
     }
 
 -- and where no claim ends any more, nothing is due

@@ -1,5 +1,5 @@
 -- A task is created once: what ids tell.
-use Rattle.std.proofs.Common.{◌≡◌, ℕ, Bool, true, false, not, ◌&&◌, List, [], ◌∷◌, ◌++◌, map, length, Option, Some, None, is_none, refl, sym, ◌∙◌, bytes_eq, ◌==◌, codes, nat_le, nat_lt}
+use Rattle.std.proofs.Common.{◌≡◌, ℕ, Bool, true, false, not, ◌&&◌, List, [], ◌∷◌, ◌++◌, map, length, Option, Some, None, is_none, refl, sym, ◌∙◌, ap, bytes_eq, nat_le, nat_lt}
 use Rattle.std.specs.List.{list_any}
 use Rattle.std.specs.Cmp.Lexicographic.{nat_list_eq_equiv}
 use Rattle.std.proofs.lemmas.Bool.{and_parts}
@@ -8,23 +8,22 @@ use Rattle.std.proofs.lemmas.Map.Keys.{IsDistinct-push}
 use Rattle.std.proofs.lemmas.Slice.Eq.{bytes_eq-Decides}
 use Rattle.std.proofs.lemmas.List.{map-append}
 use Rattle.farm_text.specs.declared.moment.TheConstants.{LAST_TOLD_MOMENT}
-use Rattle.task_defs.specs.declared.task_def.TaskDef.{TaskDef}
-use Rattle.task_defs.specs.Faults.{AllHold}
-use Rattle.task_defs.specs.Alone.{alone_rules}
 use Rattle.run_states.specs.Rows.{Row, new_row, scheduled}
 use Rattle.run_states.specs.Later.{RowsLater}
 use Rattle.run_states.specs.Moves.{run_again, canceled, claimed, reclaimed, resolved}
-use Rattle.run_states.proofs.LaterLemmas.{RowLater-refl, RowsLater-refl, RowsLater-trans, again-later, claimed-later, canceled-later, reclaimed-later, resolved-later}
+use Rattle.run_states.proofs.LaterLemmas.{RowLater-refl, RowsLater-refl, RowsLater-trans, scheduled-later, again-later, claimed-later, canceled-later, reclaimed-later, resolved-later}
 use Rattle.farm_record.specs.declared.change.Change.{Change}
 use Rattle.farm_record.specs.declared.change.Creation.{Creation}
 use Rattle.farm_record.specs.declared.change.Kind.{Kind}
-use Rattle.farm_record.specs.declared.change.Kind.TheVariants.{Tick, Create, Rerun, Cancel, Claim as TakesRuns, Reclaim, Resolve}
+use Rattle.farm_record.specs.declared.change.Kind.TheVariants.{Tick, Create, Schedule, Rerun, Cancel, Claim as TakesRuns, Reclaim, Resolve}
 use Rattle.farm_record.specs.declared.change.RunName.{RunName}
 use Rattle.run_states.specs.declared.run.Claim.{Claim as RunClaim}
 use Rattle.farm_rows.specs.Contents.{Contents, row_with, HaveOwnIds}
+use Rattle.farm_rows.specs.Ready.{is_ready, has_ready, settled_row, settled}
 use Rattle.farm_rows.specs.Due.{is_due}
-use Rattle.farm_rows.specs.Changes.{is_alone, may_create, creating, may_apply, has_id, reason_of, change_row, claim_of, all_claimed, after_kind, applied}
+use Rattle.farm_rows.specs.Changes.{waits_well, may_join, may_create, creating, may_be, may_apply, has_id, reason_of, change_row, claim_of, all_claimed, after_kind, after_change, applied}
 use Rattle.farm_rows.proofs.AdvanceLemmas.{advance-stays, advance-ids}
+use Rattle.farm_rows.proofs.ReadyLemmas.{settled-none, settled-stays, settled-ids, settled-more}
 use Rattle.farm_rows.proofs.DueLemmas.{change-stays, change-ids}
 
 bytes_eq-refl : (bs : List ℕ) → bytes_eq bs bs ≡ true
@@ -48,19 +47,33 @@ may-create contents at creation may =
     let later = (and_parts (nat_le contents.last at) (nat_le at LAST_TOLD_MOMENT && (not (is_due contents at) && may_create contents at creation)) may).1 in
     let told = and_parts (nat_le at LAST_TOLD_MOMENT) (not (is_due contents at) && may_create contents at creation) later in
     let idle = (and_parts (not (is_due contents at)) (may_create contents at creation) told.1).1 in
-    let unknown = and_parts (is_none (row_with creation.id contents.rows)) (is_alone creation.id creation.definition && (nat_lt at creation.definition.deadline && nat_lt (length contents.rows) 1_000_000)) idle in
-    let alone = (and_parts (is_alone creation.id creation.definition) (nat_lt at creation.definition.deadline && nat_lt (length contents.rows) 1_000_000) unknown.1).1 in
-    let few = (and_parts (nat_lt at creation.definition.deadline) (nat_lt (length contents.rows) 1_000_000) alone).1 in
+    let fewer : Bool = nat_lt (length contents.rows) 1_000_000 in
+    let unknown = and_parts (is_none (row_with creation.id contents.rows)) (nat_lt at creation.definition.deadline && (waits_well creation contents.rows && (may_join creation contents.rows && fewer))) idle in
+    let early = (and_parts (nat_lt at creation.definition.deadline) (waits_well creation contents.rows && (may_join creation contents.rows && fewer)) unknown.1).1 in
+    let well = (and_parts (waits_well creation contents.rows) (may_join creation contents.rows && fewer) early).1 in
+    let few = (and_parts (may_join creation contents.rows) fewer well).1 in
     (told.0, none_is (row_with creation.id contents.rows) unknown.0, few)
 
 -- ---- what a creation leaves
 
-pub created-stands : (contents : Contents) (at : ℕ) (creation : Creation) → may_apply contents (creating at creation) ≡ true → row_with creation.id (applied contents (creating at creation)).rows ≡ Some (scheduled contents.next at (new_row creation.id creation.definition))
+-- the last of a list is found, where none before has its id
+last-found : (id : List ℕ) (rows : List Row) (row : Row) → row_with id rows ≡ None → row.id ≡ id → row_with id (rows ++ row ∷ []) ≡ Some row
+last-found id rows row none is =
+    find-append (λ (r : Row). bytes_eq r.id id) rows (row ∷ []) ∙ rw (none, ap (λ (i : List ℕ). bytes_eq i id) is ∙ bytes_eq-refl id) refl
+
+row-id : (contents : Contents) (at : ℕ) (row : Row) → (settled_row contents at row).id ≡ row.id
+row-id contents at row = by (is_ready contents.rows row) refl where
+  by : (b : Bool) → is_ready contents.rows row ≡ b → (settled_row contents at row).id ≡ row.id
+  by true is = rw is refl
+  by false is = rw is refl
+
+pub created-stands : (contents : Contents) (at : ℕ) (creation : Creation) → has_ready contents ≡ false → may_apply contents (creating at creation) ≡ true
+    → row_with creation.id (applied contents (creating at creation)).rows ≡ Some (settled_row contents at (new_row creation.id creation.definition))
 unfolding applied
-created-stands contents at creation may =
-    let new = scheduled contents.next at (new_row creation.id creation.definition) in
-    find-append (λ (row : Row). bytes_eq row.id creation.id) contents.rows (new ∷ [])
-    ∙ rw ((may-create contents at creation may).1, bytes_eq-refl creation.id) refl
+created-stands contents at creation none may =
+    let row : Row = new_row creation.id creation.definition in
+    ap (row_with creation.id) (settled-more contents at at row none refl)
+    ∙ last-found creation.id contents.rows (settled_row contents at row) (may-create contents at creation may).1 (row-id contents at row)
 
 pub created-refused : (contents : Contents) (at : ℕ) (creation : Creation) (row : Row) → row_with creation.id contents.rows ≡ Some row → may_apply contents (creating at creation) ≡ false
 created-refused contents at creation row stands = by (may_apply contents (creating at creation)) refl where
@@ -87,27 +100,42 @@ claimed-ids claim [] rows = refl
 claimed-ids claim (name ∷ names) rows =
     claimed-ids claim names (change_row name.id (claimed claim) rows) ∙ change-ids (has_id name.id) (claimed claim) (claimed-later claim) rows
 
-claimed-stays : (claim : RunClaim) (names : List RunName) (rows : List Row) → RowsLater rows (all_claimed claim names rows)
+pub claimed-stays : (claim : RunClaim) (names : List RunName) (rows : List Row) → RowsLater rows (all_claimed claim names rows)
 claimed-stays claim [] rows = RowsLater-refl rows
 claimed-stays claim (name ∷ names) rows =
     let next : List Row = change_row name.id (claimed claim) rows in
     RowsLater-trans rows next (all_claimed claim names next) (change-stays (has_id name.id) (claimed claim) (claimed-later claim) rows) (claimed-stays claim names next)
 
+-- what holds of the tasks and stays as they settle holds after a change
+pub after-holds : (P : Contents → Type 0) (contents : Contents) (at : ℕ) → ((c : Contents) → P c → P (settled c at)) → (kind : Kind) → P (after_kind contents at kind) → P (after_change contents at kind)
+after-holds P contents at keeps Tick holds = holds
+after-holds P contents at keeps (Create creation) holds = keeps (after_kind contents at (Create creation)) holds
+after-holds P contents at keeps (Schedule id) holds = keeps (after_kind contents at (Schedule id)) holds
+after-holds P contents at keeps (Rerun id) holds = keeps (after_kind contents at (Rerun id)) holds
+after-holds P contents at keeps (Cancel id) holds = keeps (after_kind contents at (Cancel id)) holds
+after-holds P contents at keeps (TakesRuns claim) holds = keeps (after_kind contents at (TakesRuns claim)) holds
+after-holds P contents at keeps (Reclaim r) holds = keeps (after_kind contents at (Reclaim r)) holds
+after-holds P contents at keeps (Resolve r) holds = keeps (after_kind contents at (Resolve r)) holds
+
+settled-own : (at : ℕ) (contents : Contents) → HaveOwnIds contents.rows → HaveOwnIds (settled contents at).rows
+settled-own at contents own = rw (settled-ids contents at) own
+
 after-ids : (contents : Contents) (at : ℕ) (kind : Kind) → HaveOwnIds contents.rows → may_apply contents (record { at = at; kind = kind }) ≡ true → HaveOwnIds (after_kind contents at kind).rows
 after-ids contents at Tick own may = advance-ids contents at own
-after-ids contents at (Create creation) own may =
-    created-ids contents.rows (scheduled contents.next at (new_row creation.id creation.definition)) own (may-create contents at creation may).1
+after-ids contents at (Create creation) own may = created-ids contents.rows (new_row creation.id creation.definition) own (may-create contents at creation may).1
+after-ids contents at (Schedule id) own may = rw (change-ids (has_id id) (scheduled contents.next at) (scheduled-later contents.next at) contents.rows) own
 after-ids contents at (Rerun id) own may = rw (change-ids (has_id id) (run_again contents.next at) (again-later contents.next at) contents.rows) own
 after-ids contents at (Cancel id) own may = rw (change-ids (has_id id) (canceled at) (canceled-later at) contents.rows) own
 after-ids contents at (TakesRuns claim) own may = rw (claimed-ids (claim_of at claim) claim.runs contents.rows) own
 after-ids contents at (Reclaim r) own may = rw (change-ids (has_id r.id) (reclaimed r.run r.taken_until) (reclaimed-later r.run r.taken_until) contents.rows) own
 after-ids contents at (Resolve r) own may =
     rw (change-ids (has_id r.id) (resolved r.run (reason_of r.reason) contents.next at) (resolved-later r.run (reason_of r.reason) contents.next at) contents.rows) own
-after-ids contents at _ own may = own
 
 pub applied-ids : (contents : Contents) (change : Change) → HaveOwnIds contents.rows → may_apply contents change ≡ true → HaveOwnIds (applied contents change).rows
 unfolding applied
-applied-ids contents change own may = after-ids contents change.at change.kind own may
+applied-ids contents change own may =
+    let P : Contents → Type 0 = λ c. HaveOwnIds c.rows in
+    after-holds P contents change.at (settled-own change.at) change.kind (after-ids contents change.at change.kind own may)
 
 -- ---- each task stays
 
@@ -115,34 +143,42 @@ more-stay : (rows : List Row) (row : Row) → RowsLater rows (rows ++ row ∷ []
 more-stay [] row = tt
 more-stay (first ∷ rows) row = (RowLater-refl first, more-stay rows row)
 
+settled-later : (rows : List Row) (at : ℕ) (contents : Contents) → RowsLater rows contents.rows → RowsLater rows (settled contents at).rows
+settled-later rows at contents later = RowsLater-trans rows contents.rows (settled contents at).rows later (settled-stays contents at)
+
 after-stays : (contents : Contents) (at : ℕ) (kind : Kind) → RowsLater contents.rows (after_kind contents at kind).rows
 after-stays contents at Tick = advance-stays contents at
-after-stays contents at (Create creation) = more-stay contents.rows (scheduled contents.next at (new_row creation.id creation.definition))
+after-stays contents at (Create creation) = more-stay contents.rows (new_row creation.id creation.definition)
+after-stays contents at (Schedule id) = change-stays (has_id id) (scheduled contents.next at) (scheduled-later contents.next at) contents.rows
 after-stays contents at (Rerun id) = change-stays (has_id id) (run_again contents.next at) (again-later contents.next at) contents.rows
 after-stays contents at (Cancel id) = change-stays (has_id id) (canceled at) (canceled-later at) contents.rows
 after-stays contents at (TakesRuns claim) = claimed-stays (claim_of at claim) claim.runs contents.rows
 after-stays contents at (Reclaim r) = change-stays (has_id r.id) (reclaimed r.run r.taken_until) (reclaimed-later r.run r.taken_until) contents.rows
 after-stays contents at (Resolve r) =
     change-stays (has_id r.id) (resolved r.run (reason_of r.reason) contents.next at) (resolved-later r.run (reason_of r.reason) contents.next at) contents.rows
-after-stays contents at _ = RowsLater-refl contents.rows
 
 pub applied-stays : (contents : Contents) (change : Change) → RowsLater contents.rows (applied contents change).rows
 unfolding applied
-applied-stays contents change = after-stays contents change.at change.kind
+applied-stays contents change =
+    let P : Contents → Type 0 = λ c. RowsLater contents.rows c.rows in
+    after-holds P contents change.at (settled-later contents.rows change.at) change.kind (after-stays contents change.at change.kind)
 
--- ---- the reader's test of a definition that is alone
+-- ---- no task is ready after a change
 
-no_dependencies : (ids : List (List ℕ)) → ((ids ≡ [] → ⊥) → ⊥) → (length ids == 0) ≡ true
-no_dependencies [] none = refl
-no_dependencies (id ∷ ids) none = absurd (none (λ e. cc))
+after-none : (contents : Contents) (at : ℕ) (kind : Kind) → may_be contents at kind ≡ true → has_ready (after_change contents at kind) ≡ false
+after-none contents at Tick may = cc
+after-none contents at (Create creation) may = settled-none (after_kind contents at (Create creation)) at
+after-none contents at (Schedule id) may = settled-none (after_kind contents at (Schedule id)) at
+after-none contents at (Rerun id) may = settled-none (after_kind contents at (Rerun id)) at
+after-none contents at (Cancel id) may = settled-none (after_kind contents at (Cancel id)) at
+after-none contents at (TakesRuns claim) may = settled-none (after_kind contents at (TakesRuns claim)) at
+after-none contents at (Reclaim r) may = settled-none (after_kind contents at (Reclaim r)) at
+after-none contents at (Resolve r) may = settled-none (after_kind contents at (Resolve r)) at
 
-pub own_group : (group id : List ℕ) → ((group ≡ id → ⊥) → ⊥) → bytes_eq group id ≡ true
-own_group group id same = by (bytes_eq group id) refl where
-  by : (b : Bool) → bytes_eq group id ≡ b → bytes_eq group id ≡ true
-  by true is = is
-  by false is = absurd (same (λ e. let other : bytes_eq group id ≡ true = (bytes_eq-Decides group id).1 e in cc))
-
-pub alone-is : (id : List ℕ) (definition : TaskDef) → AllHold (alone_rules definition id) → is_alone id definition ≡ true
-alone-is id definition hold =
-    rw (own_group definition.task_group_id id (λ other. hold.0 (codes "taskGroupId") (refl, other)))
-    (no_dependencies definition.dependencies (λ other. hold.1.0 (codes "dependencies") (refl, other)))
+pub applied-none : (contents : Contents) (change : Change) → may_apply contents change ≡ true → has_ready (applied contents change) ≡ false
+unfolding applied
+applied-none contents change may =
+    let later = (and_parts (nat_le contents.last change.at) (nat_le change.at LAST_TOLD_MOMENT && (not (is_due contents change.at) && may_be contents change.at change.kind)) may).1 in
+    let told = (and_parts (nat_le change.at LAST_TOLD_MOMENT) (not (is_due contents change.at) && may_be contents change.at change.kind) later).1 in
+    let be = (and_parts (not (is_due contents change.at)) (may_be contents change.at change.kind) told).1 in
+    after-none contents change.at change.kind be

@@ -53,7 +53,7 @@ reduce-cons : (x : ℕ) (xs : List ℕ) → reduce min (x ∷ xs) ≡ Some (with
 reduce-cons x [] = refl
 reduce-cons x (y ∷ ys) = ap Some (fold-min x y ys)
 
-abbrev within : ℕ → Option ℕ → Option ℕ
+abbrev pub within : ℕ → Option ℕ → Option ℕ
 within m None = None
 within m (Some a) = cond (nat_le a m) (Some a) None
 
@@ -82,7 +82,7 @@ keep-out m x (Some y) out = by (nat_le y m) refl where
       let k : m < y = leb-false y m is in
       let gt : nat_le (min x y) m ≡ false = lt-leb (min x y) m (omega arith) in rw (is, gt) refl
 
-first-within : (m : ℕ) (xs : List ℕ) → reduce min (filter (λ d. nat_le d m) xs) ≡ within m (reduce min xs)
+pub first-within : (m : ℕ) (xs : List ℕ) → reduce min (filter (λ d. nat_le d m) xs) ≡ within m (reduce min xs)
 first-within m [] = refl
 first-within m (x ∷ xs) = by (first-within m xs) (nat_le x m) refl where
   by : reduce min (filter (λ d. nat_le d m) xs) ≡ within m (reduce min xs) → (b : Bool) → nat_le x m ≡ b → reduce min (filter (λ d. nat_le d m) (x ∷ xs)) ≡ within m (reduce min (x ∷ xs))

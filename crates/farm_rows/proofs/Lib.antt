@@ -1,6 +1,7 @@
 pub mod RoomLemmas
 pub mod LeastLemmas
 pub mod DueLemmas
+pub mod ReadyLemmas
 pub mod TurnLemmas
 pub mod AdvanceLemmas
 pub mod SweepLemmas
@@ -13,3 +14,14 @@ pub mod ChangeLemmas
 pub mod PickLemmas
 pub mod EndLemmas
 pub mod ShownLemmas
+pub mod StartLemmas
+pub mod SettleLemmas
+pub mod StepLemmas
+pub mod SharedLemmas
+pub mod CreateLemmas
+pub mod BusyLemmas
+pub mod PlanLemmas
+pub mod WaitLemmas
+pub mod PageLemmas
+pub mod ListLemmas
+pub mod ServedLemmas

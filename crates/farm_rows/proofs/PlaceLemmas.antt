@@ -1,6 +1,6 @@
 -- The first of a list that passes a test, by its place.
 use Rattle.std.proofs.Common.{◌≡◌, ℕ, zero, suc, ◌+◌, ◌≤◌, ◌<◌, Bool, true, false, not, cond, List, [], ◌∷◌, length, find, Some, None, refl, ap, sym, ◌∙◌, arith, nat_lt, slice_set, get_or}
-use Rattle.std.specs.List.{position, position_or_len, prefix_len}
+use Rattle.std.specs.List.{list_any, position, position_or_len, prefix_len}
 use Rattle.std.proofs.lemmas.Bool.{ltb-false}
 use Rattle.std.proofs.lemmas.List.Quantifiers.{position-Some}
 use Rattle.farm_rows.specs.Due.{change_first}
@@ -61,3 +61,25 @@ place-none test f xs is = sym (no-place test f xs (far test xs is)).changed
 
 pub place-lost : {A : Type 0} (test : A → Bool) (xs : List A) → position test xs ≡ None → find test xs ≡ None
 place-lost test xs is = (no-place test (λ x. x) xs (far test xs is)).found
+
+-- ---- whether some item passes
+
+any-found : {A : Type 0} (test : A → Bool) (xs : List A) (x : A) → find test xs ≡ Some x → list_any test xs ≡ true
+any-found test [] x is = cc
+any-found test (y ∷ ys) x is = by (any-found test ys x) (test y) refl where
+  by : (find test ys ≡ Some x → list_any test ys ≡ true) → (b : Bool) → test y ≡ b → list_any test (y ∷ ys) ≡ true
+  by rest true here = rw here refl
+  by rest false here = rw here (rest (rw here at is))
+
+any-lost : {A : Type 0} (test : A → Bool) (xs : List A) → find test xs ≡ None → list_any test xs ≡ false
+any-lost test [] is = refl
+any-lost test (y ∷ ys) is = by (any-lost test ys) (test y) refl where
+  by : (find test ys ≡ None → list_any test ys ≡ false) → (b : Bool) → test y ≡ b → list_any test (y ∷ ys) ≡ false
+  by rest true here = let no_ : Some y ≡ None = rw here at is in cc
+  by rest false here = rw here (rest (rw here at is))
+
+pub place-any : {A : Type 0} (test : A → Bool) (xs : List A) (i : ℕ) (d : A) → position test xs ≡ Some i → list_any test xs ≡ true
+place-any test xs i d is = any-found test xs (get_or xs i d) (place-found test xs i d is)
+
+pub place-no : {A : Type 0} (test : A → Bool) (xs : List A) → position test xs ≡ None → list_any test xs ≡ false
+place-no test xs is = any-lost test xs (place-lost test xs is)

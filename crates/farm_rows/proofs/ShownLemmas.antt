@@ -11,30 +11,23 @@ use Rattle.run_states.specs.declared.run.Run.{Run}
 use Rattle.run_states.specs.Runs.{is_pending_run}
 use Rattle.run_states.specs.Rows.{Row, is_pending, new_row, scheduled}
 use Rattle.run_states.specs.Moves.{run_again, canceled, claimed, reclaimed, resolved}
-use Rattle.run_states.proofs.LaterLemmas.{again-later, claimed-later, canceled-later, reclaimed-later, resolved-later}
+use Rattle.run_states.proofs.LaterLemmas.{scheduled-later, again-later, claimed-later, canceled-later, reclaimed-later, resolved-later}
 use Rattle.farm_record.specs.declared.change.Creation.{Creation}
 use Rattle.farm_record.specs.declared.change.RunName.{RunName}
 use Rattle.farm_rows.specs.declared.plan.Deed.{Deed}
-use Rattle.farm_rows.specs.declared.plan.Deed.TheVariants.{Create, Rerun, Cancel, Claim as TakesRuns, Reclaim, Resolve}
+use Rattle.farm_rows.specs.declared.plan.Deed.TheVariants.{Create, Schedule, Rerun, Cancel, Claim as TakesRuns, Reclaim, Resolve}
 use Rattle.farm_rows.specs.Contents.{Contents, row_with, HaveOwnIds}
 use Rattle.farm_rows.specs.Changes.{change_row, reason_of, claim_of, all_claimed, may_keep, are_first, creating, may_be, may_apply, applied}
+use Rattle.farm_rows.specs.Ready.{is_ready, has_ready, settled_row}
 use Rattle.farm_rows.specs.Deeds.{kind_of, change_of, row_of, shown_of, rows_after, planned_of}
 use Rattle.farm_rows.specs.Picks.{is_same_queue, waits_in, goes_before, better, pick, picks, last_name, names_last, are_picks, without}
 use Rattle.farm_rows.specs.Plans.{room_for, rows_with, named_rows, FindsRoom, IsPlanOn}
-use Rattle.farm_rows.specs.Sweep.{all_turns}
 use Rattle.farm_rows.proofs.ChangeLemmas.{may-is, rows-applied}
 use Rattle.farm_rows.proofs.IdLemmas.{created-stands}
-use Rattle.farm_rows.proofs.TurnLemmas.{all-ids}
-
--- all turns leave each task its id
-pub all-own : (before after : Contents) (moment : ℕ) → all_turns before moment ≡ after → HaveOwnIds before.rows → HaveOwnIds after.rows
-all-own before after moment turns own =
-    let same : map (λ row. row.id) after.rows ≡ map (λ row. row.id) before.rows = ap (λ (c : Contents). map (λ row. row.id) c.rows) (sym turns) ∙ all-ids before moment in
-    subst (IsDistinct bytes_eq) (sym same) own
 
 -- ---- a change of one task
 
-abbrev Keeps : (Row → Row) → Type 0
+abbrev pub Keeps : (Row → Row) → Type 0
 Keeps f = (row : Row) → (f row).id ≡ row.id
 
 -- the task with an id, once it was changed
@@ -122,7 +115,7 @@ found-id id (row ∷ rows) r is = by (found-id id rows r) (bytes_eq row.id id) r
   by rest false other = rest (rw other at is)
 
 -- and is changed
-changed-found : (id : List ℕ) (f : Row → Row) → Keeps f → (rows : List Row) (r : Row) → row_with id rows ≡ Some r → row_with id (change_row id f rows) ≡ Some (f r)
+pub changed-found : (id : List ℕ) (f : Row → Row) → Keeps f → (rows : List Row) (r : Row) → row_with id rows ≡ Some r → row_with id (change_row id f rows) ≡ Some (f r)
 changed-found id f keeps [] r is = cc
 changed-found id f keeps (row ∷ rows) r is = by (changed-found id f keeps rows r) (bytes_eq row.id id) refl where
   by : (row_with id rows ≡ Some r → row_with id (change_row id f rows) ≡ Some (f r)) → (b : Bool) → bytes_eq row.id id ≡ b → row_with id (change_row id f (row ∷ rows)) ≡ Some (f r)
@@ -222,7 +215,7 @@ apart-without id (row ∷ rows) = by (apart-without id rows) (bytes_eq row.id id
   by rest true is = rw is rest
   by rest false is = rw is (is, rest)
 
-each-without : (P : Row → Type 0) (id : List ℕ) (rows : List Row) → AllByRecursion P rows → AllByRecursion P (without id rows)
+pub each-without : (P : Row → Type 0) (id : List ℕ) (rows : List Row) → AllByRecursion P rows → AllByRecursion P (without id rows)
 each-without P id [] all = tt
 each-without P id (row ∷ rows) all = by (each-without P id rows all.1) (bytes_eq row.id id) refl where
   by : AllByRecursion P (without id rows) → (b : Bool) → bytes_eq row.id id ≡ b → AllByRecursion P (without id (row ∷ rows))
@@ -261,8 +254,9 @@ first-other (name ∷ names) rows are = by (row_with name.id rows) are where
 
 -- ---- what a plan shows
 
-deed-shown : (contents : Contents) (at number : ℕ) (deed : Deed) → may_be contents at (kind_of deed) ≡ true → rows_after at number deed (named_rows (kind_of deed) contents.rows) ≡ named_rows (kind_of deed) (rows_after at number deed contents.rows)
+pub deed-shown : (contents : Contents) (at number : ℕ) (deed : Deed) → may_be contents at (kind_of deed) ≡ true → rows_after at number deed (named_rows (kind_of deed) contents.rows) ≡ named_rows (kind_of deed) (rows_after at number deed contents.rows)
 deed-shown contents at number (Create row) may = refl
+deed-shown contents at number (Schedule id) may = one-found id (scheduled number at) (λ row. (scheduled-later number at row).id) contents.rows
 deed-shown contents at number (Rerun id) may = one-found id (run_again number at) (λ row. (again-later number at row).id) contents.rows
 deed-shown contents at number (Cancel id) may = one-found id (canceled at) (λ row. (canceled-later at row).id) contents.rows
 deed-shown contents at number (TakesRuns claim) may =
@@ -272,32 +266,6 @@ deed-shown contents at number (TakesRuns claim) may =
 deed-shown contents at number (Reclaim r) may = one-found r.id (reclaimed r.run r.taken_until) (λ row. (reclaimed-later r.run r.taken_until row).id) contents.rows
 deed-shown contents at number (Resolve r) may =
     one-found r.id (resolved r.run (reason_of r.reason) number at) (λ row. (resolved-later r.run (reason_of r.reason) number at row).id) contents.rows
-
-shown-list : (deed : Deed) (rows : List Row) → row_of deed ≡ None → shown_of deed rows ≡ rows
-shown-list (Create row) rows none = cc
-shown-list (Rerun id) rows none = refl
-shown-list (Cancel id) rows none = refl
-shown-list (TakesRuns claim) rows none = refl
-shown-list (Reclaim r) rows none = refl
-shown-list (Resolve r) rows none = refl
-
-finds-room : (deed : Deed) (stand room : ℕ) → row_of deed ≡ None → FindsRoom stand room (kind_of deed)
-finds-room (Create row) stand room none = cc
-finds-room (Rerun id) stand room none = tt
-finds-room (Cancel id) stand room none = tt
-finds-room (TakesRuns claim) stand room none = tt
-finds-room (Reclaim r) stand room none = tt
-finds-room (Resolve r) stand room none = tt
-
--- a change of the named tasks alone is planned
-pub IsPlanOn-shown : (contents : Contents) (at room : ℕ) (deed : Deed) (rows : List Row) → row_of deed ≡ None → may_apply contents (change_of at deed) ≡ true → rows ≡ rows_after at contents.next deed (named_rows (kind_of deed) contents.rows) → IsPlanOn contents (planned_of at deed rows room)
-IsPlanOn-shown contents at room deed rows none lawful made =
-    let applied_rows : rows_after at contents.next deed contents.rows ≡ (applied contents (change_of at deed)).rows = ap (λ (c : Contents). c.rows) (rows-applied contents at deed none) in
-    record {
-      lawful = lawful;
-      shows = shown-list deed rows none ∙ (made ∙ (deed-shown contents at contents.next deed (may-is contents at deed lawful).be ∙ ap (named_rows (kind_of deed)) applied_rows));
-      room = finds-room deed (length contents.rows) room none;
-    }
 
 -- ---- the runs that are picked may be claimed
 
@@ -340,14 +308,14 @@ picks-few (suc count) queue rows = by (λ rs. picks-few count queue rs) (pick qu
   by few (Some row) is = let rest = few (without row.id rows) in rw is (omega (arith, rest))
 
 -- a task with an id of its own is found by it
-abbrev Stands : List Row → Row → Type 0
+abbrev pub Stands : List Row → Row → Type 0
 Stands rows row = row_with row.id rows ≡ Some row
 
 stand-more : (first : Row) (rows more : List Row) → AllByRecursion (λ id. bytes_eq first.id id ≡ false) (map (λ row. row.id) more) → AllByRecursion (Stands rows) more → AllByRecursion (Stands (first ∷ rows)) more
 stand-more first rows [] other all = tt
 stand-more first rows (row ∷ more) other all = (rw (other.0) all.0, stand-more first rows more other.1 all.1)
 
-each-stands : (rows : List Row) → HaveOwnIds rows → AllByRecursion (Stands rows) rows
+pub each-stands : (rows : List Row) → HaveOwnIds rows → AllByRecursion (Stands rows) rows
 each-stands [] own = tt
 each-stands (row ∷ rows) own =
     let ids_of : List (List ℕ) = map (λ (r : Row). r.id) rows in
@@ -376,14 +344,3 @@ picks-first (suc count) queue rows name names own is = by (pick queue rows) refl
       let found : row_with name.id rows ≡ Some row = subst (λ (n : RunName). row_with n.id rows ≡ Some row) called one.1 in
       let own_queue : row.definition.queue ≡ queue = same-queue row.definition.queue queue (and_parts (is_pending row) (is_same_queue row.definition.queue queue) one.0).1 in
       rw found (subst (λ (q : TaskQueue). are_picks q (name ∷ names) rows ≡ true) (sym own_queue) are)
-
--- ---- a creation
-
--- a creation is planned with the task that it makes
-pub IsPlanOn-created : (contents : Contents) (at room : ℕ) (creation : Creation) (row : Row) → may_apply contents (creating at creation) ≡ true → row ≡ scheduled contents.next at (new_row creation.id creation.definition) → room_for (length contents.rows + 1) ≤ max (room_for (length contents.rows)) room → IsPlanOn contents (planned_of at (Create row) [] room)
-IsPlanOn-created contents at room creation row lawful is enough = rw is made where
-  new : Row
-  new = scheduled contents.next at (new_row creation.id creation.definition)
-
-  made : IsPlanOn contents (planned_of at (Create new) [] room)
-  made = record { lawful = lawful; shows = sym (ap (λ (o : Option Row). option_to_list o ++ []) (created-stands contents at creation lawful)); room = enough }

@@ -1,21 +1,23 @@
 -- A pass over the tasks resolves those whose deadlines come next, out of their turn: all turns leave the same after it.
-use Rattle.std.proofs.Common.{◌≡◌, ℕ, zero, suc, ◌+◌, ◌≤◌, ◌<◌, Bool, true, false, not, ◌&&◌, cond, List, [], ◌∷◌, map, length, find, Option, Some, None, refl, ap, sym, ◌∙◌, arith, nat_le, nat_lt}
+use Rattle.std.proofs.Common.{◌≡◌, ℕ, zero, suc, ◌+◌, ◌≤◌, ◌<◌, Bool, true, false, not, ◌&&◌, ◌||◌, cond, List, [], ◌∷◌, map, length, find, Option, Some, None, refl, ap, sym, ◌∙◌, arith, nat_le, nat_lt}
 use Rattle.std.specs.List.{list_any, list_all}
 use Rattle.std.specs.Option.{option_map_or, option_to_list}
 use Rattle.std.proofs.lemmas.Bool.{leb-true, le-leb, lt-ltb, le-ltb, and_parts}
 use Rattle.std.proofs.lemmas.List.Folds.{list_any-append}
 use Rattle.std.proofs.Math.ListN.{length-append}
 use Rattle.run_states.specs.declared.reasons.ReasonResolved.TheVariants.{ClaimExpired}
-use Rattle.run_states.specs.Rows.{Row, is_resolved, claim_due, loses_claim, exceeded, due_moments}
+use Rattle.run_states.specs.Rows.{Row, is_unscheduled, is_resolved, claim_due, loses_claim, exceeded, due_moments}
 use Rattle.run_states.specs.Moves.{expired}
-use Rattle.run_states.proofs.LaterLemmas.{exceeded-resolved}
+use Rattle.run_states.specs.Later.{RowLater}
+use Rattle.run_states.proofs.LaterLemmas.{RowLater-refl, exceeded-later, exceeded-resolved}
 use Rattle.run_states.proofs.ClaimLemmas.{claim-open, resolved-claim, exceeded-due, open-due}
 use Rattle.farm_rows.specs.Contents.{Contents}
 use Rattle.farm_rows.specs.Due.{all_due_moments, first_due, meets_deadline, change_first, draws, resolved_at}
 use Rattle.farm_rows.specs.Sweep.{claim_first, comes_due, swept, all_turns}
 use Rattle.farm_rows.proofs.LeastLemmas.{first-is, least-is}
 use Rattle.farm_rows.proofs.DueLemmas.{any_none, meets, loses, from, rows-from, from-claim, past, lost-due}
-use Rattle.farm_rows.proofs.TurnLemmas.{deadline-resolved, claim-resolved, first-from, first-lost, first-reached, first-idle, step-fewer, all-step}
+use Rattle.farm_rows.proofs.ReadyLemmas.{later-busy}
+use Rattle.farm_rows.proofs.TurnLemmas.{deadline-resolved, claim-resolved, first-from, first-lost, first-reached, first-idle, step-fewer, busy-resolved, busy-step}
 
 -- ---- one task in the pass
 
@@ -234,34 +236,48 @@ idle moment (row ∷ rows) none =
     let parts = any_none (list_any (λ due. nat_le due moment) (due_moments row)) (list_any (λ due. nat_le due moment) (all_due_moments rows)) (sym (list_any-append (λ due. nat_le due moment) (due_moments row) (all_due_moments rows)) ∙ none) in
     ap (λ (r : Row). r ∷ map (swept moment) rows) (one-idle moment row parts.0) ∙ ap (λ (rs : List Row). row ∷ rs) (idle moment rows parts.1)
 
-pass-turns : (count moment : ℕ) (contents : Contents) → length (all_due_moments contents.rows) ≤ count → all_turns (pass moment contents) moment ≡ all_turns contents moment
-pass-turns zero moment contents few = by (first_due contents moment) refl where
+-- a pass leaves each task that has a run one
+swept-later : (moment : ℕ) (row : Row) → RowLater row (swept moment row)
+swept-later moment row = by (comes_due moment row) refl where
+  by : (b : Bool) → comes_due moment row ≡ b → RowLater row (swept moment row)
+  by true is = rw is (exceeded-later row.definition.deadline row)
+  by false is = rw is (RowLater-refl row)
+
+pub busy-swept : (moment : ℕ) (rows : List Row) → list_any is_unscheduled rows ≡ false → list_any is_unscheduled (map (swept moment) rows) ≡ false
+busy-swept moment [] busy = refl
+busy-swept moment (row ∷ rows) busy =
+    let parts = any_none (is_unscheduled row) (list_any is_unscheduled rows) busy in
+    ap (λ b. b || list_any is_unscheduled (map (swept moment) rows)) (later-busy row (swept moment row) (swept-later moment row) parts.0) ∙ busy-swept moment rows parts.1
+
+pass-turns : (count moment : ℕ) (contents : Contents) → length (all_due_moments contents.rows) ≤ count → list_any is_unscheduled contents.rows ≡ false → all_turns (pass moment contents) moment ≡ all_turns contents moment
+pass-turns zero moment contents few busy = by (first_due contents moment) refl where
   by : (first : Option ℕ) → first_due contents moment ≡ first → all_turns (pass moment contents) moment ≡ all_turns contents moment
   by None is = ap (λ (rs : List Row). all_turns (record contents { rows = rs }) moment) (idle moment contents.rows (first-idle contents moment is))
   by (Some at) is = let fewer = step-fewer contents moment at is in absurd (omega arith)
-pass-turns (suc count) moment contents few = by (λ later le. pass-turns count moment later le) (first_due contents moment) refl where
-  claims : ((later : Contents) → length (all_due_moments later.rows) ≤ count → all_turns (pass moment later) moment ≡ all_turns later moment) → (at : ℕ) → first_due contents moment ≡ Some at → (b : Bool) → list_any (meets_deadline at) contents.rows ≡ b
+pass-turns (suc count) moment contents few busy = by (λ later le free. pass-turns count moment later le free) (first_due contents moment) refl where
+  claims : ((later : Contents) → length (all_due_moments later.rows) ≤ count → list_any is_unscheduled later.rows ≡ false → all_turns (pass moment later) moment ≡ all_turns later moment) → (at : ℕ) → first_due contents moment ≡ Some at → (b : Bool) → list_any (meets_deadline at) contents.rows ≡ b
       → all_turns (pass moment contents) moment ≡ all_turns contents moment
   claims more at is true some_ =
       let fewer = step-fewer contents moment at is in
       let same : pass moment contents ≡ pass moment (resolved_at contents at) =
       sym (ap (pass moment) (deadline-resolved contents at some_) ∙ ap (λ (rs : List Row). record contents { rows = rs }) (met-turn moment at contents.rows (first-reached contents moment at is) (first-from contents moment at is))) in
-      ap (λ (c : Contents). all_turns c moment) same ∙ (more (resolved_at contents at) (omega arith) ∙ sym (all-step contents moment at is))
+      ap (λ (c : Contents). all_turns c moment) same ∙ (more (resolved_at contents at) (omega arith) (busy-resolved contents at busy) ∙ sym (busy-step contents moment at busy is))
   claims more at is false none =
       let fewer = step-fewer contents moment at is in
       let first = pass-first contents moment at is none in
       let less = step-fewer (pass moment contents) moment at first in
       let few_left = all-fewer moment contents.rows in
-      all-step (pass moment contents) moment at first
-      ∙ (sym (more (resolved_at (pass moment contents) at) (omega arith))
+      let free = busy-swept moment contents.rows busy in
+      busy-step (pass moment contents) moment at free first
+      ∙ (sym (more (resolved_at (pass moment contents) at) (omega arith) (busy-resolved (pass moment contents) at free))
       ∙ (ap (λ (c : Contents). all_turns c moment) (pass-resolved contents moment at is none)
-      ∙ (more (resolved_at contents at) (omega arith) ∙ sym (all-step contents moment at is))))
+      ∙ (more (resolved_at contents at) (omega arith) (busy-resolved contents at busy) ∙ sym (busy-step contents moment at busy is))))
 
-  by : ((later : Contents) → length (all_due_moments later.rows) ≤ count → all_turns (pass moment later) moment ≡ all_turns later moment) → (first : Option ℕ) → first_due contents moment ≡ first
+  by : ((later : Contents) → length (all_due_moments later.rows) ≤ count → list_any is_unscheduled later.rows ≡ false → all_turns (pass moment later) moment ≡ all_turns later moment) → (first : Option ℕ) → first_due contents moment ≡ first
       → all_turns (pass moment contents) moment ≡ all_turns contents moment
   by more None is = ap (λ (rs : List Row). all_turns (record contents { rows = rs }) moment) (idle moment contents.rows (first-idle contents moment is))
   by more (Some at) is = claims more at is (list_any (meets_deadline at) contents.rows) refl
 
--- a pass over the tasks changes nothing of what all turns leave
-pub pass-same : (contents : Contents) (moment : ℕ) → all_turns (record contents { rows = map (swept moment) contents.rows }) moment ≡ all_turns contents moment
-pass-same contents moment = pass-turns (length (all_due_moments contents.rows)) moment contents (omega arith)
+-- a pass over the tasks changes nothing of what all turns leave, where none waits for others
+pub pass-same : (contents : Contents) (moment : ℕ) → list_any is_unscheduled contents.rows ≡ false → all_turns (record contents { rows = map (swept moment) contents.rows }) moment ≡ all_turns contents moment
+pass-same contents moment busy = pass-turns (length (all_due_moments contents.rows)) moment contents (omega arith) busy

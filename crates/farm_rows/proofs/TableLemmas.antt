@@ -1,6 +1,6 @@
 -- What the tables keep: a tick, and a task more.
-use Rattle.std.proofs.Common.{◌≡◌, ℕ, ◌≤◌, ◌<◌, ◌+◌, min, max, true, false, ◌&&◌, List, [], ◌∷◌, ◌++◌, length, filter, Option, Some, None, refl, ap, sym, ◌∙◌, subst, arith, nat_le, append-nil, take, get_or}
-use Rattle.std.specs.List.{reduce, list_all}
+use Rattle.std.proofs.Common.{◌≡◌, ℕ, ◌≤◌, ◌<◌, ◌+◌, min, max, true, false, ◌&&◌, ◌||◌, List, [], ◌∷◌, ◌++◌, length, filter, Option, Some, None, refl, ap, sym, ◌∙◌, subst, arith, nat_le, append-nil, take, get_or}
+use Rattle.std.specs.List.{reduce, list_any, list_all}
 use Rattle.std.specs.Option.{option_to_list}
 use Rattle.std.proofs.lemmas.Bool.{ltb-true, leb-true}
 use Rattle.std.proofs.lemmas.List.Concat.{flat_map-append}
@@ -10,10 +10,12 @@ use Rattle.std.proofs.lemmas.List.{take_more}
 use Rattle.std.proofs.lemmas.List.Elements.{filter-append}
 use Rattle.std.proofs.Math.ListN.{length-append}
 use Rattle.farm_text.specs.declared.moment.TheConstants.{LAST_TOLD_MOMENT}
-use Rattle.run_states.specs.Rows.{Row, new_row, scheduled, claim_due, due_moments}
+use Rattle.run_states.specs.Rows.{Row, new_row, claim_due, due_moments}
 use Rattle.farm_record.specs.declared.change.Change.{Change}
 use Rattle.farm_record.specs.declared.change.Creation.{Creation}
 use Rattle.farm_rows.specs.Contents.{Contents, row_with, HaveOwnIds}
+use Rattle.farm_rows.specs.Ready.{is_ready, settled_row}
+use Rattle.farm_rows.specs.Settling.{one_if}
 use Rattle.farm_rows.specs.Due.{all_due_moments, is_due, advance}
 use Rattle.farm_rows.specs.Changes.{creating, applied}
 use Rattle.farm_rows.specs.Plans.{room_for, IsPlanOn}
@@ -21,13 +23,13 @@ use Rattle.farm_rows.specs.Deeds.{planned_of}
 use Rattle.farm_rows.specs.declared.plan.Deed.TheVariants.{Create}
 use Rattle.farm_rows.specs.Sweep.{claim_ends, first_lost, numbered, all_turns, soonest_of, runs_made, fits, IsKept}
 use Rattle.farm_rows.proofs.AdvanceLemmas.{advance-is}
-use Rattle.farm_rows.proofs.FitLemmas.{fits-of}
+use Rattle.farm_rows.proofs.CreateLemmas.{new-is, created-applied}
 use Rattle.farm_rows.proofs.IdLemmas.{may-create, created-stands, created-ids}
 use Rattle.farm_rows.proofs.RoomLemmas.{room-enough}
 use Rattle.farm_rows.proofs.TurnLemmas.{with_last, idle-first, all-idle, all-last, all-keeps}
 
 -- the contents of these parts
-abbrev contents_of : List Row → ℕ → ℕ → Contents
+abbrev pub contents_of : List Row → ℕ → ℕ → Contents
 contents_of rows last next = record { rows = rows; last = last; next = next }
 
 -- ---- a tick
@@ -93,9 +95,9 @@ plan-fits contents rows at had brought row planned same keeps =
     record { room = omega arith; kept = omega arith; few = few_rows; told = told }
 
 -- what the tables keep, with one task more
-pub kept-more : (rows new : List Row) (row : Row) (last at next : ℕ) (soonest then : Option ℕ) (had brought capacity : ℕ) → IsKept rows last next soonest had → Fits rows at had brought → new ≡ rows ++ row ∷ [] → fits row ≡ true → length row.runs ≡ 1 → row_with row.id rows ≡ None
-    → then ≡ reduce min (option_to_list soonest ++ due_moments row) → max had brought ≤ capacity → IsKept new at (next + 1) then capacity
-kept-more rows new row last at next soonest then had brought capacity kept fit_ is row_fits one unknown earlier made =
+pub kept-more : (rows new : List Row) (row : Row) (last at next : ℕ) (soonest then : Option ℕ) (had brought capacity : ℕ) → IsKept rows last next soonest had → Fits rows at had brought → new ≡ rows ++ row ∷ [] → fits row ≡ true → list_any (is_ready new) new ≡ false → row_with row.id rows ≡ None
+    → then ≡ reduce min (option_to_list soonest ++ due_moments row) → max had brought ≤ capacity → IsKept new at (next + length row.runs) then capacity
+kept-more rows new row last at next soonest then had brought capacity kept fit_ is row_fits unready unknown earlier made =
     let len : length new ≡ length rows + 1 = ap length is ∙ (length-append rows (row ∷ []) ∙ refl) in
     let P : ℕ → Type 0 = λ n. room_for n ≤ capacity in
     let room : room_for (length rows + 1) ≤ capacity = (let h = fit_.kept in omega arith) in
@@ -104,30 +106,21 @@ kept-more rows new row last at next soonest then had brought capacity kept fit_ 
       told = fit_.told;
       few = (let h = fit_.few in omega arith);
       own = subst HaveOwnIds (sym is) (created-ids rows row kept.own unknown);
+      none = unready;
       fit = ap (list_all fits) is ∙ (list_all-append fits rows (row ∷ []) ∙ (ap (λ b. b && (fits row && true)) kept.fit ∙ ap (λ b. b && true) row_fits));
       drawn = (let h = kept.drawn in omega arith);
       room = subst P (sym len) room;
       soonest_is = earlier ∙ (ap (λ (o : Option ℕ). reduce min (option_to_list o ++ due_moments row)) kept.soonest_is ∙ (sym (soonest-more rows row) ∙ ap soonest_of (sym is)));
     }
 
--- a task as a plan has it, scheduled
-pub planned-scheduled : (row planned : Row) (number at : ℕ) → row ≡ scheduled number at planned → planned ≡ new_row planned.id planned.definition → row ≡ scheduled number at (new_row planned.id planned.definition)
-planned-scheduled row planned number at is fresh = is ∙ ap (scheduled number at) fresh
-
-pub planned-fits : (row planned : Row) (number at : ℕ) → row ≡ scheduled number at planned → planned ≡ new_row planned.id planned.definition → (fits row ≡ true) × (length row.runs ≡ 1)
-planned-fits row planned number at is fresh =
-    let whole = planned-scheduled row planned number at is fresh in
-    let made : Row = scheduled number at (new_row planned.id planned.definition) in
-    let fit_ : fits made ≡ true = fits-of made (omega arith) (omega arith) in
-    (ap fits whole ∙ fit_, ap (λ (r : Row). length r.runs) whole)
-
--- the task of a plan is the new one, scheduled
-pub named : (contents : Contents) (rows : List Row) (last next at room : ℕ) (row : Row) → contents_of rows last next ≡ contents → IsPlanOn contents (planned_of at (Create row) [] room) → row ≡ scheduled next at (new_row row.id row.definition)
-named contents rows last next at room row same planned =
+-- the task of a plan is the new one, as it stands once it has settled
+pub named : (contents : Contents) (rows : List Row) (last next at room : ℕ) (row : Row) → contents_of rows last next ≡ contents → list_any (is_ready rows) rows ≡ false → IsPlanOn contents (planned_of at (Create row) [] room)
+    → row ≡ settled_row (contents_of rows last next) at (new_row row.id row.definition)
+named contents rows last next at room row same none planned =
     let here : IsPlanOn (contents_of rows last next) (planned_of at (Create row) [] room) = rw same planned in
     let creation : Creation = record { id = row.id; definition = row.definition } in
-    let stands = created-stands (contents_of rows last next) at creation here.lawful in
-    let made : row ∷ [] ≡ scheduled next at (new_row row.id row.definition) ∷ [] = here.shows ∙ ap (λ (o : Option Row). option_to_list o ++ []) stands in
+    let stands = created-stands (contents_of rows last next) at creation none here.lawful in
+    let made : row ∷ [] ≡ settled_row (contents_of rows last next) at (new_row row.id row.definition) ∷ [] = here.shows ∙ ap (λ (o : Option Row). option_to_list o ++ []) stands in
     cc
 
 -- no task has its id
@@ -137,11 +130,15 @@ planned-unknown contents rows last next at room row same planned =
     (may-create (contents_of rows last next) at (record { id = row.id; definition = row.definition }) here.lawful).1
 
 -- a task that was planned is created
-pub applied-made : (contents : Contents) (change : Change) (rows new : List Row) (last next at : ℕ) (row planned : Row) → contents_of rows last next ≡ contents → creating at (record { id = planned.id; definition = planned.definition }) ≡ change → new ≡ rows ++ row ∷ [] → row ≡ scheduled next at planned → planned ≡ new_row planned.id planned.definition → contents_of new at (next + 1) ≡ applied contents change
-unfolding applied
-applied-made contents change rows new last next at row planned same is made draws fresh =
-    ap (λ (rs : List Row). contents_of rs at (next + 1)) (made ∙ ap (λ (r : Row). rows ++ r ∷ []) (planned-scheduled row planned next at draws fresh))
-    ∙ (ap (applied (contents_of rows last next)) is ∙ ap (λ (c : Contents). applied c change) same)
+pub applied-made : (contents : Contents) (rows new : List Row) (last next at : ℕ) (row : Row) → contents_of rows last next ≡ contents → list_any (is_ready rows) rows ≡ false → new ≡ rows ++ row ∷ []
+    → row ≡ settled_row (contents_of rows last next) at (new_row row.id row.definition) → contents_of new at (next + length row.runs) ≡ applied contents (creating at (record { id = row.id; definition = row.definition }))
+applied-made contents rows new last next at row same none made is =
+    let creation : Creation = record { id = row.id; definition = row.definition } in
+    let here : Contents = contents_of rows last next in
+    let count : length row.runs ≡ one_if (is_ready rows (new_row row.id row.definition)) = ap (λ (r : Row). length r.runs) is ∙ (new-is here at row.id row.definition).runs in
+    ap (λ (rs : List Row). contents_of rs at (next + length row.runs)) (made ∙ ap (λ (r : Row). rows ++ r ∷ []) is)
+    ∙ (ap (λ n. contents_of (rows ++ settled_row here at (new_row row.id row.definition) ∷ []) at (next + n)) count
+    ∙ (sym (created-applied here at creation none) ∙ ap (λ (c : Contents). applied c (creating at creation)) same))
 
 -- ---- loops over the tasks
 

@@ -1,16 +1,18 @@
 -- Turns: each takes some moment away, so there are enough of them.
-use Rattle.std.proofs.Common.{◌≡◌, ℕ, zero, suc, ◌+◌, ◌≤◌, ◌<◌, Bool, true, false, cond, map, length, find, Option, Some, None, refl, ap, sym, ◌∙◌, arith, nat_le}
+use Rattle.std.proofs.Common.{◌≡◌, ℕ, zero, suc, ◌+◌, ◌≤◌, ◌<◌, Bool, true, false, cond, List, map, length, find, Option, Some, None, refl, ap, sym, ◌∙◌, arith, nat_le}
 use Rattle.std.specs.List.{list_any, list_all}
 use Rattle.std.proofs.lemmas.Bool.{leb-true, le-leb}
 use Rattle.run_states.specs.declared.reasons.ReasonResolved.TheVariants.{ClaimExpired}
-use Rattle.run_states.specs.Rows.{loses_claim, exceeded}
+use Rattle.run_states.specs.Rows.{Row, is_unscheduled, loses_claim, exceeded}
 use Rattle.run_states.specs.Moves.{expired}
 use Rattle.run_states.specs.Later.{RowsLater}
 use Rattle.run_states.proofs.LaterLemmas.{exceeded-later, expired-later, RowsLater-refl, RowsLater-trans}
 use Rattle.farm_rows.specs.Contents.{Contents}
+use Rattle.farm_rows.specs.Ready.{has_ready, settled}
 use Rattle.farm_rows.specs.Due.{all_due_moments, is_due, first_due, meets_deadline, change_first, draws, resolved_at, turn, turns, after_first}
 use Rattle.farm_rows.specs.Sweep.{all_turns}
 use Rattle.farm_rows.proofs.LeastLemmas.{first-some, first-is, first-none, none-first, reduce-all, reduce-any}
+use Rattle.farm_rows.proofs.ReadyLemmas.{busy-change, settled-none, settled-busy, settled-due, settled-stays, settled-ids, settled-last, settled-keeps}
 use Rattle.farm_rows.proofs.DueLemmas.{from, from-rows, some-lost, meets-turn, loses-turn, change-stays, change-ids}
 
 -- ---- what is resolved at a moment: a deadline, or the end of a claim
@@ -57,7 +59,7 @@ idle-first contents moment is = none-first moment (all_due_moments contents.rows
 pub first-idle : (contents : Contents) (moment : ℕ) → first_due contents moment ≡ None → is_due contents moment ≡ false
 first-idle contents moment is = first-none moment (all_due_moments contents.rows) is
 
--- a turn takes some moment away
+-- what is resolved takes some moment away
 pub step-fewer : (contents : Contents) (moment at : ℕ) → first_due contents moment ≡ Some at → length (all_due_moments (resolved_at contents at).rows) < length (all_due_moments contents.rows)
 step-fewer contents moment at is = by (list_any (meets_deadline at) contents.rows) refl where
   by : (b : Bool) → list_any (meets_deadline at) contents.rows ≡ b → length (all_due_moments (resolved_at contents at).rows) < length (all_due_moments contents.rows)
@@ -67,6 +69,18 @@ step-fewer contents moment at is = by (list_any (meets_deadline at) contents.row
   by false none =
       let e = ap (λ (c : Contents). length (all_due_moments c.rows)) (claim-resolved contents at none) in
       let less = loses-turn contents.next at contents.rows (first-lost contents moment at is none) in omega arith
+
+-- ---- a turn
+
+-- what falls due first at a moment is resolved, and the tasks settle
+abbrev pub stepped : Contents → ℕ → Contents
+stepped contents at = settled (resolved_at contents at) at
+
+pub turn-fewer : (contents : Contents) (moment at : ℕ) → first_due contents moment ≡ Some at → length (all_due_moments (stepped contents at).rows) < length (all_due_moments contents.rows)
+turn-fewer contents moment at is =
+    let fewer = step-fewer contents moment at is in
+    let same = ap length (settled-due (resolved_at contents at) at) in
+    omega arith
 
 -- ---- turns
 
@@ -80,29 +94,29 @@ turns-enough : (n k moment : ℕ) (contents : Contents) → length (all_due_mome
 turns-enough zero k moment contents few enough = by (first_due contents moment) refl where
   by : (first : Option ℕ) → first_due contents moment ≡ first → contents ≡ turns k moment contents
   by None is = sym (turns-idle k moment contents is)
-  by (Some at) is = let fewer = step-fewer contents moment at is in absurd (omega arith)
+  by (Some at) is = let fewer = turn-fewer contents moment at is in absurd (omega arith)
 turns-enough (suc n) zero moment contents few enough = by (first_due contents moment) refl where
   by : (first : Option ℕ) → first_due contents moment ≡ first → turns (suc n) moment contents ≡ contents
   by None is = turns-idle (suc n) moment contents is
-  by (Some at) is = let fewer = step-fewer contents moment at is in absurd (omega arith)
+  by (Some at) is = let fewer = turn-fewer contents moment at is in absurd (omega arith)
 turns-enough (suc n) (suc k) moment contents few enough = by (turns-enough n k moment) (first_due contents moment) refl where
   by : ((later : Contents) → length (all_due_moments later.rows) ≤ n → length (all_due_moments later.rows) ≤ k → turns n moment later ≡ turns k moment later)
       → (first : Option ℕ) → first_due contents moment ≡ first → turns (suc n) moment contents ≡ turns (suc k) moment contents
   by more None is = turns-idle (suc n) moment contents is ∙ sym (turns-idle (suc k) moment contents is)
   by more (Some at) is =
-      let fewer = step-fewer contents moment at is in
-      let next : turn moment contents ≡ resolved_at contents at = ap (after_first contents) is in
-      ap (turns n moment) next ∙ (more (resolved_at contents at) (omega arith) (omega arith) ∙ sym (ap (turns k moment) next))
+      let fewer = turn-fewer contents moment at is in
+      let next : turn moment contents ≡ stepped contents at = ap (after_first contents) is in
+      ap (turns n moment) next ∙ (more (stepped contents at) (omega arith) (omega arith) ∙ sym (ap (turns k moment) next))
 
 -- all turns: the first, and then all that are left
-pub all-step : (contents : Contents) (moment at : ℕ) → first_due contents moment ≡ Some at → all_turns contents moment ≡ all_turns (resolved_at contents at) moment
+pub all-step : (contents : Contents) (moment at : ℕ) → first_due contents moment ≡ Some at → all_turns contents moment ≡ all_turns (stepped contents at) moment
 unfolding all_turns
 all-step contents moment at is =
     let count : ℕ = length (all_due_moments contents.rows) in
-    let fewer = step-fewer contents moment at is in
+    let fewer = turn-fewer contents moment at is in
     turns-enough count (suc count) moment contents (omega arith) (omega arith)
     ∙ (ap (turns count moment) (ap (after_first contents) is)
-    ∙ turns-enough count (length (all_due_moments (resolved_at contents at).rows)) moment (resolved_at contents at) (omega arith) (omega arith))
+    ∙ turns-enough count (length (all_due_moments (stepped contents at).rows)) moment (stepped contents at) (omega arith) (omega arith))
 
 pub all-idle : (contents : Contents) (moment : ℕ) → first_due contents moment ≡ None → all_turns contents moment ≡ contents
 unfolding all_turns
@@ -112,14 +126,14 @@ turns-end : (count moment : ℕ) (contents : Contents) → length (all_due_momen
 turns-end zero moment contents enough = by (first_due contents moment) refl where
   by : (first : Option ℕ) → first_due contents moment ≡ first → first_due contents moment ≡ None
   by None is = is
-  by (Some at) is = let fewer = step-fewer contents moment at is in absurd (omega arith)
+  by (Some at) is = let fewer = turn-fewer contents moment at is in absurd (omega arith)
 turns-end (suc count) moment contents enough = by (turns-end count moment) (first_due contents moment) refl where
   by : ((later : Contents) → length (all_due_moments later.rows) ≤ count → first_due (turns count moment later) moment ≡ None) → (first : Option ℕ) → first_due contents moment ≡ first
       → first_due (turns (suc count) moment contents) moment ≡ None
   by more None is = ap (λ (c : Contents). first_due c moment) (turns-idle (suc count) moment contents is) ∙ is
   by more (Some at) is =
-      let fewer = step-fewer contents moment at is in
-      ap (λ (c : Contents). first_due (turns count moment c) moment) (ap (after_first contents) is) ∙ more (resolved_at contents at) (omega arith)
+      let fewer = turn-fewer contents moment at is in
+      ap (λ (c : Contents). first_due (turns count moment c) moment) (ap (after_first contents) is) ∙ more (stepped contents at) (omega arith)
 
 pub all-end : (contents : Contents) (moment : ℕ) → first_due (all_turns contents moment) moment ≡ None
 unfolding all_turns
@@ -135,7 +149,7 @@ turns-together (suc count) early late contents le = by (λ later. turns-together
   by more None is = ap (λ (c : Contents). all_turns (turns count early c) late) (ap (after_first contents) is) ∙ more contents
   by more (Some at) is =
       ap (λ (c : Contents). all_turns (turns count early c) late) (ap (after_first contents) is)
-      ∙ (more (resolved_at contents at) ∙ sym (all-step contents late at (first-later contents early late at le is)))
+      ∙ (more (stepped contents at) ∙ sym (all-step contents late at (first-later contents early late at le is)))
 
 pub all-together : (contents : Contents) (early late : ℕ) → early ≤ late → all_turns (all_turns contents early) late ≡ all_turns contents late
 unfolding all_turns
@@ -152,6 +166,9 @@ last-resolved last at contents = by (list_any (meets_deadline at) contents.rows)
   by true some_ = deadline-resolved (with_last last contents) at some_ ∙ sym (ap (with_last last) (deadline-resolved contents at some_))
   by false none = claim-resolved (with_last last contents) at none ∙ sym (ap (with_last last) (claim-resolved contents at none))
 
+last-stepped : (last at : ℕ) (contents : Contents) → stepped (with_last last contents) at ≡ with_last last (stepped contents at)
+last-stepped last at contents = ap (λ (c : Contents). settled c at) (last-resolved last at contents) ∙ settled-last (resolved_at contents at) at last
+
 turns-last : (count moment last : ℕ) (contents : Contents) → turns count moment (with_last last contents) ≡ with_last last (turns count moment contents)
 turns-last zero moment last contents = refl
 turns-last (suc count) moment last contents = by (turns-last count moment last) (first_due contents moment) refl where
@@ -160,8 +177,8 @@ turns-last (suc count) moment last contents = by (turns-last count moment last) 
   by more None is =
       ap (turns count moment) (ap (after_first (with_last last contents)) is) ∙ (more contents ∙ sym (ap (λ (c : Contents). with_last last (turns count moment c)) (ap (after_first contents) is)))
   by more (Some at) is =
-      ap (turns count moment) (ap (after_first (with_last last contents)) is ∙ last-resolved last at contents)
-      ∙ (more (resolved_at contents at) ∙ sym (ap (λ (c : Contents). with_last last (turns count moment c)) (ap (after_first contents) is)))
+      ap (turns count moment) (ap (after_first (with_last last contents)) is ∙ last-stepped last at contents)
+      ∙ (more (stepped contents at) ∙ sym (ap (λ (c : Contents). with_last last (turns count moment c)) (ap (after_first contents) is)))
 
 pub all-last : (contents : Contents) (moment last : ℕ) → all_turns (with_last last contents) moment ≡ with_last last (all_turns contents moment)
 unfolding all_turns
@@ -177,8 +194,8 @@ resolved-last contents at = by (list_any (meets_deadline at) contents.rows) refl
   by true some_ = ap (λ (c : Contents). c.last) (deadline-resolved contents at some_)
   by false none = ap (λ (c : Contents). c.last) (claim-resolved contents at none)
 
-pub resolved-keeps : (contents : Contents) (at : ℕ) → (resolved_at contents at).last ≡ contents.last
-resolved-keeps contents at = resolved-last contents at
+pub stepped-keeps : (contents : Contents) (at : ℕ) → (settled (resolved_at contents at) at).last ≡ contents.last
+stepped-keeps contents at = settled-keeps (resolved_at contents at) at ∙ resolved-last contents at
 
 -- ---- each task stays
 
@@ -196,11 +213,12 @@ resolved-ids contents at = by (list_any (meets_deadline at) contents.rows) refl 
 
 turn-stays : (contents : Contents) (first : Option ℕ) → RowsLater contents.rows (after_first contents first).rows
 turn-stays contents None = RowsLater-refl contents.rows
-turn-stays contents (Some at) = resolved-stays contents at
+turn-stays contents (Some at) =
+    RowsLater-trans contents.rows (resolved_at contents at).rows (settled (resolved_at contents at) at).rows (resolved-stays contents at) (settled-stays (resolved_at contents at) at)
 
 turn-ids : (contents : Contents) (first : Option ℕ) → map (λ row. row.id) (after_first contents first).rows ≡ map (λ row. row.id) contents.rows
 turn-ids contents None = refl
-turn-ids contents (Some at) = resolved-ids contents at
+turn-ids contents (Some at) = settled-ids (resolved_at contents at) at ∙ resolved-ids contents at
 
 turns-stay : (count moment : ℕ) (contents : Contents) → RowsLater contents.rows (turns count moment contents).rows
 turns-stay zero moment contents = RowsLater-refl contents.rows
@@ -218,3 +236,36 @@ all-stay contents moment = turns-stay (length (all_due_moments contents.rows)) m
 pub all-ids : (contents : Contents) (moment : ℕ) → map (λ row. row.id) (all_turns contents moment).rows ≡ map (λ row. row.id) contents.rows
 unfolding all_turns
 all-ids contents moment = turns-ids (length (all_due_moments contents.rows)) moment contents
+
+-- ---- no task is ready
+
+turn-none : (contents : Contents) (first : Option ℕ) → has_ready contents ≡ false → has_ready (after_first contents first) ≡ false
+turn-none contents None none = none
+turn-none contents (Some at) none = settled-none (resolved_at contents at) at
+
+turns-none : (count moment : ℕ) (contents : Contents) → has_ready contents ≡ false → has_ready (turns count moment contents) ≡ false
+turns-none zero moment contents none = none
+turns-none (suc count) moment contents none = turns-none count moment (turn moment contents) (turn-none contents (first_due contents moment) none)
+
+pub all-none : (contents : Contents) (moment : ℕ) → has_ready contents ≡ false → has_ready (all_turns contents moment) ≡ false
+unfolding all_turns
+all-none contents moment none = turns-none (length (all_due_moments contents.rows)) moment contents none
+
+-- ---- where no task is unscheduled, none settles
+
+pub busy-exceeded : (at : ℕ) (rows : List Row) → list_any is_unscheduled rows ≡ false → list_any is_unscheduled (change_first (meets_deadline at) (exceeded at) rows) ≡ false
+busy-exceeded at rows busy = busy-change (meets_deadline at) (exceeded at) (exceeded-later at) rows busy
+
+pub busy-expired : (number at : ℕ) (rows : List Row) → list_any is_unscheduled rows ≡ false → list_any is_unscheduled (change_first (loses_claim at) (expired number at) rows) ≡ false
+busy-expired number at rows busy = busy-change (loses_claim at) (expired number at) (expired-later number at) rows busy
+
+pub busy-resolved : (contents : Contents) (at : ℕ) → list_any is_unscheduled contents.rows ≡ false → list_any is_unscheduled (resolved_at contents at).rows ≡ false
+busy-resolved contents at busy = by (list_any (meets_deadline at) contents.rows) refl where
+  by : (b : Bool) → list_any (meets_deadline at) contents.rows ≡ b → list_any is_unscheduled (resolved_at contents at).rows ≡ false
+  by true some_ = ap (λ (c : Contents). list_any is_unscheduled c.rows) (deadline-resolved contents at some_) ∙ busy-exceeded at contents.rows busy
+  by false none = ap (λ (c : Contents). list_any is_unscheduled c.rows) (claim-resolved contents at none) ∙ busy-expired contents.next at contents.rows busy
+
+-- then a turn is what falls due first alone
+pub busy-step : (contents : Contents) (moment at : ℕ) → list_any is_unscheduled contents.rows ≡ false → first_due contents moment ≡ Some at → all_turns contents moment ≡ all_turns (resolved_at contents at) moment
+busy-step contents moment at busy is =
+    all-step contents moment at is ∙ ap (λ (c : Contents). all_turns c moment) (settled-busy (resolved_at contents at) at (busy-resolved contents at busy))

@@ -1,34 +1,48 @@
 -- Which changes may be made of the tasks, and what each leaves (the queue service of the Taskcluster reference).
-use Rattle.std.specs.Prelude.{ℕ, ◌+◌, Bool, false, not, ◌&&◌, ◌==◌, nat_lt, nat_le, List, [], ◌∷◌, ◌++◌, length, is_none, bytes_eq}
+use Rattle.std.specs.Prelude.{ℕ, ◌+◌, Bool, true, false, not, ◌&&◌, ◌||◌, nat_lt, nat_le, List, [], ◌∷◌, ◌++◌, length, find, Option, option_map, is_none, bytes_eq}
+use Rattle.std.specs.List.{list_all}
 use Rattle.std.specs.Option.{option_map_or}
 use Rattle.farm_text.specs.declared.moment.TheConstants.{LAST_TOLD_MOMENT}
-use Rattle.task_defs.specs.declared.task_def.TaskDef.{TaskDef}
 use Rattle.run_states.specs.declared.reasons.ReasonResolved.{ReasonResolved}
 use Rattle.run_states.specs.declared.reasons.ReasonResolved.TheVariants as reasons
 use Rattle.run_states.specs.declared.run.Claim.{Claim as RunClaim}
-use Rattle.run_states.specs.Rows.{Row, is_resolved, is_running_at, new_row, scheduled}
+use Rattle.run_states.specs.Rows.{Row, is_unscheduled, is_resolved, is_running_at, new_row, scheduled}
 use Rattle.run_states.specs.Moves.{may_rerun, run_again, canceled, claimed, reclaimed, resolved}
 use Rattle.farm_record.specs.declared.change.Change.{Change}
 use Rattle.farm_record.specs.declared.change.Claim.{Claim}
 use Rattle.farm_record.specs.declared.change.Creation.{Creation}
 use Rattle.farm_record.specs.declared.change.Kind.{Kind}
-use Rattle.farm_record.specs.declared.change.Kind.TheVariants.{Tick, Create, Rerun, Cancel, Claim as TakesRuns, Reclaim, Resolve}
+use Rattle.farm_record.specs.declared.change.Kind.TheVariants.{Tick, Create, Schedule, Rerun, Cancel, Claim as TakesRuns, Reclaim, Resolve}
 use Rattle.farm_record.specs.declared.change.Report.{Report}
 use Rattle.farm_record.specs.declared.change.Report.TheVariants as reports
 use Rattle.farm_record.specs.declared.change.RunName.{RunName}
 use Rattle.farm_rows.specs.Contents.{Contents, row_with}
+use Rattle.farm_rows.specs.Ready.{settled}
 use Rattle.farm_rows.specs.Due.{is_due, change_first, draws, advance}
 use Rattle.farm_rows.specs.Picks.{are_picks}
 
--- the task's group is its own, and it waits for no task (until task groups are built)
-abbrev pub is_alone : List ℕ → TaskDef → Bool
-is_alone id definition = bytes_eq definition.task_group_id id && (length definition.dependencies == 0)
+-- each task that this one waits for stands, and expires no earlier than its deadline; or is the task itself
+abbrev pub waits_well : Creation → List Row → Bool
+waits_well creation rows =
+    list_all (λ id. bytes_eq id creation.id || option_map_or (λ row. nat_le creation.definition.deadline row.definition.expires) (row_with id rows) false)
+    creation.definition.dependencies
 
--- a task may be created: no task has the id, it is alone, its deadline is still to come, and there is room (own: 1,000,000 tasks)
+-- the scheduler of the tasks of a group, as the first of them has it
+abbrev pub kept_scheduler : List ℕ → List Row → Option (List ℕ)
+kept_scheduler group rows = option_map (λ row. row.definition.scheduler_id) (find (λ row. bytes_eq row.definition.task_group_id group) rows)
+
+-- the task has the scheduler of its group, where that has tasks
+abbrev pub may_join : Creation → List Row → Bool
+may_join creation rows =
+    option_map_or (λ kept. bytes_eq kept creation.definition.scheduler_id) (kept_scheduler creation.definition.task_group_id rows) true
+
+-- a task may be created: no task has the id, its deadline is still to come, it waits well and may join its group, and there is room (own:
+-- 1,000,000 tasks)
 abbrev pub may_create : Contents → ℕ → Creation → Bool
 may_create contents at creation =
     is_none (row_with creation.id contents.rows)
-    && (is_alone creation.id creation.definition && (nat_lt at creation.definition.deadline && nat_lt (length contents.rows) 1_000_000))
+    && (nat_lt at creation.definition.deadline
+    && (waits_well creation contents.rows && (may_join creation contents.rows && nat_lt (length contents.rows) 1_000_000)))
 
 -- the change that creates a task at a moment
 abbrev pub creating : ℕ → Creation → Change
@@ -63,15 +77,16 @@ reason_of reports.ResourceUnavailable = reasons.ResourceUnavailable
 reason_of reports.InternalError = reasons.InternalError
 reason_of reports.IntermittentTask = reasons.IntermittentTask
 
--- What each kind of change needs, a line a kind. A tick is no change of one task: it is made by `advance`. No call schedules yet.
+-- What each kind of change needs, a line a kind. A tick is no change of one task: it is made by `advance`.
 abbrev pub may_be : Contents → ℕ → Kind → Bool
 may_be contents at (Create creation) = may_create contents at creation
+may_be contents at (Schedule id) = on_row is_unscheduled id contents.rows
 may_be contents at (Rerun id) = on_row (may_rerun at) id contents.rows
 may_be contents at (Cancel id) = on_row (λ row. not (is_resolved row)) id contents.rows
 may_be contents at (TakesRuns claim) = may_claim contents at claim
 may_be contents at (Reclaim r) = may_keep at r.taken_until && on_row (is_running_at r.run) r.id contents.rows
 may_be contents at (Resolve r) = on_row (is_running_at r.run) r.id contents.rows
-may_be contents at _ = false
+may_be contents at Tick = false
 
 -- a change may be made: at a moment that a clock may tell, which is not before the last, where nothing is due, and what its kind needs holds
 abbrev pub may_apply : Contents → Change → Bool
@@ -79,12 +94,12 @@ may_apply contents change =
     nat_le contents.last change.at
     && (nat_le change.at LAST_TOLD_MOMENT && (not (is_due contents change.at) && may_be contents change.at change.kind))
 
--- a task is created: it stands behind the others, and is pending at once, with the next number
+-- a task is created: it stands behind the others, without a run
 abbrev pub created : Contents → ℕ → Creation → Contents
 created contents at creation = record {
-  rows = contents.rows ++ scheduled contents.next at (new_row creation.id creation.definition) ∷ [];
+  rows = contents.rows ++ new_row creation.id creation.definition ∷ [];
   last = at;
-  next = contents.next + 1;
+  next = contents.next;
 }
 
 -- a task has this id
@@ -109,10 +124,11 @@ all_claimed claim (name ∷ names) rows = all_claimed claim names (change_row na
 abbrev pub changed : Contents → ℕ → List Row → ℕ → Contents
 changed contents at rows drawn = record { rows = rows; last = at; next = contents.next + drawn }
 
--- what a change of each kind leaves
+-- what a change of each kind makes of the tasks, before they settle
 abbrev pub after_kind : Contents → ℕ → Kind → Contents
 after_kind contents at Tick = advance contents at
 after_kind contents at (Create creation) = created contents at creation
+after_kind contents at (Schedule id) = changed contents at (change_row id (scheduled contents.next at) contents.rows) 1
 after_kind contents at (Rerun id) = changed contents at (change_row id (run_again contents.next at) contents.rows) 1
 after_kind contents at (Cancel id) = changed contents at (change_row id (canceled at) contents.rows) 0
 after_kind contents at (TakesRuns claim) = changed contents at (all_claimed (claim_of at claim) claim.runs contents.rows) 0
@@ -120,8 +136,12 @@ after_kind contents at (Reclaim r) = changed contents at (change_row r.id (recla
 after_kind contents at (Resolve r) =
     changed contents at (change_row r.id (resolved r.run (reason_of r.reason) contents.next at) contents.rows)
     (draws (reason_of r.reason) (row_with r.id contents.rows))
-after_kind contents at _ = contents
+
+-- and then they settle (an advance settles at each of its turns)
+abbrev pub after_change : Contents → ℕ → Kind → Contents
+after_change contents at Tick = advance contents at
+after_change contents at kind = settled (after_kind contents at kind) at
 
 -- what a change leaves that may be made
 unfoldable pub applied : Contents → Change → Contents
-applied contents change = after_kind contents change.at change.kind
+applied contents change = after_change contents change.at change.kind

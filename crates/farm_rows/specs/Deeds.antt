@@ -1,7 +1,7 @@
 -- What a plan keeps of its change, and what that makes of the tasks that stand. The contracts of private functions alone speak of these.
 use Rattle.std.specs.Prelude.{ℕ, List, [], ◌∷◌, length, replicate, Option, Some, None}
 use Rattle.run_states.specs.declared.run.Claim.{Claim as RunClaim}
-use Rattle.run_states.specs.Rows.{Row}
+use Rattle.run_states.specs.Rows.{Row, scheduled}
 use Rattle.run_states.specs.Moves.{run_again, canceled, reclaimed, resolved}
 use Rattle.farm_record.specs.declared.change.Change.{Change}
 use Rattle.farm_record.specs.declared.change.Kind.{Kind}
@@ -16,6 +16,7 @@ use Rattle.farm_rows.specs.declared.plan.Deed.TheVariants as deeds
 -- the kind of change
 abbrev pub kind_of : Deed → Kind
 kind_of (deeds.Create row) = kinds.Create (record { id = row.id; definition = row.definition })
+kind_of (deeds.Schedule id) = kinds.Schedule id
 kind_of (deeds.Rerun id) = kinds.Rerun id
 kind_of (deeds.Cancel id) = kinds.Cancel id
 kind_of (deeds.Claim claim) = kinds.Claim claim
@@ -42,6 +43,7 @@ planned_of at deed rows room = record { change = change_of at deed; rows = shown
 -- what becomes of the tasks that stand, where a new run has this number
 abbrev pub rows_after : ℕ → ℕ → Deed → List Row → List Row
 rows_after at number (deeds.Create row) rows = rows
+rows_after at number (deeds.Schedule id) rows = change_row id (scheduled number at) rows
 rows_after at number (deeds.Rerun id) rows = change_row id (run_again number at) rows
 rows_after at number (deeds.Cancel id) rows = change_row id (canceled at) rows
 rows_after at number (deeds.Claim claim) rows = all_claimed (claim_of at claim) claim.runs rows
@@ -50,6 +52,7 @@ rows_after at number (deeds.Resolve r) rows = change_row r.id (resolved r.run (r
 
 -- how many numbers are drawn
 abbrev pub drawn_by : Deed → List Row → ℕ
+drawn_by (deeds.Schedule id) rows = 1
 drawn_by (deeds.Rerun id) rows = 1
 drawn_by (deeds.Resolve r) rows = draws (reason_of r.reason) (row_with r.id rows)
 drawn_by _ rows = 0

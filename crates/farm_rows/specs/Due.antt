@@ -7,6 +7,7 @@ use Rattle.run_states.specs.Reasons.{retry_after}
 use Rattle.run_states.specs.Rows.{Row, is_resolved, loses_claim, exceeded, due_moments}
 use Rattle.run_states.specs.Moves.{expired}
 use Rattle.farm_rows.specs.Contents.{Contents}
+use Rattle.farm_rows.specs.Ready.{settled}
 
 -- the moments at which something falls due, task by task: deadlines, and ends of claims
 abbrev pub all_due_moments : List Row → List ℕ
@@ -45,10 +46,10 @@ resolved_at contents at =
       next = contents.next + draws ClaimExpired (find (loses_claim at) contents.rows);
     }
 
--- one turn: what falls due first is resolved at its own moment. (No task waits for another yet, so none becomes ready by it.)
+-- one turn: what falls due first is resolved at its own moment, and then the tasks settle at it
 abbrev pub after_first : Contents → Option ℕ → Contents
 after_first contents None = contents
-after_first contents (Some at) = resolved_at contents at
+after_first contents (Some at) = settled (resolved_at contents at) at
 
 abbrev pub turn : ℕ → Contents → Contents
 turn moment contents = after_first contents (first_due contents moment)

@@ -1,8 +1,13 @@
 pub mod Contents
+pub mod Ready
 pub mod Due
 pub mod Picks
 pub mod Left
 pub mod Changes
+pub mod Waits
+pub mod Lists
+pub mod Starts
 pub mod Plans
 pub mod Deeds
 pub mod Sweep
+pub mod Settling

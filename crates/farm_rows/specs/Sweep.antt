@@ -1,11 +1,12 @@
 -- What a tick leaves of each task, and what the tables keep besides their contents. The contracts of private functions alone speak of these.
 use Rattle.std.specs.Prelude.{◌≡◌, ℕ, ◌+◌, ◌≤◌, true, min, Bool, false, not, ◌&&◌, nat_le, nat_lt, List, length, Option, filter, sum_by, if◌then◌else◌}
 use Rattle.std.specs.Option.{option_map_or, option_to_list}
-use Rattle.std.specs.List.{reduce, flat_map, list_all}
+use Rattle.std.specs.List.{reduce, flat_map, list_any, list_all}
 use Rattle.farm_text.specs.declared.moment.TheConstants.{LAST_TOLD_MOMENT}
 use Rattle.run_states.specs.Rows.{Row, is_resolved, exceeded, claim_due}
 use Rattle.run_states.specs.Moves.{expired}
 use Rattle.farm_rows.specs.Contents.{Contents, HaveOwnIds}
+use Rattle.farm_rows.specs.Ready.{is_ready}
 use Rattle.farm_rows.specs.Due.{all_due_moments, turns}
 use Rattle.farm_rows.specs.Plans.{room_for}
 
@@ -57,11 +58,12 @@ runs_made rows = sum_by (λ row. length row.runs) rows
 abbrev pub fits : Row → Bool
 fits row = nat_le (length row.runs + row.retries_left) 50 && nat_le row.retries_left 49
 
--- what tables keep
+-- what tables keep: among others, that no task is ready
 pub record IsKept (rows : List Row) (last next : ℕ) (soonest : Option ℕ) (capacity : ℕ) : Type 0 where
   pub told : last ≤ LAST_TOLD_MOMENT
   pub few : length rows ≤ 1_000_000
   pub own : HaveOwnIds rows
+  pub none : list_any (is_ready rows) rows ≡ false
   pub fit : list_all fits rows ≡ true
   pub drawn : next ≤ runs_made rows
   pub room : room_for (length rows) ≤ capacity

@@ -1,12 +1,15 @@
 //! Which changes may be made of one task.
-ghost use Rattle.std.specs.Prelude.{◌≡◌, not};
-ghost use Rattle.run_states.specs.Rows.{is_resolved, is_running_at};
+ghost use Rattle.std.specs.Prelude.{◌≡◌, not, false, find, bytes_eq, option_copied};
+ghost use Rattle.std.specs.Option.{option_map_or};
+ghost use Rattle.run_states.specs.Rows.{is_unscheduled, is_resolved, is_running_at};
 ghost use Rattle.run_states.specs.Moves.{may_rerun};
-ghost use Rattle.farm_rows.specs.Changes.{on_row, may_keep};
+ghost use Rattle.farm_rows.specs.Changes.{on_row, may_keep, kept_scheduler, may_join};
 
 use crate::moves::row_with;
+use farm_record::Creation;
 use farm_text::{Moment, SlugId};
 use run_states::{MOST_RUNS, TaskRow};
+use task_defs::Identifier;
 
 /// How long a run is kept at most, in milliseconds: a day.
 const LONGEST_CLAIM: u64 = 86_400_000;
@@ -52,4 +55,42 @@ pub(crate) fn is_running(rows: &[TaskRow], id: SlugId, run: u8) -> bool
         Some(row) => row.is_running_at(run),
         None => false,
     }
+}
+
+/// Whether the task with this id stands and is unscheduled.
+pub(crate) fn may_schedule(rows: &[TaskRow], id: SlugId) -> bool
+    ensures { result ≡ on_row is_unscheduled id rows.now }
+{
+    match row_with(rows, id) {
+        Some(row) => row.is_unscheduled(),
+        None => false,
+    }
+}
+
+/// Whether a new task has the scheduler of its group, where that has tasks.
+pub(crate) fn may_join(rows: &[TaskRow], creation: &Creation) -> bool
+    ensures { result ≡ may_join creation.now rows.now }
+{
+    match kept_scheduler(rows, creation.definition.task_group_id) {
+        Some(kept) => kept.as_str() == creation.definition.scheduler_id.as_str(),
+        None => true,
+    }
+}
+
+/// The scheduler that the tasks of a group have, as the first of them has it.
+pub(crate) fn kept_scheduler(rows: &[TaskRow], group: SlugId) -> Option<&Identifier>
+    ensures { option_copied result ≡ kept_scheduler group rows.now }
+{
+    match first_of(rows, group) {
+        Some(row) => Some(&row.definition().scheduler_id),
+        None => None,
+    }
+}
+
+/// The first task of a group.
+fn first_of(rows: &[TaskRow], group: SlugId) -> Option<&TaskRow>
+    ensures { option_copied result ≡ find (λ row. bytes_eq row.definition.task_group_id group) rows.now }
+{
+    rows.iter()
+        .find(|row| row.definition().task_group_id == group)
 }

@@ -28,8 +28,12 @@ pub(crate) fn claims(alloc: Global, at: Moment, deed: &Deed) -> Result<Vec<RunCl
 {
     match deed {
         Deed::Claim(claim) => copies(alloc, at, claim),
-        Deed::Create(_) | Deed::Rerun(_) | Deed::Cancel(_) | Deed::Reclaim(_) | Deed::Resolve(_) =>
-            Ok(Vec::new(alloc)),
+        Deed::Create(_)
+        | Deed::Schedule(_)
+        | Deed::Rerun(_)
+        | Deed::Cancel(_)
+        | Deed::Reclaim(_)
+        | Deed::Resolve(_) => Ok(Vec::new(alloc)),
     }
 }
 

@@ -8,21 +8,27 @@ mod checks;
 mod copies;
 mod counts;
 mod laws;
+mod lists;
 mod moves;
 mod picks;
 mod plan;
 mod room;
+mod settle;
 mod shown;
 mod sweep;
 mod tables;
+mod turns;
+mod waits;
 mod work;
 
 pub use counts::RowCounts;
 pub use laws::{
-    a_change_comes_before_the_ends_of_claims, a_checked_definition_is_alone,
-    a_task_is_created_once, advances_go_together, an_advance_goes_turn_by_turn,
-    nothing_is_due_after_an_advance, tasks_and_runs_stay,
+    a_change_comes_before_the_ends_of_claims, a_task_is_created_once, a_task_is_scheduled_once,
+    a_task_waits_well, advances_go_together, an_advance_goes_turn_by_turn, no_task_is_ready,
+    nothing_is_due_after_an_advance, pages_are_the_whole_list, settling_goes_one_by_one,
+    settling_takes_nothing_away, tasks_and_runs_stay, what_is_served_stays,
 };
+pub use lists::{Page, TaskList};
 pub use moves::reason_of;
 pub use plan::TaskPlan;
 pub use tables::{MOST_TASKS, TaskTables};

@@ -1,6 +1,7 @@
 //! What changes of one task, by its id. None of it takes memory.
 ghost use Rattle.std.specs.Prelude.{◌≡◌, Some, option_copied};
 ghost use Rattle.std.specs.List.{position};
+ghost use Rattle.run_states.specs.Rows.{scheduled};
 ghost use Rattle.run_states.specs.Moves.{run_again, canceled, claimed, reclaimed, resolved};
 ghost use Rattle.farm_rows.specs.Contents.{row_with};
 ghost use Rattle.farm_rows.specs.Due.{draws};
@@ -11,7 +12,7 @@ use farm_text::{Moment, SlugId};
 use run_states::{Claim as RunClaim, ReasonResolved, TaskRow};
 
 /// The place of the task with this id.
-fn place_of(rows: &[TaskRow], id: SlugId) -> Option<usize>
+pub(crate) fn place_of(rows: &[TaskRow], id: SlugId) -> Option<usize>
     ensures { result ≡ position (has_id id) rows.now }
 {
     rows.iter().position(|row| row.id() == id)
@@ -22,6 +23,16 @@ pub(crate) fn row_with(rows: &[TaskRow], id: SlugId) -> Option<&TaskRow>
     ensures { option_copied result ≡ row_with id rows.now }
 {
     rows.iter().find(|row| row.id() == id)
+}
+
+/// The task becomes pending, where it is unscheduled.
+pub(crate) fn schedule(rows: &mut [TaskRow], id: SlugId, at: Moment, number: u64)
+    ensures { rows.new ≡ change_row id (scheduled number at) rows.old }
+{
+    if let Some(place) = place_of(rows, id) {
+        let row = &mut rows[place];
+        row.schedule(at, number);
+    }
 }
 
 /// The task is run again, where it may be.

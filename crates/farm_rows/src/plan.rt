@@ -12,6 +12,7 @@ use std::slice;
 pub(crate) enum Deed {
     /// This task is created, as it will be.
     Create(TaskRow),
+    Schedule(SlugId),
     Rerun(SlugId),
     Cancel(SlugId),
     Claim(Claim),
@@ -55,7 +56,8 @@ impl TaskPlan {
     {
         match &self.deed {
             Deed::Create(row) => slice::from_ref(row),
-            Deed::Rerun(_)
+            Deed::Schedule(_)
+            | Deed::Rerun(_)
             | Deed::Cancel(_)
             | Deed::Claim(_)
             | Deed::Reclaim(_)

@@ -36,7 +36,7 @@ fn named(alloc: Global, rows: &[TaskRow], deed: &Deed) -> Result<Vec<TaskRow>, A
 {
     match deed {
         Deed::Create(row) => one(alloc, rows, row.id()),
-        Deed::Rerun(id) | Deed::Cancel(id) => one(alloc, rows, *id),
+        Deed::Schedule(id) | Deed::Rerun(id) | Deed::Cancel(id) => one(alloc, rows, *id),
         Deed::Claim(claim) => each(alloc, rows, claim.runs.list()),
         Deed::Reclaim(reclaim) => one(alloc, rows, reclaim.id),
         Deed::Resolve(resolution) => one(alloc, rows, resolution.id),

@@ -1,9 +1,9 @@
 //! What a tick does to the tasks. None of it takes memory.
-ghost use Rattle.std.specs.Prelude.{◌≡◌, ◌≤◌, ◌++◌, ◌∷◌, [], true, map, min, filter, find, nat_le, Some, length};
+ghost use Rattle.std.specs.Prelude.{◌≡◌, ◌≤◌, ◌++◌, ◌∷◌, [], true, map, min, filter, find, nat_le, Some, false, length};
 ghost use Rattle.std.specs.Option.{option_to_list};
-ghost use Rattle.std.specs.List.{reduce, position, list_all};
+ghost use Rattle.std.specs.List.{reduce, position, list_any, list_all};
 ghost use Rattle.run_states.specs.declared.reasons.ReasonResolved.TheVariants.{ClaimExpired};
-ghost use Rattle.run_states.specs.Rows.{claim_due, loses_claim, due_moments};
+ghost use Rattle.run_states.specs.Rows.{is_unscheduled, claim_due, loses_claim, due_moments};
 ghost use Rattle.farm_rows.specs.Contents.{HaveOwnIds};
 ghost use Rattle.farm_rows.specs.Due.{change_first, draws};
 ghost use Rattle.farm_rows.specs.Sweep.{ends_before, swept, lost, first_lost, numbered, all_turns, soonest_of, runs_made, fits};
@@ -13,13 +13,16 @@ use run_states::TaskRow;
 
 /// Resolves all that is due at this moment, each at its own moment, and answers the number that is drawn next.
 ///
-/// First the tasks whose deadlines come next, in one pass, and then claim by claim, each with the deadline behind it.
-pub(crate) fn resolve_due(rows: &mut [TaskRow], first: u64, moment: Moment) -> u64
+/// No task waits for others, so that none settles: first the tasks whose deadlines come next, in one pass, and then claim by claim, each with
+/// the deadline behind it.
+pub(crate) fn sweep_due(rows: &mut [TaskRow], first: u64, moment: Moment) -> u64
     requires few { length rows.old ≤ 1_000_000 }
     requires fit { list_all fits rows.old ≡ true }
+    requires busy { list_any is_unscheduled rows.old ≡ false }
     requires drawn { first ≤ runs_made rows.old }
     ensures turns { all_turns (numbered rows.old first) moment ≡ numbered rows.new result }
     ensures fit { list_all fits rows.new ≡ true }
+    ensures busy { list_any is_unscheduled rows.new ≡ false }
     ensures drawn { result ≤ runs_made rows.new }
     ensures own { HaveOwnIds rows.old → HaveOwnIds rows.new }
 {
@@ -97,7 +100,7 @@ fn lose_first(rows: &mut [TaskRow], at: Moment, moment: Moment, number: u64) -> 
 }
 
 /// The place of the first task whose claim ends at this moment or before.
-fn lost_place(rows: &[TaskRow], at: Moment) -> Option<usize>
+pub(crate) fn lost_place(rows: &[TaskRow], at: Moment) -> Option<usize>
     ensures { result ≡ position (loses_claim at) rows.now }
 {
     rows.iter().position(|row| row.loses_claim(at))

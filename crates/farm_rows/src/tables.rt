@@ -1,30 +1,39 @@
 //! The tables of a farm's tasks.
-ghost use Rattle.std.specs.Prelude.{◌≡◌, ◌<◌, ◌≤◌, [], true, false, Some, None, length, vec_capacity, slice_get, count_by, option_copied, IfOk, MatchOption};
+ghost use Rattle.std.specs.Prelude.{◌≡◌, ◌<◌, ◌≤◌, [], true, true, false, map, Some, None, length, vec_capacity, slice_get, count_by, option_copied, IfOk, OnOk, MatchOption};
 ghost use Rattle.farm_text.specs.declared.moment.TheConstants.{LAST_TOLD_MOMENT};
 ghost use Rattle.farm_rows.specs.Contents.{no_contents, row_with, counts_of, HaveOwnIds};
+ghost use Rattle.farm_rows.specs.Ready.{settled_row};
 ghost use Rattle.farm_rows.specs.Due.{is_due, advance};
 ghost use Rattle.farm_rows.specs.Picks.{waits_in, picks};
-ghost use Rattle.farm_rows.specs.Changes.{is_alone, creating, may_create, may_be, may_apply, applied};
+ghost use Rattle.farm_rows.specs.Changes.{on_row, kept_scheduler, creating, may_create, may_be, may_apply, applied};
+ghost use Rattle.farm_rows.specs.Waits.{missing_dependency, early_dependency};
+ghost use Rattle.farm_rows.specs.Lists.{is_listed, listed, names_listed, page_rows, has_more};
 ghost use Rattle.farm_rows.specs.Plans.{named_rows, IsPlanOn};
 ghost use Rattle.farm_rows.specs.Deeds.{kind_of, change_of, row_of, planned_of, claims_of, rows_after};
 ghost use Rattle.farm_rows.specs.Sweep.{all_turns};
 
-use crate::checks::{is_running, may_cancel, may_keep, may_rerun};
+use crate::checks::{
+    is_running, kept_scheduler, may_cancel, may_join, may_keep, may_rerun, may_schedule,
+};
 use crate::copies::claims;
 use crate::counts::RowCounts;
+use crate::lists::{Page, TaskList, lists, page_behind};
 use crate::moves::row_with;
 use crate::picks::{may_claim, pending, picks};
 use crate::plan::{Deed, TaskPlan};
 use crate::room::{add, grown};
+use crate::settle::settle_new;
 use crate::shown::shown;
-use crate::sweep::{resolve_due, soonest, soonest_with};
-use crate::work::make;
+use crate::sweep::{soonest, soonest_with};
+use crate::turns::resolve_due;
+use crate::waits::{early_dependency, missing_dependency, waits_well};
+use crate::work::change;
 use farm_record::{Change, Creation, Kind, RunName};
 use farm_text::{LAST_TOLD_MOMENT, Moment, SlugId};
 use run_states::{Claim as RunClaim, TaskRow};
 use std::alloc::{AllocError, Global};
 use std::marker::Model;
-use task_defs::TaskQueue;
+use task_defs::{Identifier, TaskQueue};
 
 /// How many tasks stand at most.
 pub const MOST_TASKS: usize = 1_000_000;
@@ -148,6 +157,52 @@ impl TaskTables {
         picks(alloc, &self.rows, queue, most)
     }
 
+    /// The scheduler that the tasks of a group have, as the first of them has it; none where the group has no task.
+    pub fn kept_scheduler(&self, group: SlugId) -> Option<&Identifier>
+        ensures { option_copied result ≡ kept_scheduler group self.now.rows }
+    {
+        kept_scheduler(&self.rows, group)
+    }
+
+    /// The first task that a new one waits for, in the order of its definition, that is not the task itself and does not stand.
+    pub fn missing_dependency(&self, creation: &Creation) -> Option<SlugId>
+        ensures { result ≡ missing_dependency creation.now self.now.rows }
+    {
+        missing_dependency(&self.rows, creation)
+    }
+
+    /// The first task that a new one waits for, in the order of its definition, that is not the task itself, and stands, but expires before
+    /// the deadline of the new one.
+    pub fn early_dependency(&self, creation: &Creation) -> Option<SlugId>
+        ensures { result ≡ early_dependency creation.now self.now.rows }
+    {
+        early_dependency(&self.rows, creation)
+    }
+
+    /// Whether the task with this id stands, and is on a list.
+    pub fn lists(&self, list: &TaskList, id: SlugId) -> bool
+        ensures { result ≡ on_row (is_listed list.now) id self.now.rows }
+    {
+        lists(&self.rows, list, id)
+    }
+
+    /// The page of a list behind the task that a token names, or the first page where there is no token, with so many tasks at most; or none,
+    /// where the token names no task of the list.
+    pub fn page(
+        &self,
+        alloc: Global,
+        list: &TaskList,
+        after: Option<SlugId>,
+        limit: u16,
+    ) -> Result<Option<Page<'_>>, AllocError>
+        ensures { IfOk result (λ page. MatchOption page (names_listed list.now after self.now.rows ≡ false)
+            (λ p. (names_listed list.now after self.now.rows ≡ true)
+            × (map (λ row. row.now) p.rows.items ≡ page_rows after limit (listed list.now self.now.rows))
+            × (p.more ≡ has_more after limit (listed list.now self.now.rows)))) }
+    {
+        page_behind(alloc, &self.rows, list, after, limit)
+    }
+
     /// The plan of a change, with all the memory that it takes, or none where the change may not be made. The tables stay as they were,
     /// also where memory runs out.
     pub fn plan(&mut self, alloc: Global, change: Change) -> Result<Option<TaskPlan>, AllocError>
@@ -176,11 +231,12 @@ impl TaskTables {
         match kind {
             Kind::Create(creation) => Ok(Some(self.plan_creation(alloc, at, creation)?)),
             Kind::Claim(claim) => Ok(Some(self.plan_of(alloc, at, Deed::Claim(claim))?)),
+            Kind::Schedule(id) => Ok(Some(self.plan_of(alloc, at, Deed::Schedule(id))?)),
             Kind::Rerun(id) => Ok(Some(self.plan_of(alloc, at, Deed::Rerun(id))?)),
             Kind::Cancel(id) => Ok(Some(self.plan_of(alloc, at, Deed::Cancel(id))?)),
             Kind::Reclaim(r) => Ok(Some(self.plan_of(alloc, at, Deed::Reclaim(r))?)),
             Kind::Resolve(r) => Ok(Some(self.plan_of(alloc, at, Deed::Resolve(r))?)),
-            _ => Ok(None),
+            Kind::Tick => Ok(None),
         }
     }
 
@@ -197,7 +253,7 @@ impl TaskTables {
     {
         let grown = grown(alloc, self.rows.len())?;
         let mut row = TaskRow::make(alloc, creation.id, creation.definition)?;
-        row.schedule(at, self.next);
+        self.settle_in(&mut row, at);
         Ok(TaskPlan {
             at,
             deed: Deed::Create(row),
@@ -205,6 +261,13 @@ impl TaskTables {
             grown,
             claims: Vec::new(alloc),
         })
+    }
+
+    /// Makes a new task pending, where it is ready among those that stand.
+    fn settle_in(&self, row: &mut TaskRow, at: Moment)
+        ensures { row.new ≡ settled_row self.now at row.old }
+    {
+        settle_new(&self.rows, row, at, self.next);
     }
 
     /// The plan of a change of tasks that stand, which may be made.
@@ -224,13 +287,14 @@ impl TaskTables {
         })
     }
 
-    /// The claims that a change makes, and the tasks that it names, as they will be.
+    /// The claims that a change makes, and the tasks that it names, as they will be. (Each task has an id of its own.)
     fn parts(
         &self,
         alloc: Global,
         at: Moment,
         deed: &Deed,
     ) -> Result<(Vec<RunClaim>, Vec<TaskRow>), AllocError>
+        ensures own { OnOk result (HaveOwnIds self.now.rows) }
         ensures claims { IfOk result (λ p. p.0.items ≡ claims_of at deed.now) }
         ensures rows { IfOk result (λ p. p.1.items ≡ rows_after at self.now.next deed.now (named_rows (kind_of deed.now) self.now.rows)) }
     {
@@ -257,11 +321,12 @@ impl TaskTables {
         match kind {
             Kind::Create(creation) => self.may_create(at, creation),
             Kind::Claim(claim) => may_claim(&self.rows, at, claim),
+            Kind::Schedule(id) => may_schedule(&self.rows, *id),
             Kind::Rerun(id) => may_rerun(&self.rows, *id, at),
             Kind::Cancel(id) => may_cancel(&self.rows, *id),
             Kind::Reclaim(r) => may_keep(at, r.taken_until) && is_running(&self.rows, r.id, r.run),
             Kind::Resolve(r) => is_running(&self.rows, r.id, r.run),
-            _ => false,
+            Kind::Tick => false,
         }
     }
 
@@ -270,8 +335,9 @@ impl TaskTables {
         ensures { result ≡ may_create self.now at creation.now }
     {
         self.row(creation.id).is_none()
-            && is_alone(creation)
             && at < creation.definition.deadline
+            && waits_well(&self.rows, creation)
+            && may_join(&self.rows, creation)
             && self.rows.len() < MOST_TASKS
     }
 
@@ -300,9 +366,10 @@ impl TaskTables {
         ensures { self.new ≡ applied self.old (change_of at (Deed.Create row)) }
     {
         let soonest = soonest_with(self.soonest, &row);
+        let drawn = row.runs().len() as u64;
         add(&mut self.rows, grown, row);
         self.soonest = soonest;
-        self.next += 1;
+        self.next += drawn;
         self.last = at;
     }
 
@@ -313,17 +380,9 @@ impl TaskTables {
         requires lawful { may_apply self.old (change_of at deed.now) ≡ true }
         ensures { self.new ≡ applied self.old (change_of at deed.now) }
     {
-        let drawn = make(&mut self.rows, at, self.next, deed, claims);
+        let drawn = change(&mut self.rows, at, self.next, deed, claims);
         self.soonest = soonest(&self.rows);
         self.next += drawn;
         self.last = at;
     }
-}
-
-/// Whether a task's group is its own, and it waits for no task.
-fn is_alone(creation: &Creation) -> bool
-    ensures { result ≡ is_alone creation.now.id creation.now.definition }
-{
-    creation.definition.task_group_id == creation.id
-        && creation.definition.dependencies.list().is_empty()
 }

@@ -1,10 +1,13 @@
 //! What a change makes of the tasks that stand. None of it takes memory.
-ghost use Rattle.std.specs.Prelude.{◌≡◌, length, replicate};
+ghost use Rattle.std.specs.Prelude.{◌≡◌, ◌≤◌, ◌+◌, length, replicate};
+ghost use Rattle.farm_rows.specs.Ready.{settled};
+ghost use Rattle.farm_rows.specs.Sweep.{numbered};
 ghost use Rattle.farm_rows.specs.Changes.{claim_of, all_claimed};
 ghost use Rattle.farm_rows.specs.Deeds.{rows_after, drawn_by, claims_of};
 
-use crate::moves::{cancel, claim, drawn, reclaim, rerun, resolve};
+use crate::moves::{cancel, claim, drawn, reclaim, rerun, resolve, schedule};
 use crate::plan::Deed;
+use crate::settle::settle;
 use farm_record::{Claim, Resolution};
 use farm_text::Moment;
 use run_states::{Claim as RunClaim, TaskRow};
@@ -23,6 +26,10 @@ pub(crate) fn make(
 {
     match deed {
         Deed::Create(_) => 0,
+        Deed::Schedule(id) => {
+            schedule(rows, *id, at, number);
+            1
+        }
         Deed::Rerun(id) => {
             rerun(rows, *id, at, number);
             1
@@ -41,6 +48,25 @@ pub(crate) fn make(
         }
         Deed::Resolve(resolution) => report(rows, resolution, at, number),
     }
+}
+
+/// Makes a change of the tasks that stand, after which they settle, and answers how many numbers are drawn.
+pub(crate) fn change(
+    rows: &mut [TaskRow],
+    at: Moment,
+    number: u64,
+    deed: &Deed,
+    claims: Vec<RunClaim>,
+) -> u64
+    requires few { length rows.old ≤ 1_000_000 }
+    requires drawn { number ≤ 50_000_000 }
+    requires claims { claims.items ≡ claims_of at deed.now }
+    ensures settled { settled (numbered (rows_after at number deed.now rows.old) (number + drawn_by deed.now rows.old)) at
+        ≡ numbered rows.new (number + result) }
+    ensures few { result ≤ 1_000_001 }
+{
+    let drawn = make(rows, at, number, deed, claims);
+    drawn + settle(rows, at, number + drawn)
 }
 
 /// Ends the run of a report, and answers how many numbers it draws.

@@ -2,3 +2,4 @@ pub mod LaterLemmas
 pub mod RunLemmas
 pub mod NameLemmas
 pub mod ClaimLemmas
+pub mod ServeLemmas

@@ -3,3 +3,4 @@ pub mod Runs
 pub mod Rows
 pub mod Moves
 pub mod Later
+pub mod Serving

@@ -12,8 +12,12 @@ mod refusal;
 mod row;
 mod run;
 mod runs;
+mod serving;
 
-pub use laws::{a_deadline_resolves, later_goes_on, reasons_have_names_of_their_own, runs_stay};
+pub use laws::{
+    a_deadline_resolves, a_schedule_serves_nobody, later_goes_on, reasons_have_names_of_their_own,
+    runs_stay, what_is_served_stays,
+};
 pub use reasons::{ReasonCreated, ReasonResolved, RunState};
 pub use refusal::Refusal;
 pub use row::{MOST_RETRIES, MOST_RUNS, TaskRow};

@@ -2,7 +2,7 @@
 use super::*;
 use farm_text::{Doc, Moment, SlugId, Text};
 use std::alloc::Global;
-use task_defs::{Identifier, TaskDef, read_task};
+use task_defs::{Identifier, Requires, TaskDef, read_task};
 
 /// 2024-01-01T00:00:00.000Z.
 const CREATED: u64 = 1_704_067_200_000;
@@ -174,6 +174,8 @@ enum Check {
     ATaskIsCanceledOnce,
     AnUnscheduledTaskIsCanceled,
     ACopyChangesAlone,
+    ACompletedTaskServesAlsoAfterARerun,
+    AFailedTaskServesWhatIsResolved,
 }
 
 /// Whether what a test looks at holds of a row of this definition, which begins so. Here alone a row is owned, so that the proof of each test is short.
@@ -223,6 +225,9 @@ fn passes(alloc: Global, row: &mut TaskRow, check: Check) -> bool {
         Check::ATaskIsCanceledOnce => a_task_is_canceled_once_holds(row),
         Check::AnUnscheduledTaskIsCanceled => an_unscheduled_task_is_canceled_holds(row),
         Check::ACopyChangesAlone => a_copy_changes_alone_holds(alloc, row),
+        Check::ACompletedTaskServesAlsoAfterARerun =>
+            a_completed_task_serves_also_after_a_rerun_holds(row),
+        Check::AFailedTaskServesWhatIsResolved => a_failed_task_serves_what_is_resolved_holds(row),
     }
 }
 
@@ -682,4 +687,56 @@ fn canceled_alone(row: &TaskRow, copy: &mut TaskRow) -> bool {
         && copy.definition().deadline == moment(DEADLINE)
         && stands(copy, RunState::Exception, 1, 5)
         && stands(row, RunState::Running, 1, 5)
+}
+
+/// Whether a task serves those that require that it is completed, and those that require that it is resolved.
+fn serves(row: &TaskRow, completed: bool, resolved: bool) -> bool {
+    row.was_completed() == completed
+        && row.was_resolved() == resolved
+        && row.serves(Requires::AllCompleted) == completed
+        && row.serves(Requires::AllResolved) == resolved
+}
+
+#[test]
+fn a_completed_task_serves_also_after_a_rerun(rt: HostRuntime) {
+    assert!(rt;
+        holds(
+            rt.alloc(),
+            Begin::Running,
+            PLAIN,
+            Check::ACompletedTaskServesAlsoAfterARerun
+        )
+    );
+}
+
+fn a_completed_task_serves_also_after_a_rerun_holds(row: &mut TaskRow) -> bool {
+    let at = moment(TAKEN + 5);
+    serves(row, false, false)
+        && row.resolve(at, 0, ReasonResolved::Completed, 8) == Ok(true)
+        && serves(row, true, true)
+        && row.rerun(at, 8) == Ok(true)
+        && row.is_pending()
+        && serves(row, true, true)
+}
+
+/// A run that failed does not serve those that require a completed one, also where it is run again.
+#[test]
+fn a_failed_task_serves_what_is_resolved(rt: HostRuntime) {
+    assert!(rt;
+        holds(
+            rt.alloc(),
+            Begin::Running,
+            PLAIN,
+            Check::AFailedTaskServesWhatIsResolved
+        )
+    );
+}
+
+fn a_failed_task_serves_what_is_resolved_holds(row: &mut TaskRow) -> bool {
+    let at = moment(TAKEN + 5);
+    row.resolve(at, 0, ReasonResolved::Failed, 8) == Ok(true)
+        && serves(row, false, true)
+        && row.rerun(at, 8) == Ok(true)
+        && row.is_pending()
+        && serves(row, false, true)
 }

@@ -1,10 +1,16 @@
-use Rattle.std.proofs.Common.{◌≡◌, refl, length, ap, arith, rules, vec_len, vec_capacity}
+use Rattle.std.proofs.Common.{◌≡◌, ◌+◌, false, List, [], length, ap, sym, subst, ◌∙◌, arith, rules, vec_len, vec_capacity}
+use Rattle.std.specs.List.{list_any}
+use Rattle.run_states.specs.declared.run.Run.{Run}
 use Rattle.run_states.specs.Rows.{new_row}
+use Rattle.farm_record.specs.declared.change.Creation.{Creation}
 use Rattle.farm_rows.specs.Contents.{Contents}
-use Rattle.farm_rows.specs.Deeds.{change_of}
-use Rattle.farm_rows.specs.declared.plan.Deed.TheVariants.{Create}
+use Rattle.farm_rows.specs.Changes.{creating}
+use Rattle.farm_rows.specs.Ready.{is_ready, has_ready}
+use Rattle.farm_rows.specs.Sweep.{fits, IsKept}
+use Rattle.farm_rows.proofs.CreateLemmas.{new-is}
 use Rattle.farm_rows.proofs.FitLemmas.{made-few}
-use Rattle.farm_rows.proofs.TableLemmas.{Fits, plan-fits, kept-more, named, planned-unknown, planned-fits, applied-made}
+use Rattle.farm_rows.proofs.IdLemmas.{applied-none}
+use Rattle.farm_rows.proofs.TableLemmas.{Fits, contents_of, plan-fits, kept-more, named, planned-unknown, applied-made}
 use Rattle.farm_rows.proofs.tables.TaskTables.create.Goals as goal
 
 pub add-requires-clause-room : goal.add-requires-clause-room
@@ -21,24 +27,37 @@ overflow_add-self c =
     let few = made-few c.self.inside.rows.items c.self.invariant.fit in
     let stand = c.self.invariant.few in
     let h = c.self.invariant.drawn in
+    let runs = c.runs.ensures.few in
+    let same = ap length c.runs.ensures.value in
     omega arith
 
 pub invariant_of-self : goal.invariant_of-self
 invariant_of-self c =
     let rows = c.self.inside.rows in
     let row = c.args.row in
-    let fits : Fits rows.items c.args.at (vec_capacity rows) (vec_capacity c.args.grown) =
-    plan-fits c.args.self.now rows.items c.args.at (vec_capacity rows) (vec_capacity c.args.grown) row c.requires.plan (ap (λ (k : Contents). k.rows) c.self.view_is) c.self.invariant.room in
-    let made = named c.args.self.now rows.items c.self.inside.last c.self.inside.next c.args.at (vec_capacity c.args.grown) row c.self.view_is c.requires.plan in
-    let unknown = planned-unknown c.args.self.now rows.items c.self.inside.last c.self.inside.next c.args.at (vec_capacity c.args.grown) row c.self.view_is c.requires.plan in
-    let once = planned-fits row (new_row row.id row.definition) c.self.inside.next c.args.at made refl in
-    kept-more rows.items c.add.new.rows.items row c.self.inside.last c.args.at c.self.inside.next c.self.inside.soonest c.soonest_with-soonest.result
-    (vec_capacity rows) (vec_capacity c.args.grown) (vec_capacity c.add.new.rows) c.self.invariant fits c.add.ensures.items
-    once.0 once.1 unknown c.soonest_with-soonest.ensures c.add.ensures.capacity
+    let at = c.args.at in
+    let last = c.self.inside.last in
+    let next = c.self.inside.next in
+    let creation : Creation = record { id = row.id; definition = row.definition } in
+    let room : Fits rows.items at (vec_capacity rows) (vec_capacity c.args.grown) =
+    plan-fits c.args.self.now rows.items at (vec_capacity rows) (vec_capacity c.args.grown) row c.requires.plan (ap (λ (k : Contents). k.rows) c.self.view_is) c.self.invariant.room in
+    let made = named c.args.self.now rows.items last next at (vec_capacity c.args.grown) row c.self.view_is c.self.invariant.none c.requires.plan in
+    let unknown = planned-unknown c.args.self.now rows.items last next at (vec_capacity c.args.grown) row c.self.view_is c.requires.plan in
+    let after = applied-made c.args.self.now rows.items c.add.new.rows.items last next at row c.self.view_is c.self.invariant.none c.add.ensures.items made in
+    let unready : list_any (is_ready c.add.new.rows.items) c.add.new.rows.items ≡ false = ap has_ready after ∙ applied-none c.args.self.now (creating at creation) c.requires.plan.lawful in
+    let fit = ap fits made ∙ (new-is (contents_of rows.items last next) at row.id row.definition).fit in
+    subst (λ n. IsKept c.add.new.rows.items at (next + n) c.soonest_with-soonest.result (vec_capacity c.add.new.rows)) (sym (ap length c.runs.ensures.value))
+    (kept-more rows.items c.add.new.rows.items row last at next c.self.inside.soonest c.soonest_with-soonest.result
+    (vec_capacity rows) (vec_capacity c.args.grown) (vec_capacity c.add.new.rows) c.self.invariant room c.add.ensures.items
+    fit unready unknown c.soonest_with-soonest.ensures c.add.ensures.capacity)
 
 pub returns : goal.returns
 returns c =
     let row = c.args.row in
-    let made = named c.args.self.now c.self.inside.rows.items c.self.inside.last c.self.inside.next c.args.at (vec_capacity c.args.grown) row c.self.view_is c.requires.plan in
-    applied-made c.args.self.now (change_of c.args.at (Create row)) c.self.inside.rows.items c.add.new.rows.items c.self.inside.last c.self.inside.next c.args.at row (new_row row.id row.definition)
-    c.self.view_is refl c.add.ensures.items made refl
+    let rows = c.self.inside.rows.items in
+    let new = c.add.new.rows.items in
+    let at = c.args.at in
+    let next = c.self.inside.next in
+    let made = named c.args.self.now rows c.self.inside.last next at (vec_capacity c.args.grown) row c.self.view_is c.self.invariant.none c.requires.plan in
+    ap (λ (rs : List Run). contents_of new at (next + length rs)) c.runs.ensures.value
+    ∙ applied-made c.args.self.now rows new c.self.inside.last next at row c.self.view_is c.self.invariant.none c.add.ensures.items made

@@ -14,6 +14,7 @@ invariant_of-result-2 c =
       told = omega arith;
       few = omega arith;
       own = none-own;
+      none = refl;
       fit = refl;
       drawn = omega arith;
       room = omega (arith, room-0);

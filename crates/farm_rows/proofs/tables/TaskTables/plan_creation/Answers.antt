@@ -1,8 +1,9 @@
-use Rattle.std.proofs.Common.{◌≡◌, ℕ, ◌+◌, ◌≤◌, max, length, ap, subst, ◌∙◌, rules, vec_capacity}
-use Rattle.run_states.specs.Rows.{new_row, scheduled}
+use Rattle.std.proofs.Common.{◌≡◌, ℕ, ◌+◌, ◌≤◌, max, false, length, ap, sym, subst, ◌∙◌, rules, vec_capacity}
+use Rattle.run_states.specs.Rows.{Row}
 use Rattle.farm_rows.specs.Contents.{Contents}
 use Rattle.farm_rows.specs.Plans.{room_for}
-use Rattle.farm_rows.proofs.ShownLemmas.{IsPlanOn-created}
+use Rattle.farm_rows.specs.Ready.{has_ready, settled_row}
+use Rattle.farm_rows.proofs.PlanLemmas.{IsPlanOn-created}
 use Rattle.farm_rows.proofs.tables.TaskTables.plan_creation.Goals as goal
 
 pub returns-clause-plan : goal.returns-clause-plan
@@ -13,8 +14,7 @@ returns-clause-plan c =
     let brought = vec_capacity c.in_ok-grown.grown in
     let stand : c.len.result ≡ length rows = search rules in
     let P : ℕ → Type 0 = λ n. room_for (n + 1) ≤ max (room_for n) brought in
-    IsPlanOn-created c.args.self.now at brought creation c.schedule.new.self c.requires
-    (c.schedule.ensures.row
-    ∙ (ap (scheduled c.self.inside.next at) c.in_ok-row.ensures
-    ∙ ap (λ (k : Contents). scheduled k.next at (new_row creation.id creation.definition)) c.self.view_is))
+    let none : has_ready c.args.self.now ≡ false = sym (ap has_ready c.self.view_is) ∙ c.self.invariant.none in
+    IsPlanOn-created c.args.self.now at brought creation c.settle_in.new.row none c.requires
+    (c.settle_in.ensures ∙ ap (settled_row c.args.self.now at) c.in_ok-row.ensures)
     (subst P (stand ∙ ap (λ (k : Contents). length k.rows) c.self.view_is) c.in_ok-grown.ensures.1)

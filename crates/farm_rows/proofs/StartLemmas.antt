@@ -1,0 +1,307 @@
+-- Runs that are made as their tasks are scheduled: where a task is ready, or by the change that schedules it.
+use Rattle.std.proofs.Common.{◌≡◌, ℕ, zero, suc, ◌+◌, ◌-◌, ◌≤◌, min, Bool, true, false, cond, List, [], ◌∷◌, ◌++◌, length, count_by, sum_by, is_none, Option, Some, None, refl, ap, sym, ◌∙◌, arith, nat_le, nat_lt, ◌&&◌}
+use Rattle.std.specs.List.{list_any, list_all, last_or}
+use Rattle.std.proofs.lemmas.Bool.{leb-true, le-leb, and_parts, and_from}
+use Rattle.std.proofs.lemmas.List.Folds.{list_all-append}
+use Rattle.std.proofs.lemmas.List.Sums.{sum_by-cons, sum_by_push}
+use Rattle.run_states.specs.declared.reasons.ReasonCreated.{ReasonCreated}
+use Rattle.run_states.specs.declared.reasons.ReasonCreated.TheVariants.{Rerun as MadeByRerun, Retry, TaskRetry}
+use Rattle.run_states.specs.declared.reasons.ReasonResolved.{ReasonResolved}
+use Rattle.run_states.specs.declared.reasons.ReasonResolved.TheVariants as reasons
+use Rattle.run_states.specs.declared.run.Claim.{Claim as RunClaim}
+use Rattle.run_states.specs.declared.run.Run.{Run}
+use Rattle.run_states.specs.Reasons.{retry_after}
+use Rattle.run_states.specs.Runs.{taken, kept, ended, exception_run, pending_run, change_last, change_at}
+use Rattle.run_states.specs.Rows.{Row, is_unscheduled, is_resolved, is_pending, is_running_at, loses_claim, runs_finished, finished, exceeded, first_run, scheduled, new_row}
+use Rattle.run_states.specs.Moves.{retried, followed, closed, claimed, reclaimed, resolved, expired, canceled, may_rerun, run_again}
+use Rattle.farm_record.specs.declared.change.Change.{Change}
+use Rattle.farm_record.specs.declared.change.Kind.{Kind}
+use Rattle.farm_record.specs.declared.change.Kind.TheVariants.{Tick, Create, Schedule, Rerun, Cancel, Claim as TakesRuns, Reclaim, Resolve}
+use Rattle.farm_record.specs.declared.change.RunName.{RunName}
+use Rattle.farm_rows.specs.Contents.{Contents}
+use Rattle.farm_rows.specs.Ready.{is_ready, started, settled}
+use Rattle.farm_rows.specs.Due.{all_due_moments, first_due, meets_deadline, change_first, resolved_at, after_first, turn, turns, advance}
+use Rattle.farm_rows.specs.Changes.{has_id, reason_of, change_row, claim_of, all_claimed, after_kind, applied}
+use Rattle.farm_rows.specs.Starts.{is_start, starts, all_starts, starts_once, may_start}
+use Rattle.farm_rows.proofs.ReadyLemmas.{some-last, ready-free}
+use Rattle.farm_rows.proofs.IdLemmas.{after-holds}
+use Rattle.farm_rows.proofs.TurnLemmas.{deadline-resolved, claim-resolved}
+
+-- ---- runs of which one is changed
+
+abbrev one_if : Bool → ℕ
+one_if b = cond b 1 0
+
+abbrev starts_in : List Run → ℕ
+starts_in runs = count_by (λ (run : Run). is_start run.created) runs
+
+starts-cons : (run : Run) (runs : List Run) → starts_in (run ∷ runs) ≡ one_if (is_start run.created) + starts_in runs
+starts-cons run runs = sum_by-cons (λ (r : Run). cond (is_start r.created) 1 0) run runs
+
+starts-push : (run : Run) (runs : List Run) → is_start run.created ≡ false → starts_in (runs ++ run ∷ []) ≡ starts_in runs
+starts-push run runs not_ =
+    let more : starts_in (runs ++ run ∷ []) ≡ starts_in runs + one_if (is_start run.created) = sum_by_push (λ (r : Run). cond (is_start r.created) 1 0) runs run in
+    let none : one_if (is_start run.created) ≡ 0 = ap one_if not_ in
+    omega arith
+
+starts-first : (f : Run → Run) → ((run : Run) → (f run).created ≡ run.created) → (run : Run) (runs : List Run) → starts_in (f run ∷ runs) ≡ starts_in (run ∷ runs)
+starts-first f same run runs =
+    let before = starts-cons run runs in
+    let after = starts-cons (f run) runs in
+    let here : one_if (is_start (f run).created) ≡ one_if (is_start run.created) = ap (λ (c : ReasonCreated). one_if (is_start c)) (same run) in
+    omega arith
+
+starts-rest : (run : Run) (runs after : List Run) → starts_in after ≡ starts_in runs → starts_in (run ∷ after) ≡ starts_in (run ∷ runs)
+starts-rest run runs after same =
+    let left = starts-cons run runs in
+    let right = starts-cons run after in
+    omega arith
+
+starts-last : (f : Run → Run) → ((run : Run) → (f run).created ≡ run.created) → (runs : List Run) → starts_in (change_last f runs) ≡ starts_in runs
+starts-last f same [] = refl
+starts-last f same (run ∷ []) = starts-first f same run []
+starts-last f same (run ∷ next ∷ runs) = starts-rest run (next ∷ runs) (change_last f (next ∷ runs)) (starts-last f same (next ∷ runs))
+
+starts-at : (f : Run → Run) → ((run : Run) → (f run).created ≡ run.created) → (place : ℕ) (runs : List Run) → starts_in (change_at place f runs) ≡ starts_in runs
+starts-at f same place [] = refl
+starts-at f same zero (run ∷ runs) = starts-first f same run runs
+starts-at f same (suc place) (run ∷ runs) = starts-rest run runs (change_at place f runs) (starts-at f same place runs)
+
+-- ---- each move makes no start
+
+finished-starts : (reason : ReasonResolved) (at : ℕ) (row : Row) → starts (finished reason at row) ≡ starts row
+finished-starts reason at row = by (is_resolved row) refl where
+  of_runs : (runs : List Run) → starts_in (runs_finished reason at runs) ≡ starts_in runs
+  of_runs [] = refl
+  of_runs (run ∷ runs) = starts-last (ended reason at) (λ r. refl) (run ∷ runs)
+
+  by : (b : Bool) → is_resolved row ≡ b → starts (finished reason at row) ≡ starts row
+  by true is = ap (λ b. starts (cond b row (record row { runs = runs_finished reason at row.runs }))) is
+  by false is = ap (λ b. starts (cond b row (record row { runs = runs_finished reason at row.runs }))) is ∙ of_runs row.runs
+
+retried-starts : (created : ReasonCreated) (number at : ℕ) (row : Row) → is_start created ≡ false → starts (retried created number at row) ≡ starts row
+retried-starts created number at row not_ = by (nat_lt 0 row.retries_left) refl where
+  more : Row
+  more = record row { retries_left = row.retries_left - 1; runs = row.runs ++ pending_run created number at ∷ [] }
+
+  by : (b : Bool) → nat_lt 0 row.retries_left ≡ b → starts (retried created number at row) ≡ starts row
+  by true is = ap (λ b. starts (cond b more row)) is ∙ starts-push (pending_run created number at) row.runs not_
+  by false is = ap (λ b. starts (cond b more row)) is
+
+followed-starts : (reason : ReasonResolved) (number at : ℕ) (row : Row) → starts (followed (retry_after reason) number at row) ≡ starts row
+followed-starts reasons.ClaimExpired number at row = retried-starts Retry number at row refl
+followed-starts reasons.WorkerShutdown number at row = retried-starts Retry number at row refl
+followed-starts reasons.IntermittentTask number at row = retried-starts TaskRetry number at row refl
+followed-starts reasons.Completed number at row = refl
+followed-starts reasons.Failed number at row = refl
+followed-starts reasons.DeadlineExceeded number at row = refl
+followed-starts reasons.Canceled number at row = refl
+followed-starts reasons.Superseded number at row = refl
+followed-starts reasons.MalformedPayload number at row = refl
+followed-starts reasons.ResourceUnavailable number at row = refl
+followed-starts reasons.InternalError number at row = refl
+
+closed-starts : (place : ℕ) (reason : ReasonResolved) (number at : ℕ) (row : Row) → starts (closed place reason number at row) ≡ starts row
+closed-starts place reason number at row =
+    followed-starts reason number at (record row { runs = change_at place (ended reason at) row.runs }) ∙ starts-at (ended reason at) (λ r. refl) place row.runs
+
+expired-starts : (number at : ℕ) (row : Row) → starts (expired number at row) ≡ starts row
+expired-starts number at row = by (loses_claim at row) refl where
+  by : (b : Bool) → loses_claim at row ≡ b → starts (expired number at row) ≡ starts row
+  by true is = ap (λ b. starts (cond b (closed (length row.runs - 1) reasons.ClaimExpired number at row) row)) is ∙ closed-starts (length row.runs - 1) reasons.ClaimExpired number at row
+  by false is = ap (λ b. starts (cond b (closed (length row.runs - 1) reasons.ClaimExpired number at row) row)) is
+
+resolved-starts : (run : ℕ) (reason : ReasonResolved) (number at : ℕ) (row : Row) → starts (resolved run reason number at row) ≡ starts row
+resolved-starts run reason number at row = by (is_running_at run row) refl where
+  by : (b : Bool) → is_running_at run row ≡ b → starts (resolved run reason number at row) ≡ starts row
+  by true is = ap (λ b. starts (cond b (closed run reason number at row) row)) is ∙ closed-starts run reason number at row
+  by false is = ap (λ b. starts (cond b (closed run reason number at row) row)) is
+
+claimed-starts : (claim : RunClaim) (row : Row) → starts (claimed claim row) ≡ starts row
+claimed-starts claim row = by (is_pending row) refl where
+  by : (b : Bool) → is_pending row ≡ b → starts (claimed claim row) ≡ starts row
+  by true is = ap (λ b. starts (cond b (record row { runs = change_last (taken claim) row.runs }) row)) is ∙ starts-last (taken claim) (λ r. refl) row.runs
+  by false is = ap (λ b. starts (cond b (record row { runs = change_last (taken claim) row.runs }) row)) is
+
+reclaimed-starts : (run moment : ℕ) (row : Row) → starts (reclaimed run moment row) ≡ starts row
+reclaimed-starts run moment row = by (is_running_at run row) refl where
+  by : (b : Bool) → is_running_at run row ≡ b → starts (reclaimed run moment row) ≡ starts row
+  by true is = ap (λ b. starts (cond b (record row { runs = change_at run (kept moment) row.runs }) row)) is ∙ starts-at (kept moment) (λ r. refl) run row.runs
+  by false is = ap (λ b. starts (cond b (record row { runs = change_at run (kept moment) row.runs }) row)) is
+
+again-starts : (number at : ℕ) (row : Row) → starts (run_again number at row) ≡ starts row
+again-starts number at row = by (may_rerun at row) refl where
+  more : Row
+  more = record row { retries_left = min row.definition.retries (50 - (length row.runs + 1)); runs = row.runs ++ pending_run MadeByRerun number at ∷ [] }
+
+  by : (b : Bool) → may_rerun at row ≡ b → starts (run_again number at row) ≡ starts row
+  by true is = ap (λ b. starts (cond b more row)) is ∙ starts-push (pending_run MadeByRerun number at) row.runs refl
+  by false is = ap (λ b. starts (cond b more row)) is
+
+-- ---- one of all tasks is changed
+
+all-cons : (row : Row) (rows : List Row) → all_starts (row ∷ rows) ≡ starts row + all_starts rows
+all-cons row rows = sum_by-cons starts row rows
+
+change-starts : (test : Row → Bool) (f : Row → Row) → ((row : Row) → starts (f row) ≡ starts row) → (rows : List Row) → all_starts (change_first test f rows) ≡ all_starts rows
+change-starts test f keeps [] = refl
+change-starts test f keeps (row ∷ rows) = by (change-starts test f keeps rows) (test row) refl where
+  by : all_starts (change_first test f rows) ≡ all_starts rows → (b : Bool) → test row ≡ b → all_starts (change_first test f (row ∷ rows)) ≡ all_starts (row ∷ rows)
+  by rest true is =
+      let same = keeps row in
+      let before = all-cons row rows in
+      let after : all_starts (change_first test f (row ∷ rows)) ≡ starts (f row) + all_starts rows = ap (λ b. all_starts (cond b (f row ∷ rows) (row ∷ change_first test f rows))) is ∙ all-cons (f row) rows in
+      omega arith
+  by rest false is =
+      let before = all-cons row rows in
+      let after : all_starts (change_first test f (row ∷ rows)) ≡ starts row + all_starts (change_first test f rows) = ap (λ b. all_starts (cond b (f row ∷ rows) (row ∷ change_first test f rows))) is ∙ all-cons row (change_first test f rows) in
+      omega arith
+
+pub starts-due : (contents : Contents) (at : ℕ) → all_starts (resolved_at contents at).rows ≡ all_starts contents.rows
+starts-due contents at = by (list_any (meets_deadline at) contents.rows) refl where
+  by : (b : Bool) → list_any (meets_deadline at) contents.rows ≡ b → all_starts (resolved_at contents at).rows ≡ all_starts contents.rows
+  by true is = ap (λ (c : Contents). all_starts c.rows) (deadline-resolved contents at is) ∙ change-starts (meets_deadline at) (exceeded at) (finished-starts reasons.DeadlineExceeded at) contents.rows
+  by false is = ap (λ (c : Contents). all_starts c.rows) (claim-resolved contents at is) ∙ change-starts (loses_claim at) (expired contents.next at) (expired-starts contents.next at) contents.rows
+
+claimed-all : (claim : RunClaim) (names : List RunName) (rows : List Row) → all_starts (all_claimed claim names rows) ≡ all_starts rows
+claimed-all claim [] rows = refl
+claimed-all claim (name ∷ names) rows = claimed-all claim names (change_row name.id (claimed claim) rows) ∙ change-starts (has_id name.id) (claimed claim) (claimed-starts claim) rows
+
+pub starts-kind : (contents : Contents) (at : ℕ) (kind : Kind) → may_start kind ≡ false → all_starts (after_kind contents at kind).rows ≡ all_starts contents.rows
+starts-kind contents at Tick not_ = cc
+starts-kind contents at (Create creation) not_ =
+    let more : all_starts (contents.rows ++ new_row creation.id creation.definition ∷ []) ≡ all_starts contents.rows + 0 = sum_by_push starts contents.rows (new_row creation.id creation.definition) in
+    omega arith
+starts-kind contents at (Schedule id) not_ = cc
+starts-kind contents at (Rerun id) not_ = change-starts (has_id id) (run_again contents.next at) (again-starts contents.next at) contents.rows
+starts-kind contents at (Cancel id) not_ = change-starts (has_id id) (canceled at) (finished-starts reasons.Canceled at) contents.rows
+starts-kind contents at (TakesRuns claim) not_ = claimed-all (claim_of at claim) claim.runs contents.rows
+starts-kind contents at (Reclaim r) not_ = change-starts (has_id r.id) (reclaimed r.run r.taken_until) (reclaimed-starts r.run r.taken_until) contents.rows
+starts-kind contents at (Resolve r) not_ = change-starts (has_id r.id) (resolved r.run (reason_of r.reason) contents.next at) (resolved-starts r.run (reason_of r.reason) contents.next at) contents.rows
+
+-- ---- settling makes as many as are ready
+
+scheduled-starts : (number at : ℕ) (row : Row) → is_unscheduled row ≡ true → (starts (scheduled number at row) ≡ 1) × (starts row ≡ 0)
+scheduled-starts number at row free = by row.runs refl where
+  by : (runs : List Run) → row.runs ≡ runs → (starts (scheduled number at row) ≡ 1) × (starts row ≡ 0)
+  by [] is = (ap (λ (rs : List Run). starts_in (first_run number at rs)) is, ap starts_in is)
+  by (run ∷ runs) is =
+      let no_ : false ≡ true = sym (some-last run runs) ∙ (sym (ap (λ (rs : List Run). is_none (last_or None rs)) is) ∙ free) in absurd (cc)
+
+started-starts : (test : Row → Bool) → ((row : Row) → test row ≡ true → is_unscheduled row ≡ true) → (number at : ℕ) (rows : List Row) → all_starts (started test number at rows) ≡ all_starts rows + count_by test rows
+started-starts test free number at [] = omega arith
+started-starts test free number at (row ∷ rows) = by (started-starts test free number at rows) (started-starts test free (number + 1) at rows) (test row) refl where
+  by : all_starts (started test number at rows) ≡ all_starts rows + count_by test rows → all_starts (started test (number + 1) at rows) ≡ all_starts rows + count_by test rows → (b : Bool) → test row ≡ b
+      → all_starts (started test number at (row ∷ rows)) ≡ all_starts (row ∷ rows) + count_by test (row ∷ rows)
+  by here more true is =
+      let one = scheduled-starts number at row (free row is) in
+      let made = one.0 in
+      let none = one.1 in
+      let counted : one_if (test row) ≡ 1 = ap one_if is in
+      let count : count_by test (row ∷ rows) ≡ one_if (test row) + count_by test rows = sum_by-cons (λ (r : Row). cond (test r) 1 0) row rows in
+      let before = all-cons row rows in
+      let after : all_starts (started test number at (row ∷ rows)) ≡ starts (scheduled number at row) + all_starts (started test (number + 1) at rows) =
+      ap (λ b. all_starts (cond b (scheduled number at row ∷ started test (number + 1) at rows) (row ∷ started test number at rows))) is ∙ all-cons (scheduled number at row) (started test (number + 1) at rows) in
+      omega arith
+  by here more false is =
+      let counted : one_if (test row) ≡ 0 = ap one_if is in
+      let count : count_by test (row ∷ rows) ≡ one_if (test row) + count_by test rows = sum_by-cons (λ (r : Row). cond (test r) 1 0) row rows in
+      let before = all-cons row rows in
+      let after : all_starts (started test number at (row ∷ rows)) ≡ starts row + all_starts (started test number at rows) =
+      ap (λ b. all_starts (cond b (scheduled number at row ∷ started test (number + 1) at rows) (row ∷ started test number at rows))) is ∙ all-cons row (started test number at rows) in
+      omega arith
+
+pub starts-settled : (contents : Contents) (at : ℕ) → all_starts (settled contents at).rows ≡ all_starts contents.rows + count_by (is_ready contents.rows) contents.rows
+unfolding settled
+starts-settled contents at = started-starts (is_ready contents.rows) (ready-free contents.rows) contents.next at contents.rows
+
+-- ---- no task is scheduled twice
+
+abbrev once : Row → Bool
+once row = nat_le (starts row) 1
+
+once-same : (row after : Row) → starts after ≡ starts row → once row ≡ true → once after ≡ true
+once-same row after same is = ap (λ n. nat_le n 1) same ∙ is
+
+once-scheduled : (number at : ℕ) (row : Row) → once row ≡ true → once (scheduled number at row) ≡ true
+once-scheduled number at row is = by row.runs refl where
+  by : (runs : List Run) → row.runs ≡ runs → once (scheduled number at row) ≡ true
+  by [] runs = ap (λ (rs : List Run). nat_le (starts_in (first_run number at rs)) 1) runs
+  by (run ∷ rest) runs = ap (λ (rs : List Run). nat_le (starts_in (first_run number at rs)) 1) runs ∙ (sym (ap (λ (rs : List Run). nat_le (starts_in rs) 1) runs) ∙ is)
+
+once-change : (test : Row → Bool) (f : Row → Row) → ((row : Row) → once row ≡ true → once (f row) ≡ true) → (rows : List Row) → starts_once rows ≡ true → starts_once (change_first test f rows) ≡ true
+once-change test f keeps [] all = refl
+once-change test f keeps (row ∷ rows) all = by (once-change test f keeps rows) (test row) refl where
+  parts : (once row ≡ true) × (starts_once rows ≡ true)
+  parts = and_parts (once row) (starts_once rows) all
+
+  by : (starts_once rows ≡ true → starts_once (change_first test f rows) ≡ true) → (b : Bool) → test row ≡ b → starts_once (change_first test f (row ∷ rows)) ≡ true
+  by rest true is = ap (λ b. starts_once (cond b (f row ∷ rows) (row ∷ change_first test f rows))) is ∙ and_from (once (f row)) (starts_once rows) (keeps row parts.0) parts.1
+  by rest false is = ap (λ b. starts_once (cond b (f row ∷ rows) (row ∷ change_first test f rows))) is ∙ and_from (once row) (starts_once (change_first test f rows)) parts.0 (rest parts.1)
+
+once-started : (test : Row → Bool) (number at : ℕ) (rows : List Row) → starts_once rows ≡ true → starts_once (started test number at rows) ≡ true
+once-started test number at [] all = refl
+once-started test number at (row ∷ rows) all = by (once-started test number at rows) (once-started test (number + 1) at rows) (test row) refl where
+  parts : (once row ≡ true) × (starts_once rows ≡ true)
+  parts = and_parts (once row) (starts_once rows) all
+
+  by : (starts_once rows ≡ true → starts_once (started test number at rows) ≡ true) → (starts_once rows ≡ true → starts_once (started test (number + 1) at rows) ≡ true) → (b : Bool) → test row ≡ b
+      → starts_once (started test number at (row ∷ rows)) ≡ true
+  by here more true is =
+      ap (λ b. starts_once (cond b (scheduled number at row ∷ started test (number + 1) at rows) (row ∷ started test number at rows))) is
+      ∙ and_from (once (scheduled number at row)) (starts_once (started test (number + 1) at rows)) (once-scheduled number at row parts.0) (more parts.1)
+  by here more false is =
+      ap (λ b. starts_once (cond b (scheduled number at row ∷ started test (number + 1) at rows) (row ∷ started test number at rows))) is
+      ∙ and_from (once row) (starts_once (started test number at rows)) parts.0 (here parts.1)
+
+once-settled : (at : ℕ) (contents : Contents) → starts_once contents.rows ≡ true → starts_once (settled contents at).rows ≡ true
+unfolding settled
+once-settled at contents all = once-started (is_ready contents.rows) contents.next at contents.rows all
+
+once-due : (contents : Contents) (at : ℕ) → starts_once contents.rows ≡ true → starts_once (resolved_at contents at).rows ≡ true
+once-due contents at all = by (list_any (meets_deadline at) contents.rows) refl where
+  by : (b : Bool) → list_any (meets_deadline at) contents.rows ≡ b → starts_once (resolved_at contents at).rows ≡ true
+  by true is =
+      ap (λ (c : Contents). starts_once c.rows) (deadline-resolved contents at is)
+      ∙ once-change (meets_deadline at) (exceeded at) (λ row here. once-same row (exceeded at row) (finished-starts reasons.DeadlineExceeded at row) here) contents.rows all
+  by false is =
+      ap (λ (c : Contents). starts_once c.rows) (claim-resolved contents at is)
+      ∙ once-change (loses_claim at) (expired contents.next at) (λ row here. once-same row (expired contents.next at row) (expired-starts contents.next at row) here) contents.rows all
+
+once-turn : (contents : Contents) (first : Option ℕ) → starts_once contents.rows ≡ true → starts_once (after_first contents first).rows ≡ true
+once-turn contents None all = all
+once-turn contents (Some at) all = once-settled at (resolved_at contents at) (once-due contents at all)
+
+once-turns : (count moment : ℕ) (contents : Contents) → starts_once contents.rows ≡ true → starts_once (turns count moment contents).rows ≡ true
+once-turns zero moment contents all = all
+once-turns (suc count) moment contents all = once-turns count moment (turn moment contents) (once-turn contents (first_due contents moment) all)
+
+pub once-advance : (contents : Contents) (moment : ℕ) → starts_once contents.rows ≡ true → starts_once (advance contents moment).rows ≡ true
+unfolding advance
+once-advance contents moment all = once-turns (length (all_due_moments contents.rows)) moment contents all
+
+once-claimed : (claim : RunClaim) (names : List RunName) (rows : List Row) → starts_once rows ≡ true → starts_once (all_claimed claim names rows) ≡ true
+once-claimed claim [] rows all = all
+once-claimed claim (name ∷ names) rows all =
+    once-claimed claim names (change_row name.id (claimed claim) rows) (once-change (has_id name.id) (claimed claim) (λ row here. once-same row (claimed claim row) (claimed-starts claim row) here) rows all)
+
+once-kind : (contents : Contents) (at : ℕ) (kind : Kind) → starts_once contents.rows ≡ true → starts_once (after_kind contents at kind).rows ≡ true
+once-kind contents at Tick all = once-advance contents at all
+once-kind contents at (Create creation) all =
+    list_all-append once contents.rows (new_row creation.id creation.definition ∷ []) ∙ ap (λ b. b && true) all
+once-kind contents at (Schedule id) all = once-change (has_id id) (scheduled contents.next at) (once-scheduled contents.next at) contents.rows all
+once-kind contents at (Rerun id) all =
+    once-change (has_id id) (run_again contents.next at) (λ row here. once-same row (run_again contents.next at row) (again-starts contents.next at row) here) contents.rows all
+once-kind contents at (Cancel id) all = once-change (has_id id) (canceled at) (λ row here. once-same row (canceled at row) (finished-starts reasons.Canceled at row) here) contents.rows all
+once-kind contents at (TakesRuns claim) all = once-claimed (claim_of at claim) claim.runs contents.rows all
+once-kind contents at (Reclaim r) all =
+    once-change (has_id r.id) (reclaimed r.run r.taken_until) (λ row here. once-same row (reclaimed r.run r.taken_until row) (reclaimed-starts r.run r.taken_until row) here) contents.rows all
+once-kind contents at (Resolve r) all =
+    let reason : ReasonResolved = reason_of r.reason in
+    once-change (has_id r.id) (resolved r.run reason contents.next at) (λ row here. once-same row (resolved r.run reason contents.next at row) (resolved-starts r.run reason contents.next at row) here) contents.rows all
+
+pub once-applied : (contents : Contents) (change : Change) → starts_once contents.rows ≡ true → starts_once (applied contents change).rows ≡ true
+unfolding applied
+once-applied contents change all =
+    let P : Contents → Type 0 = λ c. starts_once c.rows ≡ true in
+    after-holds P contents change.at (once-settled change.at) change.kind (once-kind contents change.at change.kind all)

@@ -1,0 +1,128 @@
+//! The lists of tasks, page by page.
+ghost use Rattle.std.specs.Prelude.{◌≡◌, map, take, true, false, length, nat_lt, bytes_eq, IfOk, MatchOption};
+ghost use Rattle.std.specs.List.{list_any};
+ghost use Rattle.farm_rows.specs.Changes.{on_row};
+ghost use Rattle.farm_rows.specs.Lists.{is_listed, listed, names_listed, behind_id, behind, page_rows, has_more};
+
+use crate::moves::{place_of, row_with};
+use farm_text::SlugId;
+use run_states::TaskRow;
+use std::alloc::{AllocError, Global};
+
+/// A list of tasks, in the order of their creation.
+#[derive(Clone, Copy, Debug)]
+pub enum TaskList {
+    /// The tasks of this group.
+    Group(SlugId),
+    /// The tasks that wait for this one.
+    Dependants(SlugId),
+}
+
+/// Some tasks of a list, in the order of their creation.
+#[derive(Debug, Drop)]
+pub struct Page<'a> {
+    pub rows: Vec<&'a TaskRow>,
+    /// Whether the list has tasks behind these.
+    pub more: bool,
+}
+
+/// Whether the task with this id stands, and is on a list.
+pub(crate) fn lists(rows: &[TaskRow], list: &TaskList, id: SlugId) -> bool
+    ensures { result ≡ on_row (is_listed list.now) id rows.now }
+{
+    match row_with(rows, id) {
+        Some(row) => is_listed(list, row),
+        None => false,
+    }
+}
+
+/// Whether a task is on a list.
+fn is_listed(list: &TaskList, row: &TaskRow) -> bool
+    ensures { result ≡ is_listed list.now row.now }
+{
+    let definition = row.definition();
+    match list {
+        TaskList::Group(group) => definition.task_group_id == *group,
+        TaskList::Dependants(id) => is_among(definition.dependencies.list(), *id),
+    }
+}
+
+/// Whether an id is among these.
+fn is_among(ids: &[SlugId], id: SlugId) -> bool
+    ensures { result ≡ list_any (λ other. bytes_eq other id) ids.now }
+{
+    ids.iter().any(|other| *other == id)
+}
+
+/// The page of a list behind the task that a token names, or the first page, with so many tasks at most; or none, where the token names no
+/// task of the list.
+pub(crate) fn page_behind<'a>(
+    alloc: Global,
+    rows: &'a [TaskRow],
+    list: &TaskList,
+    after: Option<SlugId>,
+    limit: u16,
+) -> Result<Option<Page<'a>>, AllocError>
+    ensures { IfOk result (λ page. MatchOption page (names_listed list.now after rows.now ≡ false)
+        (λ p. (names_listed list.now after rows.now ≡ true) × (map (λ row. row.now) p.rows.items ≡ page_rows after limit (listed list.now rows.now))
+        × (p.more ≡ has_more after limit (listed list.now rows.now)))) }
+{
+    match behind(rows, list, after) {
+        Some(rest) => Ok(Some(page_of(alloc, rest, list, usize::from(limit))?)),
+        None => Ok(None),
+    }
+}
+
+/// The tasks behind the one that a token names, or all, where there is none; or none, where the token names no task of the list.
+fn behind<'a>(rows: &'a [TaskRow], list: &TaskList, after: Option<SlugId>) -> Option<&'a [TaskRow]>
+    ensures { MatchOption result (names_listed list.now after rows.now ≡ false)
+        (λ rest. (names_listed list.now after rows.now ≡ true) × (listed list.now rest.now ≡ behind after (listed list.now rows.now))) }
+{
+    match after {
+        Some(token) => behind_id(rows, list, token),
+        None => Some(rows),
+    }
+}
+
+/// The tasks behind the one with this id, where that is on the list.
+fn behind_id<'a>(rows: &'a [TaskRow], list: &TaskList, token: SlugId) -> Option<&'a [TaskRow]>
+    ensures { MatchOption result (on_row (is_listed list.now) token rows.now ≡ false)
+        (λ rest. (on_row (is_listed list.now) token rows.now ≡ true) × (listed list.now rest.now ≡ behind_id token (listed list.now rows.now))) }
+{
+    let Some(place) = place_of(rows, token) else {
+        return None;
+    };
+    if is_listed(list, &rows[place]) {
+        Some(&rows[place + 1..])
+    } else {
+        None
+    }
+}
+
+/// The first tasks of these that are on a list, so many at most.
+fn page_of<'a>(
+    alloc: Global,
+    rows: &'a [TaskRow],
+    list: &TaskList,
+    limit: usize,
+) -> Result<Page<'a>, AllocError>
+    ensures { IfOk result (λ p. (map (λ row. row.now) p.rows.items ≡ take limit (listed list.now rows.now))
+        × (p.more ≡ nat_lt limit (length (listed list.now rows.now)))) }
+{
+    let mut found = Vec::new(alloc);
+    for row in rows {
+        if is_listed(list, row) {
+            if found.len() == limit {
+                return Ok(Page {
+                    rows: found,
+                    more: true,
+                });
+            }
+            found.push(row)?;
+        }
+    }
+    Ok(Page {
+        rows: found,
+        more: false,
+    })
+}
