@@ -1,6 +1,7 @@
 """A model of the queue of a build farm, written from its rules apart from the program: it prints the rows of a conversation.
 
 python3 bench/queue_model.py workers|again|lapse|last|deadline|retry: the tables of crates/farm_server/src/tests/work.rt (workers) and runs.rt.
+python3 bench/queue_model.py pair|itself|full|refused|canceled|diamond|tick: those of waits.rt there, of tasks that wait for others.
 """
 import json, sys
 B=1704067200000
@@ -11,7 +12,7 @@ def T(ms):
 PR=["highest","very-high","high","medium","low","very-low","lowest"]
 def dump(x): return json.dumps(x,separators=(",",":"),sort_keys=True)
 class Farm:
-    def __init__(s): s.rows=[]; s.last=0; s.next=0; s.timeout=1200_000
+    def __init__(s): s.rows=[]; s.last=0; s.next=0; s.timeout=1200_000; s.most=1_000_000
     def row(s,i): return next((r for r in s.rows if r["id"]==i),None)
     def resolved(s,r): return bool(r["runs"]) and r["runs"][-1]["out"] is not None
     def pending(s,r): return bool(r["runs"]) and r["runs"][-1]["claim"] is None and r["runs"][-1]["out"] is None
@@ -23,17 +24,34 @@ class Farm:
         run["out"]=(reason,at)
         why={"claim-expired":"retry","worker-shutdown":"retry","intermittent-task":"task-retry"}.get(reason)
         if why and r["left"]>0: s.new(r,why,at); r["left"]-=1
+    # the last run ends; where there is none, one is made that has ended
+    def finish(s,r,reason,at):
+        if r["runs"]: s.end(r,r["runs"][-1],reason,at)
+        else: r["runs"].append(dict(why="exception",at=at,no=None,claim=None,out=(reason,at)))
+    # what a task waits for is there: a completed run of each, or that each is resolved, or was run again
+    def ready(s,r):
+        if r["runs"]: return False
+        for i in r["deps"]:
+            d=s.row(i)
+            if r["requires"]=="all-completed": met=any(u["out"] and u["out"][0]=="completed" for u in d["runs"])
+            else: met=s.resolved(d) or any(u["why"]=="rerun" for u in d["runs"])
+            if not met: return False
+        return True
+    # who is ready becomes pending, in the order of creation
+    def settle(s,at):
+        for r in [r for r in s.rows if s.ready(r)]: s.new(r,"scheduled",at)
     def tick(s,m):
         while True:
             due=[]
             for k,r in enumerate(s.rows):
                 if not s.resolved(r):
                     if r["deadline"]<=m: due.append((r["deadline"],0,k))
-                    c=r["runs"][-1]["claim"]
+                    c=r["runs"] and r["runs"][-1]["claim"]
                     if c and c["until"]<=m: due.append((c["until"],1,k))
             if not due: break
             at,kind,k=min(due); r=s.rows[k]
-            s.end(r,r["runs"][-1],["deadline-exceeded","claim-expired"][kind],at)
+            s.finish(r,["deadline-exceeded","claim-expired"][kind],at)
+            s.settle(at)
         s.last=max(s.last,m)
     def status(s,r):
         runs=[]
@@ -42,18 +60,36 @@ class Farm:
             if u["claim"]: d.update(started=T(u["claim"]["at"]),takenUntil=T(u["claim"]["until"]),workerGroup=u["claim"]["g"],workerId=u["claim"]["w"])
             if u["out"]: d.update(reasonResolved=u["out"][0],resolved=T(u["out"][1]))
             runs.append(d)
-        return dict(deadline=T(r["deadline"]),expires=T(r["expires"]),projectId="none",provisionerId="prov",retriesLeft=r["left"],runs=runs,schedulerId="-",state=s.state(r["runs"][-1]) if r["runs"] else "unscheduled",taskGroupId=r["id"],taskId=r["id"],taskQueueId="prov/wt",workerType="wt")
-    def full(s,r): return dict(created=T(r["created"]),deadline=T(r["deadline"]),dependencies=[],expires=T(r["expires"]),extra={},metadata=dict(description="d",name="n",owner="o@example.com",source="https://example.com/"),payload={},priority=r["priority"],projectId="none",provisionerId="prov",requires="all-completed",retries=r["retries"],routes=[],schedulerId="-",scopes=[],tags={},taskGroupId=r["id"],taskQueueId="prov/wt",workerType="wt")
+        return dict(deadline=T(r["deadline"]),expires=T(r["expires"]),projectId="none",provisionerId="prov",retriesLeft=r["left"],runs=runs,schedulerId=r["scheduler"],state=s.state(r["runs"][-1]) if r["runs"] else "unscheduled",taskGroupId=r["group"],taskId=r["id"],taskQueueId="prov/wt",workerType="wt")
+    def full(s,r): return dict(created=T(r["created"]),deadline=T(r["deadline"]),dependencies=r["deps"],expires=T(r["expires"]),extra={},metadata=dict(description="d",name="n",owner="o@example.com",source="https://example.com/"),payload={},priority=r["priority"],projectId="none",provisionerId="prov",requires=r["requires"],retries=r["retries"],routes=[],schedulerId=r["scheduler"],scopes=[],tags={},taskGroupId=r["group"],taskQueueId="prov/wt",workerType="wt")
     def conflict(s,rule,r): return 409,dict(code="RequestConflict",details=dict(rule=rule,status=s.status(r)),message="the state forbids it")
     def nf(s,kind,name): return 404,dict(code="ResourceNotFound",details=dict(kind=kind,name=name),message="nothing has that name")
     def bad(s,**d): return 400,dict(code="InputError",details=d,message="the request breaks a rule")
     def ok(s,r): return 200,dict(status=s.status(r))
     def ask(s,clock,call,*a):
         m=max(clock,s.last); s.tick(m)
-        return getattr(s,call)(m,*a)
-    def create(s,m,i,priority,retries,deadline):
-        r=dict(id=i,priority=priority,retries=retries,left=retries,created=B,deadline=deadline,expires=deadline+31536000000,runs=[])
-        s.rows.append(r); s.new(r,"scheduled",m); return s.ok(r)
+        st,f=getattr(s,call)(m,*a)
+        s.settle(m)
+        return st,f() if callable(f) else f
+    def create(s,m,i,priority,retries,deadline,deps=(),requires="all-completed",group=None,scheduler="-",expires=None):
+        new=dict(id=i,priority=priority,retries=retries,created=B,deadline=deadline,expires=expires or deadline+31536000000,deps=list(deps),requires=requires,group=group or i,scheduler=scheduler)
+        r=s.row(i)
+        if r: return s.ok(r) if all(r[k]==new[k] for k in new) else s.conflict(1,r)
+        if deadline<=m: return s.bad(rule=15)
+        others=[d for d in deps if d!=i]
+        for d in others:
+            if not s.row(d): return s.bad(name=d,rule=16)
+        for d in others:
+            if s.row(d)["expires"]<deadline: return s.bad(name=d,rule=17)
+        kept=next((r["scheduler"] for r in s.rows if r["group"]==new["group"]),scheduler)
+        if kept!=scheduler: return 409,dict(code="RequestConflict",details=dict(rule=2,schedulerId=kept),message="the state forbids it")
+        if len(s.rows)>=s.most: return 507,dict(code="FarmFull",details=dict(count=len(s.rows)),message="the farm is full")
+        new.update(left=retries,runs=[]); s.rows.append(new); return 200,lambda: dict(status=s.status(new))
+    def schedule(s,m,i):
+        r=s.row(i)
+        if not r: return s.nf("task",i)
+        if not r["runs"]: s.new(r,"scheduled",m)
+        return s.ok(r)
     def stat(s,m,i): r=s.row(i); return s.ok(r) if r else s.nf("task",i)
     def claim(s,m,g,w,n):
         out=[]
@@ -85,6 +121,7 @@ class Farm:
     def rerun(s,m,i):
         r=s.row(i)
         if not r: return s.nf("task",i)
+        if not r["runs"]: return s.conflict(4,r)
         if not s.resolved(r): return s.ok(r)
         if r["deadline"]<=m: return s.conflict(5,r)
         if len(r["runs"])>=50: return s.conflict(6,r)
@@ -92,12 +129,12 @@ class Farm:
     def cancel(s,m,i):
         r=s.row(i)
         if not r: return s.nf("task",i)
-        if not s.resolved(r): s.end(r,r["runs"][-1],"canceled",m)
+        if not s.resolved(r): s.finish(r,"canceled",m)
         return s.ok(r)
 I=["AAAAAAAAQACAAAAAAAAAA"+c for c in "AQgw"]
 f=Farm()
 def D(priority,retries,deadline): return '{"created":"%s","deadline":"%s","metadata":{"description":"d","name":"n","owner":"o@example.com","source":"https://example.com/"},"payload":{},"priority":"%s","retries":%d,"taskQueueId":"prov/wt"}'%(T(B),T(deadline),priority,retries)
-PH={200:"200 OK",400:"400 Bad Request",404:"404 Not Found",409:"409 Conflict"}
+PH={200:"200 OK",400:"400 Bad Request",404:"404 Not Found",409:"409 Conflict",507:"507 Insufficient Storage"}
 rows=[]
 def go(ms,req,body,call,*a):
     st,d=f.ask(B+ms,call,*a); rows.append((ms,req,body,PH[st],dump(d)))
@@ -149,6 +186,36 @@ def last(): plain(0,0,',"retries":0',0); claim(10*S,"w"); stat(20*M+10*S,0)
 def deadline(): plain(0,0,"",5,20*M+10*S); claim(10*S,"w"); stat(20*M+10*S,0)
 # two faults that may pass, and one retry
 def retry(): plain(0,0,',"retries":1',1); claim(10*S,"w"); report(11*S,0,0,"intermittent-task"); claim(12*S,"w"); report(13*S,0,1,"intermittent-task")
-{"workers":workers,"again":again,"lapse":lapse,"last":last,"deadline":deadline,"retry":retry}[sys.argv[1]]()
+# a task of the smallest definition that waits for others: only what is not left out is in the body
+def waits(ms,k,deps=(),requires=None,group=None,scheduler=None,dl=DAY,expires=None,retries=None):
+    d={"created":T(B),"deadline":T(B+dl),"metadata":dict(description="d",name="n",owner="o@example.com",source="https://example.com/"),"payload":{},"taskQueueId":"prov/wt"}
+    if deps: d["dependencies"]=[I[j] for j in deps]
+    if requires: d["requires"]=requires
+    if group is not None: d["taskGroupId"]=I[group]
+    if scheduler: d["schedulerId"]=scheduler
+    if expires: d["expires"]=T(B+expires)
+    if retries is not None: d["retries"]=retries
+    go(ms,"PUT "+t+I[k],dump(d),"create",I[k],"lowest",5 if retries is None else retries,B+dl,[I[j] for j in deps],requires or "all-completed",None if group is None else I[group],scheduler or "-",B+expires if expires else None)
+def schedule(ms,k): go(ms,"POST %s%s/schedule"%(t,I[k]),"","schedule",I[k])
+# one waits for two; the first is run again, and that takes nothing back
+def pair():
+    waits(0,0); waits(0,1); waits(0,2,[0,1]); claim(0,"w"); report(0,0,0,"completed"); stat(0,2); rerun(0,0); claim(0,"w"); report(0,1,0,"completed"); stat(0,2); claim(0,"w"); claim(0,"w")
+# a task that waits for itself
+def itself(): waits(0,0,[0]); rerun(0,0); schedule(0,0); schedule(0,0); waits(0,1,[1]); stat(DAY,1); schedule(DAY,2)
+# a farm that takes one task, and what comes before that
+def full(): f.most=1; waits(0,0); waits(0,1); waits(0,0); waits(0,2,[3]); waits(0,2,group=0,scheduler="s")
+# what is refused, in its order
+def refused():
+    waits(0,0); waits(0,2,[0,3,1]); waits(0,2,[2,0],dl=4*DAY,group=0,scheduler="s"); waits(0,1,expires=DAY+1)
+    waits(0,2,[0,1],dl=DAY+2,group=0,scheduler="s"); waits(0,2,[0,1],dl=DAY+1,group=0); waits(0,2,[0,1],dl=DAY+1)
+# one that waits until another is resolved, which is canceled, and one that waits until it is completed
+def canceled(): waits(0,0); waits(0,1,[0],"all-resolved"); waits(0,2,[0]); cancel(S,0); stat(S,1); stat(S,2); cancel(2*S,2)
+# four tasks, of which one comes first and one last
+def diamond():
+    waits(0,0); waits(0,1,[0],group=0); waits(0,2,[0],"all-resolved",0); waits(0,3,[1,2],group=0); claim(S,"a",32); report(2*S,0,0,"completed"); claim(3*S,"a",32)
+    report(4*S,1,0,"completed"); stat(4*S,3); report(5*S,2,0,"completed"); stat(5*S,3); claim(6*S,"b"); report(7*S,3,0,"failed"); waits(7*S,3,[1,2],group=0)
+# a deadline makes a task pending whose own deadline falls in the same tick
+def tick(): waits(0,0,dl=10*S); waits(0,1,[0],"all-resolved",dl=20*S); waits(0,2,[1],"all-resolved",dl=DAY); stat(30*S,1); stat(30*S,2)
+{"pair":pair,"itself":itself,"full":full,"refused":refused,"canceled":canceled,"diamond":diamond,"tick":tick,"workers":workers,"again":again,"lapse":lapse,"last":last,"deadline":deadline,"retry":retry}[sys.argv[1]]()
 for ms, req, body, st, rep in rows:
     print('    (\n        %s,\n        "%s",\n        r#"%s"#,\n        "%s",\n        r#"%s"#,\n    ),' % (format(ms, '_'), req, body, st, rep))

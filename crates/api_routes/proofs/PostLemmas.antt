@@ -9,7 +9,7 @@ use Rattle.percent_encoding.specs.Percent.{percent_decode}
 use Rattle.farm_machine.specs.declared.question.Call.{Call}
 use Rattle.farm_machine.specs.declared.question.Call.TheVariants.{NoRoute}
 use Rattle.api_routes.specs.declared.posts.Post.{Post}
-use Rattle.api_routes.specs.declared.posts.Post.TheVariants.{Rerun, Cancel, Claim, ClaimOfTwo, Reclaim, Completed, Failed, Exception}
+use Rattle.api_routes.specs.declared.posts.Post.TheVariants.{Schedule, Rerun, Cancel, Claim, ClaimOfTwo, Reclaim, Completed, Failed, Exception}
 use Rattle.api_routes.specs.Pieces.{fits, is_parameter, route_of}
 use Rattle.api_routes.specs.Posts.{CallsFirst}
 use Rattle.api_routes.specs.Segments.{Segment, word, parameter, parameters_in, parts_of, route_name}
@@ -39,6 +39,7 @@ fit_count (s ∷ ss) (part ∷ parts) found e =
 
 -- a route's parts are those that they are whatever the body
 pub same_segments : (body : List ℕ) (post : Post) → (route_of body post).segments ≡ (route_of [] post).segments
+same_segments body Schedule = refl
 same_segments body Rerun = refl
 same_segments body Cancel = refl
 same_segments body Claim = refl
@@ -50,27 +51,27 @@ same_segments body Exception = refl
 
 -- the routes of POST, as the code goes through them
 abbrev pub posts : List Post
-posts = Rerun ∷ Cancel ∷ Claim ∷ ClaimOfTwo ∷ Reclaim ∷ Completed ∷ Failed ∷ Exception ∷ []
+posts = Schedule ∷ Rerun ∷ Cancel ∷ Claim ∷ ClaimOfTwo ∷ Reclaim ∷ Completed ∷ Failed ∷ Exception ∷ []
 
 -- the one at a place
 abbrev pub post_at : ℕ → Post
-post_at n = get_or posts n Rerun
+post_at n = get_or posts n Schedule
 
 -- the routes from a place on
-routes_at : (body : List ℕ) (n : ℕ) → n < 8 → map (route_of body) (drop n posts) ≡ route_of body (post_at n) ∷ map (route_of body) (drop (n + 1) posts)
-routes_at body n within = ap (map (route_of body)) (drop-cons posts n Rerun within) ∙ rw add-one refl
+routes_at : (body : List ℕ) (n : ℕ) → n < 9 → map (route_of body) (drop n posts) ≡ route_of body (post_at n) ∷ map (route_of body) (drop (n + 1) posts)
+routes_at body n within = ap (map (route_of body)) (drop-cons posts n Schedule within) ∙ rw add-one refl
 
-pub post_fits : (body path : List ℕ) (n : ℕ) (found : List (List ℕ)) → n < 8 → Some found ≡ parameters_in (route_of [] (post_at n)).segments (parts_of path) → (call : Call) → (route_of body (post_at n)).Calls (map percent_decode found) call → CallsFirst (map (route_of body) (drop n posts)) path call
+pub post_fits : (body path : List ℕ) (n : ℕ) (found : List (List ℕ)) → n < 9 → Some found ≡ parameters_in (route_of [] (post_at n)).segments (parts_of path) → (call : Call) → (route_of body (post_at n)).Calls (map percent_decode found) call → CallsFirst (map (route_of body) (drop n posts)) path call
 post_fits body path n found within fit call calls =
     let at : parameters_in (route_of body (post_at n)).segments (parts_of path) ≡ Some found = ap (λ s. parameters_in s (parts_of path)) (same_segments body (post_at n)) ∙ sym fit in
     rw (routes_at body n within) (rw at calls)
 
-pub post_passes : (body path : List ℕ) (n : ℕ) → n < 8 → None ≡ parameters_in (route_of [] (post_at n)).segments (parts_of path) → (call : Call) → CallsFirst (map (route_of body) (drop (n + 1) posts)) path call → CallsFirst (map (route_of body) (drop n posts)) path call
+pub post_passes : (body path : List ℕ) (n : ℕ) → n < 9 → None ≡ parameters_in (route_of [] (post_at n)).segments (parts_of path) → (call : Call) → CallsFirst (map (route_of body) (drop (n + 1) posts)) path call → CallsFirst (map (route_of body) (drop n posts)) path call
 post_passes body path n within fit call calls =
     let at : parameters_in (route_of body (post_at n)).segments (parts_of path) ≡ None = ap (λ s. parameters_in s (parts_of path)) (same_segments body (post_at n)) ∙ sym fit in
     rw (routes_at body n within) (rw at calls)
 
-pub no_post : (body path : List ℕ) (n : ℕ) → 8 ≤ n → (call : Call) → call ≡ NoRoute (route_name path) → CallsFirst (map (route_of body) (drop n posts)) path call
+pub no_post : (body path : List ℕ) (n : ℕ) → 9 ≤ n → (call : Call) → call ≡ NoRoute (route_name path) → CallsFirst (map (route_of body) (drop n posts)) path call
 no_post body path n all call is =
     let none : drop n posts ≡ [] = drop_all n posts all in
     rw none is

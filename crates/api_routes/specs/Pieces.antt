@@ -1,11 +1,11 @@
 -- The routes of POST as the code has them; for private clauses.
 use Rattle.std.specs.Prelude.{ℕ, Bool, true, false, codes, bytes_eq, List, [], ◌∷◌}
 use Rattle.farm_record.specs.declared.change.Report.TheVariants.{Completed as ended_well, Failed as ended_ill}
-use Rattle.farm_machine.specs.declared.question.Call.TheVariants.{RerunTask, CancelTask}
+use Rattle.farm_machine.specs.declared.question.Call.TheVariants.{ScheduleTask, RerunTask, CancelTask}
 use Rattle.api_routes.specs.declared.paths.Piece.{Piece}
 use Rattle.api_routes.specs.declared.paths.Piece.TheVariants.{Word, Parameter}
 use Rattle.api_routes.specs.declared.posts.Post.{Post}
-use Rattle.api_routes.specs.declared.posts.Post.TheVariants.{Rerun, Cancel, Claim, ClaimOfTwo, Reclaim, Completed, Failed, Exception}
+use Rattle.api_routes.specs.declared.posts.Post.TheVariants.{Schedule, Rerun, Cancel, Claim, ClaimOfTwo, Reclaim, Completed, Failed, Exception}
 use Rattle.api_routes.specs.Bodies.{IsReasonBody}
 use Rattle.api_routes.specs.Posts.{Route, task_route, run_route, work_route, Reclaims, Reports}
 use Rattle.api_routes.specs.Segments.{Segment, word, parameter}
@@ -28,6 +28,7 @@ is_parameter parameter = true
 
 -- the route of each
 abbrev pub route_of : List ℕ → Post → Route
+route_of body Schedule = task_route (codes "schedule") ScheduleTask
 route_of body Rerun = task_route (codes "rerun") RerunTask
 route_of body Cancel = task_route (codes "cancel") CancelTask
 route_of body Claim = work_route (parameter ∷ []) body

@@ -10,7 +10,7 @@ use Rattle.farm_record.specs.declared.change.Report.{Report}
 use Rattle.farm_record.specs.declared.change.Report.TheVariants.{Completed, Failed}
 use Rattle.farm_record.specs.declared.change.RunName.{RunName}
 use Rattle.farm_machine.specs.declared.question.Call.{Call}
-use Rattle.farm_machine.specs.declared.question.Call.TheVariants.{NoRoute, BadParameter, ReclaimTask, ReportRun, RerunTask, CancelTask}
+use Rattle.farm_machine.specs.declared.question.Call.TheVariants.{NoRoute, BadParameter, ReclaimTask, ReportRun, ScheduleTask, RerunTask, CancelTask}
 use Rattle.farm_machine.specs.declared.question.Parameter.TheVariants.{TaskId, RunId, Queue}
 use Rattle.api_routes.specs.Bodies.{IsWorkBody, IsReasonBody}
 use Rattle.api_routes.specs.Segments.{Segment, word, parameter, parameters_in, parts_of, queue_route, route_name}
@@ -87,7 +87,8 @@ work_route queue body = record { segments = queue_route (word (codes "claim-work
 
 abbrev pub post_routes : List ℕ → List Route
 post_routes body =
-    task_route (codes "rerun") RerunTask
+    task_route (codes "schedule") ScheduleTask
+    ∷ task_route (codes "rerun") RerunTask
     ∷ task_route (codes "cancel") CancelTask
     ∷ work_route (parameter ∷ []) body
     ∷ work_route (parameter ∷ parameter ∷ []) body

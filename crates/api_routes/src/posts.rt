@@ -22,6 +22,7 @@ use task_defs::TaskQueue;
 /// A route of POST.
 #[derive(Clone, Copy)]
 pub(crate) enum Post {
+    Schedule,
     Rerun,
     Cancel,
     /// The queue is one part, with `%2F`.
@@ -35,7 +36,8 @@ pub(crate) enum Post {
 }
 
 /// The routes of POST.
-const POSTS: [Post; 8] = [
+const POSTS: [Post; 9] = [
+    Post::Schedule,
     Post::Rerun,
     Post::Cancel,
     Post::Claim,
@@ -66,6 +68,15 @@ impl Post {
     {
         use Piece::{Parameter, Word};
         match self {
+            Post::Schedule => &[
+                Word(""),
+                Word("api"),
+                Word("queue"),
+                Word("v1"),
+                Word("task"),
+                Parameter,
+                Word("schedule"),
+            ],
             Post::Rerun => &[
                 Word(""),
                 Word("api"),
@@ -155,6 +166,7 @@ fn call_of(alloc: Global, post: Post, parts: &[&[u8]], body: &[u8]) -> Result<Ca
     ensures { IfOk result ((route_of body.now post).Calls (map percent_decode (map (λ part. part.now) parts.now))) }
 {
     match post {
+        Post::Schedule => schedule_call(alloc, parts[0]),
         Post::Rerun => rerun_call(alloc, parts[0]),
         Post::Cancel => cancel_call(alloc, parts[0]),
         Post::Claim => claim_call(alloc, parts[0], body),
@@ -163,6 +175,16 @@ fn call_of(alloc: Global, post: Post, parts: &[&[u8]], body: &[u8]) -> Result<Ca
         Post::Completed => report_call(alloc, parts[0], parts[1], Report::Completed),
         Post::Failed => report_call(alloc, parts[0], parts[1], Report::Failed),
         Post::Exception => exception_call(alloc, parts[0], parts[1], body),
+    }
+}
+
+/// The call to schedule a task, whose id is percent-encoded in a path.
+fn schedule_call(alloc: Global, id: &[u8]) -> Result<Call, AllocError>
+    ensures { IfOk result (CallsTask Call.ScheduleTask (percent_decode id.now ∷ [])) }
+{
+    match decoded_id(alloc, id)? {
+        Some(id) => Ok(Call::ScheduleTask(id)),
+        None => Ok(Call::BadParameter(Parameter::TaskId)),
     }
 }
 

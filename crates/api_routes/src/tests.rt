@@ -71,6 +71,7 @@ fn is_called(call: &Call, wanted: &str) -> bool {
         Call::ClaimWork(work) => work.worker_id.as_str() == wanted,
         Call::ReclaimTask(_) => wanted == "reclaim",
         Call::ReportRun(report) => report_word(report.reason) == wanted,
+        Call::ScheduleTask(_) => wanted == "schedule",
         Call::RerunTask(_) => wanted == "rerun",
         Call::CancelTask(_) => wanted == "cancel",
     }
@@ -237,7 +238,13 @@ fn workers_ask_for_work(rt: HostRuntime) -> Result<(), Fail> {
     Ok(())
 }
 
-const RUNS: [(&[u8], &[u8], &str, u8); 16] = [
+const RUNS: [(&[u8], &[u8], &str, u8); 17] = [
+    (
+        b"/api/queue/v1/task/AAAAAAAAQACAAAAAAAAAAA/schedule",
+        b"",
+        "schedule",
+        0,
+    ),
     (
         b"/api/queue/v1/task/AAAAAAAAQACAAAAAAAAAAA/rerun",
         b"{",
@@ -328,7 +335,7 @@ const RUNS: [(&[u8], &[u8], &str, u8); 16] = [
 
 #[test]
 fn workers_tell_of_runs(rt: HostRuntime) -> Result<(), Fail> {
-    assert_eq!(rt; first_other(rt.alloc(), &RUNS)?, 16);
+    assert_eq!(rt; first_other(rt.alloc(), &RUNS)?, 17);
     Ok(())
 }
 

@@ -9,15 +9,16 @@ use Rattle.farm_rows.specs.Contents.{row_with}
 use Rattle.farm_rows.specs.Picks.{picks}
 use Rattle.task_defs.specs.declared.task_def.TaskDef.{TaskDef}
 use Rattle.farm_machine.specs.declared.question.Call.{Call}
-use Rattle.farm_machine.specs.declared.question.Call.TheVariants.{NoRoute, BadParameter, BadBody, Ping, Status, CreateTask, ClaimWork, ReclaimTask, ReportRun, RerunTask, CancelTask}
+use Rattle.farm_machine.specs.declared.question.Call.TheVariants.{NoRoute, BadParameter, BadBody, Ping, Status, CreateTask, ClaimWork, ReclaimTask, ReportRun, ScheduleTask, RerunTask, CancelTask}
 use Rattle.farm_machine.specs.declared.question.Caller.{Caller}
 use Rattle.farm_machine.specs.declared.reply.Answer.{Answer}
-use Rattle.farm_machine.specs.Calls.CreateTask.{standing}
+use Rattle.farm_machine.specs.Calls.CreateTask.{standing, create_task}
 use Rattle.farm_machine.specs.Calls.CancelTask.{cancel_task}
 use Rattle.farm_machine.specs.Calls.ClaimWork.{taking, claim_work}
 use Rattle.farm_machine.specs.Calls.ReclaimTask.{reclaim_task}
 use Rattle.farm_machine.specs.Calls.ReportRun.{report_run}
 use Rattle.farm_machine.specs.Calls.RerunTask.{rerun_task}
+use Rattle.farm_machine.specs.Calls.ScheduleTask.{schedule_task}
 use Rattle.farm_machine.specs.Calls.Status.{status}
 use Rattle.farm_machine.specs.declared.question.WorkRequest.{WorkRequest}
 use Rattle.farm_machine.specs.Config.{claim_millis}
@@ -27,7 +28,7 @@ use Rattle.farm_machine.specs.Judgement.{Judgement, only_answer}
 use Rattle.farm_machine.specs.Laws.{creation_of}
 use Rattle.farm_machine.specs.Order.{Form, route_of, parameter_of, body_of, case_of, Strikes, full, IsEnded, IsFirst, in_order, done}
 use Rattle.farm_machine.specs.State.{State}
-use Rattle.farm_machine.specs.Verdict.{form_of, create_form_where, setting_of, IsVerdict}
+use Rattle.farm_machine.specs.Verdict.{form_of, setting_of, IsVerdict}
 use Rattle.farm_machine.proofs.OrderLemmas.{last_parts}
 
 -- ---- a judgement that changes something is none of a refusal
@@ -66,11 +67,9 @@ change-done at caller form judgement change is first =
 
 -- ---- what creates a task
 
--- a call that creates this task: it is createTask of it, which is its own group and waits for none, and no task has the id
+-- a call that creates this task: it is createTask of it, and no task has the id
 pub record Creates (at : Setting) (asked : Call) (judgement : Judgement) (creation : Creation) : Type 0 where
   pub called : asked ≡ CreateTask creation
-  pub own : bytes_eq creation.definition.task_group_id creation.id ≡ true
-  pub alone : (length creation.definition.dependencies == 0) ≡ true
   pub unknown : row_with creation.id at.state.contents.rows ≡ None
   pub change : judgement.change ≡ Some (creating at.moment creation)
 
@@ -100,15 +99,13 @@ unknown_is definition (Some row) rules (inl p) = let no_ = p.1 in cc
 unknown_is definition (Some row) rules (inr (a, inl p)) = let no_ = p.1 in cc
 unknown_is definition (Some row) rules (inr (a, inr (goes_on, rest))) = absurd (goes_on tt)
 
-create_creates : (at : Setting) (judgement : Judgement) (asked creation : Creation) (own alone : Bool) → bytes_eq asked.definition.task_group_id asked.id ≡ own → (length asked.definition.dependencies == 0) ≡ alone → IsFirstRule (case_of (create_form_where own alone asked) at).rules None → judgement ≡ done at (case_of (create_form_where own alone asked) at).deed → creation_of judgement.change ≡ Some creation → Creates at (CreateTask asked) judgement creation
-create_creates at judgement asked creation true true own alone rules is creates =
+create_creates : (at : Setting) (judgement : Judgement) (asked creation : Creation) → IsFirstRule (create_task asked at).rules None → judgement ≡ done at (create_task asked at).deed → creation_of judgement.change ≡ Some creation → Creates at (CreateTask asked) judgement creation
+create_creates at judgement asked creation rules is creates =
     let change : judgement.change ≡ Some (creating at.moment asked) = ap (λ (j : Judgement). j.change) is in
     let found : Some asked ≡ Some creation = rw change at creates in
     let same : asked ≡ creation = cc in
     subst (λ (c : Creation). Creates at (CreateTask asked) judgement c) same
-    (record { called = refl; own = own; alone = alone; unknown = unknown_is asked.definition (row_with asked.id at.state.contents.rows) _ rules; change = change })
-create_creates at judgement asked creation true false own alone rules is creates = absurd (no_creation judgement creation (case_of (create_form_where true false asked) at).deed at refl is creates)
-create_creates at judgement asked creation false alone own_is alone_is rules is creates = absurd (no_creation judgement creation (case_of (create_form_where false alone asked) at).deed at refl is creates)
+    (record { called = refl; unknown = unknown_is asked.definition (row_with asked.id at.state.contents.rows) _ rules; change = change })
 
 call_creates : (at : Setting) (asked : Call) (judgement : Judgement) (creation : Creation) → IsFirstRule (case_of (form_of asked) at).rules None → judgement ≡ done at (case_of (form_of asked) at).deed → creation_of judgement.change ≡ Some creation → Creates at asked judgement creation
 call_creates at (NoRoute name) judgement creation rules is creates = absurd (no_creation judgement creation (case_of (form_of (NoRoute name)) at).deed at refl is creates)
@@ -126,12 +123,13 @@ call_creates at (ReclaimTask name) judgement creation rules is creates =
 call_creates at (ReportRun report) judgement creation rules is creates =
     absurd (no_creation judgement creation (report_run report at).deed at
     (task_makes report.id (row_with report.id at.state.contents.rows) _ (λ row. run_makes report.id report.run _ (nat_lt report.run (length row.runs)) row refl)) is creates)
+call_creates at (ScheduleTask id) judgement creation rules is creates =
+    absurd (no_creation judgement creation (schedule_task id at).deed at (task_makes id (row_with id at.state.contents.rows) _ (λ row. refl)) is creates)
 call_creates at (RerunTask id) judgement creation rules is creates =
     absurd (no_creation judgement creation (rerun_task id at).deed at (task_makes id (row_with id at.state.contents.rows) _ (λ row. refl)) is creates)
 call_creates at (CancelTask id) judgement creation rules is creates =
     absurd (no_creation judgement creation (cancel_task id at).deed at (task_makes id (row_with id at.state.contents.rows) _ (λ row. refl)) is creates)
-call_creates at (CreateTask asked) judgement creation rules is creates =
-    create_creates at judgement asked creation (bytes_eq asked.definition.task_group_id asked.id) (length asked.definition.dependencies == 0) refl refl rules is creates
+call_creates at (CreateTask asked) judgement creation rules is creates = create_creates at judgement asked creation rules is creates
 
 -- a change that is there
 some_change : (change : Option Change) (creation : Creation) → creation_of change ≡ Some creation → (c : Change) × (change ≡ Some c)

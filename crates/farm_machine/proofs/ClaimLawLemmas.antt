@@ -11,7 +11,7 @@ use Rattle.farm_record.specs.declared.change.Change.{Change}
 use Rattle.farm_record.specs.declared.change.Claim.{Claim as TakenRuns}
 use Rattle.farm_record.specs.declared.change.Creation.{Creation}
 use Rattle.farm_record.specs.declared.change.Kind.{Kind}
-use Rattle.farm_record.specs.declared.change.Kind.TheVariants.{Tick, Create, Rerun, Cancel, Claim as TakesRuns, Reclaim, Resolve}
+use Rattle.farm_record.specs.declared.change.Kind.TheVariants.{Tick, Create, Schedule, Rerun, Cancel, Claim as TakesRuns, Reclaim, Resolve}
 use Rattle.farm_record.specs.declared.change.RunName.{RunName}
 use Rattle.run_states.specs.declared.run.Claim.{Claim}
 use Rattle.run_states.specs.declared.run.Outcome.{Outcome}
@@ -20,17 +20,19 @@ use Rattle.run_states.specs.Runs.{is_pending_run, taken, change_last}
 use Rattle.run_states.specs.Rows.{Row, is_pending, new_row, scheduled}
 use Rattle.run_states.specs.Moves.{claimed, reclaimed, canceled, resolved, run_again}
 use Rattle.run_states.specs.Later.{RunLater, RowsLater}
-use Rattle.run_states.proofs.LaterLemmas.{again-later, claimed-later, canceled-later, reclaimed-later, resolved-later}
+use Rattle.run_states.proofs.LaterLemmas.{scheduled-later, again-later, claimed-later, canceled-later, reclaimed-later, resolved-later}
 use Rattle.run_states.proofs.RunLemmas.{get-last, last-change}
-use Rattle.farm_rows.specs.Changes.{has_id, reason_of, change_row, claim_of, all_claimed, after_kind, applied}
+use Rattle.farm_rows.specs.Changes.{has_id, reason_of, change_row, claim_of, all_claimed, after_kind, changed as with_rows, applied}
+use Rattle.farm_rows.specs.Ready.{settled}
 use Rattle.farm_rows.specs.Contents.{Contents, row_with, HaveOwnIds}
 use Rattle.farm_rows.specs.Picks.{is_same_queue, without, last_name, pick, picks}
 use Rattle.farm_rows.proofs.AdvanceLemmas.{advance-ids}
 use Rattle.farm_rows.proofs.DueLemmas.{change-stays, change-ids}
-use Rattle.farm_rows.proofs.IdLemmas.{created-ids, claimed-ids}
+use Rattle.farm_rows.proofs.IdLemmas.{created-ids, claimed-ids, after-holds}
+use Rattle.farm_rows.proofs.ReadyLemmas.{settled-stays, settled-ids}
 use Rattle.farm_rows.proofs.ShownLemmas.{pick-one}
 use Rattle.farm_machine.specs.declared.question.Call.{Call}
-use Rattle.farm_machine.specs.declared.question.Call.TheVariants.{NoRoute, BadParameter, BadBody, Ping, Status, CreateTask, ClaimWork, ReclaimTask, ReportRun, RerunTask, CancelTask}
+use Rattle.farm_machine.specs.declared.question.Call.TheVariants.{NoRoute, BadParameter, BadBody, Ping, Status, CreateTask, ClaimWork, ReclaimTask, ReportRun, ScheduleTask, RerunTask, CancelTask}
 use Rattle.farm_machine.specs.declared.question.WorkRequest.{WorkRequest}
 use Rattle.farm_machine.specs.Calls.ClaimWork.{taking}
 use Rattle.farm_machine.specs.Case.{Setting}
@@ -46,7 +48,7 @@ use Rattle.farm_machine.specs.Step.{lawful, after, farm_rules}
 use Rattle.farm_machine.specs.Verdict.{form_of, setting_of, IsVerdict}
 use Rattle.farm_machine.specs.Works.{at_moment}
 use Rattle.farm_machine.proofs.ChangeLemmas.{change-done, verdict-creates}
-use Rattle.farm_machine.proofs.DeedLemmas.{each-task, each-run, each-create}
+use Rattle.farm_machine.proofs.DeedLemmas.{each-task, each-run}
 use Rattle.farm_machine.proofs.OnceLemmas.{changed-stays, entry-stays}
 use Rattle.farm_machine.proofs.RunLawLemmas.{found-run}
 
@@ -245,9 +247,16 @@ claims-some name contents moment change nothing =
     claim-stays name contents.rows (changed contents moment (Some change)).rows (changed-stays contents moment (Some change)) in
     omega arith
 
-taken-rows : (contents : Contents) (at : ℕ) (claim : TakenRuns) → (applied contents (at_moment at (TakesRuns claim))).rows ≡ all_claimed (claim_of at claim) claim.runs contents.rows
+at-most : (a b c d : ℕ) → a + b ≤ c → c ≤ d → a + b ≤ d
+at-most a b c d first second = omega arith
+
+-- what is claimed stays so, as the tasks settle
+taken-more : (name : RunName) (contents : Contents) (at : ℕ) (claim : TakenRuns)
+    → one_if (has_claim name (all_claimed (claim_of at claim) claim.runs contents.rows)) ≤ one_if (has_claim name (applied contents (at_moment at (TakesRuns claim))).rows)
 unfolding applied
-taken-rows contents at claim = refl
+taken-more name contents at claim =
+    let taken_ = with_rows contents at (all_claimed (claim_of at claim) claim.runs contents.rows) 0 in
+    claim-stays name taken_.rows (settled taken_ at).rows (settled-stays taken_ at)
 
 claims-work : (name : RunName) (contents : Contents) (moment until : ℕ) (work : WorkRequest) (names : List RunName) → HaveOwnIds contents.rows → names ≡ picks (min work.tasks 32) work.queue contents.rows → Claims name contents moment (taking moment until work names).change
 claims-work name contents moment until work [] own is = claims-none name contents moment
@@ -256,7 +265,7 @@ claims-work name contents moment until work (first ∷ names) own is =
     let fact = picks-taken (min work.tasks 32) work.queue contents.rows contents.rows (claim_of moment claim) name (each-stands contents.rows own) in
     let here : count_by (is_same_run name) (first ∷ names) + one_if (has_claim name contents.rows) ≤ one_if (has_claim name (all_claimed (claim_of moment claim) (first ∷ names) contents.rows)) =
     subst (λ (ns : List RunName). count_by (is_same_run name) ns + one_if (has_claim name contents.rows) ≤ one_if (has_claim name (all_claimed (claim_of moment claim) ns contents.rows))) (sym is) fact in
-    rw (taken-rows contents moment claim) here
+    at-most _ _ _ _ here (taken-more name contents moment claim)
 
 call-claims : (name : RunName) (at : Setting) (asked : Call) → HaveOwnIds at.state.contents.rows → Claims name at.state.contents at.moment (case_of (form_of asked) at).deed.change
 call-claims name at (NoRoute route) own = claims-none name at.state.contents at.moment
@@ -266,9 +275,7 @@ call-claims name at Ping own = claims-none name at.state.contents at.moment
 call-claims name at (Status id) own =
     let none = claims-none name at.state.contents at.moment in
     each-task (Claims name at.state.contents at.moment) id (row_with id at.state.contents.rows) _ none (λ row. none)
-call-claims name at (CreateTask creation) own =
-    each-create (Claims name at.state.contents at.moment) (bytes_eq creation.definition.task_group_id creation.id) (length creation.definition.dependencies == 0) creation at
-    (claims-none name at.state.contents at.moment) (claims-some name at.state.contents at.moment (at_moment at.moment (Create creation)) refl)
+call-claims name at (CreateTask creation) own = claims-some name at.state.contents at.moment (at_moment at.moment (Create creation)) refl
 call-claims name at (ClaimWork work) own =
     claims-work name at.state.contents at.moment (at.moment + claim_millis at.state.config) work (picks (min work.tasks 32) work.queue at.state.contents.rows) own refl
 call-claims name at (ReclaimTask run) own =
@@ -281,6 +288,9 @@ call-claims name at (ReportRun report) own =
     each-task (Claims name at.state.contents at.moment) report.id (row_with report.id at.state.contents.rows) _ none
     (λ row. each-run (Claims name at.state.contents at.moment) report.id report.run _ (nat_lt report.run (length row.runs)) row none
     (claims-some name at.state.contents at.moment (at_moment at.moment (Resolve report)) refl))
+call-claims name at (ScheduleTask id) own =
+    each-task (Claims name at.state.contents at.moment) id (row_with id at.state.contents.rows) _ (claims-none name at.state.contents at.moment)
+    (λ row. claims-some name at.state.contents at.moment (at_moment at.moment (Schedule id)) refl)
 call-claims name at (RerunTask id) own =
     each-task (Claims name at.state.contents at.moment) id (row_with id at.state.contents.rows) _ (claims-none name at.state.contents at.moment)
     (λ row. claims-some name at.state.contents at.moment (at_moment at.moment (Rerun id)) refl)
@@ -306,18 +316,20 @@ verdict-claims name state asking judgement own verdict = by judgement.change ref
 kind-own : (contents : Contents) (at : ℕ) (kind : Kind) → HaveOwnIds contents.rows → ((creation : Creation) → creation_of_kind kind ≡ Some creation → row_with creation.id contents.rows ≡ None) → HaveOwnIds (after_kind contents at kind).rows
 kind-own contents at Tick own unknown = advance-ids contents at own
 kind-own contents at (Create creation) own unknown =
-    created-ids contents.rows (scheduled contents.next at (new_row creation.id creation.definition)) own (unknown creation refl)
+    created-ids contents.rows (new_row creation.id creation.definition) own (unknown creation refl)
+kind-own contents at (Schedule id) own unknown = rw (change-ids (has_id id) (scheduled contents.next at) (scheduled-later contents.next at) contents.rows) own
 kind-own contents at (Rerun id) own unknown = rw (change-ids (has_id id) (run_again contents.next at) (again-later contents.next at) contents.rows) own
 kind-own contents at (Cancel id) own unknown = rw (change-ids (has_id id) (canceled at) (canceled-later at) contents.rows) own
 kind-own contents at (TakesRuns claim) own unknown = rw (claimed-ids (claim_of at claim) claim.runs contents.rows) own
 kind-own contents at (Reclaim r) own unknown = rw (change-ids (has_id r.id) (reclaimed r.run r.taken_until) (reclaimed-later r.run r.taken_until) contents.rows) own
 kind-own contents at (Resolve r) own unknown =
     rw (change-ids (has_id r.id) (resolved r.run (reason_of r.reason) contents.next at) (resolved-later r.run (reason_of r.reason) contents.next at) contents.rows) own
-kind-own contents at _ own unknown = own
 
 applied-own : (contents : Contents) (change : Change) → HaveOwnIds contents.rows → ((creation : Creation) → creation_of_kind change.kind ≡ Some creation → row_with creation.id contents.rows ≡ None) → HaveOwnIds (applied contents change).rows
 unfolding applied
-applied-own contents change own unknown = kind-own contents change.at change.kind own unknown
+applied-own contents change own unknown =
+    after-holds (λ c. HaveOwnIds c.rows) contents change.at (λ c ids. rw (settled-ids c change.at) ids) change.kind
+    (kind-own contents change.at change.kind own unknown)
 
 changed-own : (state : State) (asking : Asking) (judgement : Judgement) → HaveOwnIds state.contents.rows → IsVerdict state asking judgement → HaveOwnIds (changed state.contents (moment_of state.contents asking) judgement.change).rows
 changed-own state asking judgement own verdict = by judgement.change refl where

@@ -1,16 +1,13 @@
 -- What calls change: nothing, or what their row, their run or the picks of their queue say.
 use Rattle.std.proofs.Common.{ℕ, Bool, true, false, List, [], ◌∷◌, Option, Some, None}
 use Rattle.farm_record.specs.declared.change.Change.{Change}
-use Rattle.farm_record.specs.declared.change.Creation.{Creation}
 use Rattle.farm_record.specs.declared.change.Kind.{Kind}
-use Rattle.farm_record.specs.declared.change.Kind.TheVariants.{Create, Claim as TakesRuns}
+use Rattle.farm_record.specs.declared.change.Kind.TheVariants.{Claim as TakesRuns}
 use Rattle.farm_record.specs.declared.change.RunName.{RunName}
 use Rattle.run_states.specs.Rows.{Row}
 use Rattle.farm_machine.specs.declared.question.WorkRequest.{WorkRequest}
 use Rattle.farm_machine.specs.Calls.ClaimWork.{taking}
-use Rattle.farm_machine.specs.Case.{Setting, Case, of_row, of_run}
-use Rattle.farm_machine.specs.Order.{case_of}
-use Rattle.farm_machine.specs.Verdict.{create_form_where}
+use Rattle.farm_machine.specs.Case.{Case, of_row, of_run}
 use Rattle.farm_machine.specs.Works.{at_moment}
 
 pub each-task : (P : Option Change → Type 0) (id : List ℕ) (row : Option Row) (each : Row → Case) → P None → ((r : Row) → P (each r).deed.change) → P (of_row id each row).deed.change
@@ -20,11 +17,6 @@ each-task P id (Some row) each none some_ = some_ row
 pub each-run : (P : Option Change → Type 0) (id : List ℕ) (run : ℕ) (each : Row → Case) (there : Bool) (row : Row) → P None → P (each row).deed.change → P (of_run id run each there row).deed.change
 each-run P id run each true row none some_ = some_
 each-run P id run each false row none some_ = none
-
-pub each-create : (P : Option Change → Type 0) (own alone : Bool) (creation : Creation) (at : Setting) → P None → P (Some (at_moment at.moment (Create creation))) → P (case_of (create_form_where own alone creation) at).deed.change
-each-create P true true creation at none some_ = some_
-each-create P true false creation at none some_ = none
-each-create P false alone creation at none some_ = none
 
 -- the claim of these runs
 abbrev pub work_kind : ℕ → WorkRequest → List RunName → Kind

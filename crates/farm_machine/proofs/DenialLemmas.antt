@@ -1,26 +1,27 @@
 -- A call that is of its form and names what is there is denied exactly where its caller's scopes do not hold what it asks.
-use Rattle.std.proofs.Common.{◌≡◌, ◌≢◌, ℕ, Bool, true, false, List, [], ◌∷◌, ◌++◌, map, Option, Some, None, bytes_eq, length, ◌==◌, min, nat_le, nat_lt, ◌&&◌, if◌then◌else◌, refl, sym, ap, ◌∙◌, subst, inl, inr}
+use Rattle.std.proofs.Common.{◌≡◌, ◌≢◌, ℕ, Bool, true, false, List, [], ◌∷◌, ◌++◌, map, Option, Some, None, length, ◌==◌, min, nat_le, nat_lt, ◌&&◌, if◌then◌else◌, refl, sym, ap, ◌∙◌, subst, inl, inr}
 use Rattle.scope_sets.specs.Expressions.{Expression, holds, missing, reduced}
 use Rattle.scope_sets.proofs.LawLemmas.{missing_full}
 use Rattle.run_states.specs.Rows.{Row}
 use Rattle.farm_rows.specs.Contents.{row_with}
+use Rattle.farm_rows.specs.Waits.{missing_dependency, early_dependency}
 use Rattle.farm_record.specs.declared.change.Change.{Change}
 use Rattle.farm_record.specs.declared.change.Creation.{Creation}
 use Rattle.task_defs.specs.declared.task_def.TaskDef.{TaskDef}
 use Rattle.farm_machine.specs.declared.question.Call.{Call}
-use Rattle.farm_machine.specs.declared.question.Call.TheVariants.{NoRoute, BadParameter, BadBody, Ping, Status, CreateTask, ClaimWork, ReclaimTask, ReportRun, RerunTask, CancelTask}
+use Rattle.farm_machine.specs.declared.question.Call.TheVariants.{NoRoute, BadParameter, BadBody, Ping, Status, CreateTask, ClaimWork, ReclaimTask, ReportRun, ScheduleTask, RerunTask, CancelTask}
 use Rattle.farm_machine.specs.declared.question.Caller.{Caller}
 use Rattle.farm_machine.specs.declared.reply.Answer.{Answer}
 use Rattle.farm_machine.specs.Access.{Has, HasAccess}
-use Rattle.farm_machine.specs.Calls.CreateTask.{standing}
+use Rattle.farm_machine.specs.Calls.CreateTask.{standing, scheduler_besides, where_found, joining}
 use Rattle.farm_machine.specs.Case.{Setting, Deed, Rule, Case, of_row, of_run}
 use Rattle.farm_machine.specs.Entry.{Asking, Entry, call, finished}
 use Rattle.farm_machine.specs.Judgement.{Judgement, only_answer}
 use Rattle.farm_machine.specs.Laws.{Finished, setting_behind, where_there, asked_policy, DeniesExactly}
 use Rattle.farm_machine.specs.Order.{Form, has_no_route, has_bad_parameter, has_bad_body, asks, case_of, Strikes, full, IsEnded, makes_task, IsFirst, in_order}
-use Rattle.farm_machine.specs.Replies.{insufficient_scopes, farm_full}
+use Rattle.farm_machine.specs.Replies.{bad_dependency, other_scheduler, insufficient_scopes, farm_full}
 use Rattle.farm_machine.specs.State.{State}
-use Rattle.farm_machine.specs.Verdict.{form_of, create_form_where, IsVerdict}
+use Rattle.farm_machine.specs.Verdict.{form_of, IsVerdict}
 use Rattle.farm_machine.proofs.OnceLemmas.{entry-may, entries-config}
 use Rattle.farm_machine.proofs.OrderLemmas.{last_parts, not_refused, lacks_none, asks-lacking, in_order-one}
 
@@ -43,10 +44,19 @@ status-other : (id : List ℕ) (row : Option Row) (each : Row → Case) → ((r 
 status-other id None each others = tt
 status-other id (Some row) each others = others row
 
-create-other : (at : Setting) (own alone : Bool) (creation : Creation) → AreOther (case_of (create_form_where own alone creation) at).rules
-create-other at true true creation = standing-other creation.definition (row_with creation.id at.state.contents.rows) _ (not_denied 400 refl, tt)
-create-other at true false creation = tt
-create-other at false alone creation = tt
+found-other : (tell : List ℕ → Answer) (found : Option (List ℕ)) (rules : List Rule) → ((id : List ℕ) → (tell id).status ≢ 403) → AreOther rules → AreOther (where_found tell found ++ rules)
+found-other tell None rules other others = others
+found-other tell (Some id) rules other others = (other id, others)
+
+found-last : (tell : List ℕ → Answer) (found : Option (List ℕ)) → ((id : List ℕ) → (tell id).status ≢ 403) → AreOther (where_found tell found)
+found-last tell None other = tt
+found-last tell (Some id) other = (other id, tt)
+
+joining-other : (creation : Creation) (rows : List Row) → AreOther (joining creation rows)
+joining-other creation rows =
+    found-other (bad_dependency 16) (missing_dependency creation rows) _ (λ id. not_denied 400 refl)
+    (found-other (bad_dependency 17) (early_dependency creation rows) _ (λ id. not_denied 400 refl)
+    (found-last other_scheduler (scheduler_besides creation rows) (λ kept. not_denied 409 refl)))
 
 run-other : (id : List ℕ) (run : ℕ) (each : Row → Case) (there : Bool) (row : Row) → AreOther (each row).rules → AreOther (of_run id run each there row).rules
 run-other id run each true row others = others
@@ -58,12 +68,14 @@ call-other at (BadParameter parameter) = tt
 call-other at (BadBody fault) = tt
 call-other at Ping = tt
 call-other at (Status id) = status-other id (row_with id at.state.contents.rows) _ (λ row. tt)
-call-other at (CreateTask creation) = create-other at (bytes_eq creation.definition.task_group_id creation.id) (length creation.definition.dependencies == 0) creation
+call-other at (CreateTask creation) =
+    standing-other creation.definition (row_with creation.id at.state.contents.rows) _ (not_denied 400 refl, joining-other creation at.state.contents.rows)
 call-other at (ClaimWork work) = tt
 call-other at (ReclaimTask name) =
     status-other name.id (row_with name.id at.state.contents.rows) _ (λ row. run-other name.id name.run _ (nat_lt name.run (length row.runs)) row (not_denied 409 refl, tt))
 call-other at (ReportRun report) =
     status-other report.id (row_with report.id at.state.contents.rows) _ (λ row. run-other report.id report.run _ (nat_lt report.run (length row.runs)) row (not_denied 200 refl, (not_denied 409 refl, tt)))
+call-other at (ScheduleTask id) = status-other id (row_with id at.state.contents.rows) _ (λ row. (not_denied 200 refl, tt))
 call-other at (RerunTask id) =
     status-other id (row_with id at.state.contents.rows) _ (λ row. (not_denied 200 refl, (not_denied 409 refl, (not_denied 409 refl, (not_denied 409 refl, tt)))))
 call-other at (CancelTask id) = status-other id (row_with id at.state.contents.rows) _ (λ row. (not_denied 200 refl, tt))

@@ -23,12 +23,14 @@ use Rattle.farm_rows.specs.Picks.{picks}
 use Rattle.farm_rows.proofs.DueLemmas.{any_none}
 use Rattle.farm_machine.specs.declared.config.Config.{Config}
 use Rattle.farm_machine.specs.declared.question.Call.{Call}
-use Rattle.farm_machine.specs.declared.question.Call.TheVariants.{NoRoute, BadParameter, BadBody, Ping, Status, CreateTask, ClaimWork, ReclaimTask, ReportRun, RerunTask, CancelTask}
+use Rattle.farm_machine.specs.declared.question.Call.TheVariants.{NoRoute, BadParameter, BadBody, Ping, Status, CreateTask, ClaimWork, ReclaimTask, ReportRun, ScheduleTask, RerunTask, CancelTask}
 use Rattle.farm_machine.specs.Calls.CancelTask.{cancel_task}
 use Rattle.farm_machine.specs.Calls.ClaimWork.{claim_work}
+use Rattle.farm_machine.specs.Calls.CreateTask.{create_task}
 use Rattle.farm_machine.specs.Calls.ReclaimTask.{reclaim_task}
 use Rattle.farm_machine.specs.Calls.ReportRun.{report_run}
 use Rattle.farm_machine.specs.Calls.RerunTask.{rerun_task}
+use Rattle.farm_machine.specs.Calls.ScheduleTask.{schedule_task}
 use Rattle.farm_machine.specs.Calls.Status.{status}
 use Rattle.farm_machine.specs.Case.{Setting, Deed, when, IsFirstRule}
 use Rattle.farm_machine.specs.Config.{claim_millis}
@@ -40,10 +42,10 @@ use Rattle.farm_machine.specs.Replies.{tells_status, conflict}
 use Rattle.farm_machine.specs.RunLaws.{run_in}
 use Rattle.farm_machine.specs.State.{State, empty_state}
 use Rattle.farm_machine.specs.Step.{farm_rules}
-use Rattle.farm_machine.specs.Verdict.{form_of, create_form_where, setting_of, IsVerdict}
+use Rattle.farm_machine.specs.Verdict.{form_of, setting_of, IsVerdict}
 use Rattle.farm_machine.specs.Works.{at_moment}
 use Rattle.farm_machine.proofs.ChangeLemmas.{change-done}
-use Rattle.farm_machine.proofs.DeedLemmas.{each-task, each-run, each-create, each-work}
+use Rattle.farm_machine.proofs.DeedLemmas.{each-task, each-run, each-work}
 use Rattle.farm_machine.proofs.LastRunLemmas.{is_sound, are_sound, runs-at, open-last, entries-sound}
 use Rattle.farm_machine.proofs.MayLemmas.{no_not, passed}
 use Rattle.farm_machine.proofs.OnceLemmas.{entry-may}
@@ -99,10 +101,7 @@ call-reports at (BadBody fault) judgement report rules is reports = absurd (no-r
 call-reports at Ping judgement report rules is reports = absurd (no-report judgement report (case_of (form_of Ping) at).deed at refl is reports)
 call-reports at (Status id) judgement report rules is reports =
     absurd (no-report judgement report (status id at).deed at (each-task Quiet id (row_with id at.state.contents.rows) _ refl (λ row. refl)) is reports)
-call-reports at (CreateTask creation) judgement report rules is reports =
-    let own : Bool = bytes_eq creation.definition.task_group_id creation.id in
-    let alone : Bool = length creation.definition.dependencies == 0 in
-    absurd (no-report judgement report (case_of (create_form_where own alone creation) at).deed at (each-create Quiet own alone creation at refl refl) is reports)
+call-reports at (CreateTask creation) judgement report rules is reports = absurd (no-report judgement report (create_task creation at).deed at refl is reports)
 call-reports at (ClaimWork work) judgement report rules is reports =
     absurd (no-report judgement report (claim_work work at).deed at
     (each-work Quiet at.moment (at.moment + claim_millis at.state.config) work (picks (min work.tasks 32) work.queue at.state.contents.rows) refl refl) is reports)
@@ -110,6 +109,8 @@ call-reports at (ReclaimTask name) judgement report rules is reports =
     absurd (no-report judgement report (reclaim_task name at).deed at
     (each-task Quiet name.id (row_with name.id at.state.contents.rows) _ refl (λ row. each-run Quiet name.id name.run _ (nat_lt name.run (length row.runs)) row refl refl)) is reports)
 call-reports at (ReportRun asked) judgement report rules is reports = run-reports at asked judgement report rules is reports
+call-reports at (ScheduleTask id) judgement report rules is reports =
+    absurd (no-report judgement report (schedule_task id at).deed at (each-task Quiet id (row_with id at.state.contents.rows) _ refl (λ row. refl)) is reports)
 call-reports at (RerunTask id) judgement report rules is reports =
     absurd (no-report judgement report (rerun_task id at).deed at (each-task Quiet id (row_with id at.state.contents.rows) _ refl (λ row. refl)) is reports)
 call-reports at (CancelTask id) judgement report rules is reports =

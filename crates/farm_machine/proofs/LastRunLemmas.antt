@@ -1,5 +1,5 @@
 -- Of each task that a farm made, every run but the last has ended, whatever comes.
-use Rattle.std.proofs.Common.{◌≡◌, ℕ, zero, suc, ◌-◌, Bool, true, false, ◌&&◌, cond, List, [], ◌∷◌, ◌++◌, length, Option, Some, None, is_some, is_none, option_and_then, slice_get, nat_lt, refl, ap, sym, ◌∙◌}
+use Rattle.std.proofs.Common.{◌≡◌, ℕ, zero, suc, ◌+◌, ◌-◌, Bool, true, false, ◌&&◌, cond, List, [], ◌∷◌, ◌++◌, length, Option, Some, None, is_some, is_none, option_and_then, slice_get, nat_lt, refl, ap, sym, ◌∙◌}
 use Rattle.std.specs.List.{last_or, list_all, list_any}
 use Rattle.std.specs.Option.{option_map_or}
 use Rattle.std.proofs.lemmas.Bool.{and_parts, and_from}
@@ -7,7 +7,7 @@ use Rattle.std.proofs.lemmas.List.Folds.{list_all-append}
 use Rattle.history.specs.Histories.{end_state}
 use Rattle.farm_record.specs.declared.change.Change.{Change}
 use Rattle.farm_record.specs.declared.change.Kind.{Kind}
-use Rattle.farm_record.specs.declared.change.Kind.TheVariants.{Tick, Create, Rerun, Cancel, Claim as TakesRuns, Reclaim, Resolve}
+use Rattle.farm_record.specs.declared.change.Kind.TheVariants.{Tick, Create, Schedule, Rerun, Cancel, Claim as TakesRuns, Reclaim, Resolve}
 use Rattle.farm_record.specs.declared.change.RunName.{RunName}
 use Rattle.run_states.specs.declared.reasons.ReasonCreated.{ReasonCreated}
 use Rattle.run_states.specs.declared.reasons.ReasonCreated.TheVariants.{Rerun as MadeByRerun}
@@ -18,14 +18,16 @@ use Rattle.run_states.specs.declared.run.Outcome.{Outcome}
 use Rattle.run_states.specs.declared.run.Run.{Run}
 use Rattle.run_states.specs.Reasons.{retry_after}
 use Rattle.run_states.specs.Runs.{is_running_run, run_due, taken, kept, ended, change_last, change_at, pending_run}
-use Rattle.run_states.specs.Rows.{Row, has_ended, is_resolved, is_pending, is_running_at, loses_claim, runs_finished, finished, exceeded, new_row, scheduled}
+use Rattle.run_states.specs.Rows.{Row, has_ended, is_resolved, is_pending, is_running_at, loses_claim, first_run, runs_finished, finished, exceeded, new_row, scheduled}
 use Rattle.run_states.specs.Moves.{claimed, reclaimed, retried, followed, closed, resolved, expired, canceled, may_rerun, run_again}
 use Rattle.run_states.proofs.ClaimLemmas.{claim-open}
 use Rattle.run_states.proofs.RunLemmas.{get-last}
 use Rattle.farm_rows.specs.Contents.{Contents}
 use Rattle.farm_rows.specs.Due.{meets_deadline, change_first, resolved_at, after_first, turn, turns, first_due, all_due_moments, advance}
 use Rattle.farm_rows.specs.Changes.{has_id, reason_of, change_row, claim_of, all_claimed, after_kind, applied}
+use Rattle.farm_rows.specs.Ready.{is_ready, started, settled}
 use Rattle.farm_rows.proofs.DueLemmas.{loses}
+use Rattle.farm_rows.proofs.IdLemmas.{after-holds}
 use Rattle.farm_machine.specs.Changes.{changed, moment_of}
 use Rattle.farm_machine.specs.Entry.{Entry, tick, call, finished as Finished, out_of_memory}
 use Rattle.farm_machine.specs.State.{State}
@@ -123,7 +125,13 @@ finished-sound reason at row sound = either (is_resolved row) row (record row { 
   of_runs [] past = refl
   of_runs (run ∷ runs) past = last-past (ended reason at) (run ∷ runs) past
 
-claimed-sound : (claim : Claim) (row : Row) → is_sound row ≡ true → is_sound (claimed claim row) ≡ true
+scheduled-sound : (number at : ℕ) (row : Row) → is_sound row ≡ true → is_sound (scheduled number at row) ≡ true
+scheduled-sound number at row sound = of_runs row.runs sound where
+  of_runs : (runs : List Run) → are_past runs ≡ true → are_past (first_run number at runs) ≡ true
+  of_runs [] past = refl
+  of_runs (run ∷ runs) past = past
+
+pub claimed-sound : (claim : Claim) (row : Row) → is_sound row ≡ true → is_sound (claimed claim row) ≡ true
 claimed-sound claim row sound = either (is_pending row) (record row { runs = change_last (taken claim) row.runs }) row (λ is. last-past (taken claim) row.runs sound) (λ is. sound)
 
 reclaimed-sound : (number moment : ℕ) (row : Row) → is_sound row ≡ true → is_sound (reclaimed number moment row) ≡ true
@@ -197,7 +205,7 @@ either-rows : (b : Bool) (one other : List Row) → are_sound one ≡ true → a
 either-rows true one other holds fails = holds
 either-rows false one other holds fails = fails
 
-change-sound : (test : Row → Bool) (f : Row → Row) → ((row : Row) → is_sound row ≡ true → is_sound (f row) ≡ true) → (rows : List Row) → are_sound rows ≡ true → are_sound (change_first test f rows) ≡ true
+pub change-sound : (test : Row → Bool) (f : Row → Row) → ((row : Row) → is_sound row ≡ true → is_sound (f row) ≡ true) → (rows : List Row) → are_sound rows ≡ true → are_sound (change_first test f rows) ≡ true
 change-sound test f keeps [] all = refl
 change-sound test f keeps (row ∷ rows) all =
     let parts = and_parts (is_sound row) (are_sound rows) all in
@@ -208,6 +216,18 @@ taken-sound : (claim : Claim) (names : List RunName) (rows : List Row) → are_s
 taken-sound claim [] rows all = all
 taken-sound claim (name ∷ names) rows all =
     taken-sound claim names (change_row name.id (claimed claim) rows) (change-sound (has_id name.id) (claimed claim) (claimed-sound claim) rows all)
+
+started-sound : (test : Row → Bool) (number at : ℕ) (rows : List Row) → are_sound rows ≡ true → are_sound (started test number at rows) ≡ true
+started-sound test number at [] all = refl
+started-sound test number at (row ∷ rows) all =
+    let parts = and_parts (is_sound row) (are_sound rows) all in
+    either-rows (test row) (scheduled number at row ∷ started test (number + 1) at rows) (row ∷ started test number at rows)
+    (and_from (is_sound (scheduled number at row)) (are_sound (started test (number + 1) at rows)) (scheduled-sound number at row parts.0) (started-sound test (number + 1) at rows parts.1))
+    (and_from (is_sound row) (are_sound (started test number at rows)) parts.0 (started-sound test number at rows parts.1))
+
+settled-sound : (contents : Contents) (at : ℕ) → are_sound contents.rows ≡ true → are_sound (settled contents at).rows ≡ true
+unfolding settled
+settled-sound contents at all = started-sound (is_ready contents.rows) contents.next at contents.rows all
 
 -- ---- what falls due
 
@@ -220,9 +240,9 @@ resolved-at-sound contents at all =
     either-contents (list_any (meets_deadline at) contents.rows) _ _ (change-sound (meets_deadline at) (exceeded at) (finished-sound DeadlineExceeded at) contents.rows all)
     (change-sound (loses_claim at) (expired contents.next at) (expired-sound contents.next at) contents.rows all)
 
-first-sound : (contents : Contents) (first : Option ℕ) → are_sound contents.rows ≡ true → are_sound (after_first contents first).rows ≡ true
+pub first-sound : (contents : Contents) (first : Option ℕ) → are_sound contents.rows ≡ true → are_sound (after_first contents first).rows ≡ true
 first-sound contents None all = all
-first-sound contents (Some at) all = resolved-at-sound contents at all
+first-sound contents (Some at) all = settled-sound (resolved_at contents at) at (resolved-at-sound contents at all)
 
 turns-sound : (count moment : ℕ) (contents : Contents) → are_sound contents.rows ≡ true → are_sound (turns count moment contents).rows ≡ true
 turns-sound zero moment contents all = all
@@ -237,25 +257,28 @@ advance-sound contents moment all = turns-sound (length (all_due_moments content
 kind-sound : (contents : Contents) (at : ℕ) (kind : Kind) → are_sound contents.rows ≡ true → are_sound (after_kind contents at kind).rows ≡ true
 kind-sound contents at Tick all = advance-sound contents at all
 kind-sound contents at (Create creation) all =
-    let new : Row = scheduled contents.next at (new_row creation.id creation.definition) in
+    let new : Row = new_row creation.id creation.definition in
     list_all-append is_sound contents.rows (new ∷ []) ∙ and_from (are_sound contents.rows) (are_sound (new ∷ [])) all refl
+kind-sound contents at (Schedule id) all =
+    change-sound (has_id id) (scheduled contents.next at) (scheduled-sound contents.next at) contents.rows all
 kind-sound contents at (Rerun id) all = change-sound (has_id id) (run_again contents.next at) (again-sound contents.next at) contents.rows all
 kind-sound contents at (Cancel id) all = change-sound (has_id id) (canceled at) (finished-sound Canceled at) contents.rows all
 kind-sound contents at (TakesRuns claim) all = taken-sound (claim_of at claim) claim.runs contents.rows all
 kind-sound contents at (Reclaim r) all = change-sound (has_id r.id) (reclaimed r.run r.taken_until) (reclaimed-sound r.run r.taken_until) contents.rows all
 kind-sound contents at (Resolve r) all =
     change-sound (has_id r.id) (resolved r.run (reason_of r.reason) contents.next at) (resolved-sound r.run (reason_of r.reason) contents.next at) contents.rows all
-kind-sound contents at _ all = all
 
 applied-sound : (contents : Contents) (change : Change) → are_sound contents.rows ≡ true → are_sound (applied contents change).rows ≡ true
 unfolding applied
-applied-sound contents change all = kind-sound contents change.at change.kind all
+applied-sound contents change all =
+    after-holds (λ c. are_sound c.rows ≡ true) contents change.at (λ c sound. settled-sound c change.at sound) change.kind
+    (kind-sound contents change.at change.kind all)
 
 changed-sound : (contents : Contents) (moment : ℕ) (change : Option Change) → are_sound contents.rows ≡ true → are_sound (changed contents moment change).rows ≡ true
 changed-sound contents moment None all = all
 changed-sound contents moment (Some change) all = applied-sound contents change all
 
-entry-sound : (state : State) (entry : Entry) → are_sound state.contents.rows ≡ true → are_sound (after state entry).contents.rows ≡ true
+pub entry-sound : (state : State) (entry : Entry) → are_sound state.contents.rows ≡ true → are_sound (after state entry).contents.rows ≡ true
 entry-sound state (tick moment) all = advance-sound state.contents moment all
 entry-sound state (call asking out_of_memory) all = all
 entry-sound state (call asking (Finished judgement)) all = changed-sound state.contents (moment_of state.contents asking) judgement.change all

@@ -1,5 +1,4 @@
 pub mod AccessLemmas
-pub mod AloneLemmas
 pub mod ChangeLemmas
 pub mod DenialLemmas
 pub mod ExpressionLemmas
@@ -12,6 +11,9 @@ pub mod StepLemmas
 pub mod VerdictLemmas
 pub mod MakeLemmas
 pub mod MayLemmas
+pub mod JoinLemmas
+mod ReadyLawLemmas
+mod ServedLemmas
 pub mod WorkLemmas
 mod EqualLemmas
 mod LastRunLemmas

@@ -5,7 +5,7 @@ use Rattle.farm_text.specs.Doc.{document}
 use Rattle.farm_text.specs.declared.doc.Doc.{Doc}
 use Rattle.farm_text.specs.declared.moment.TheConstants.{LAST_TOLD_MOMENT}
 use Rattle.farm_record.specs.declared.change.Kind.{Kind}
-use Rattle.farm_record.specs.declared.change.Kind.TheVariants.{Rerun, Cancel, Claim as TakesRuns, Reclaim, Resolve}
+use Rattle.farm_record.specs.declared.change.Kind.TheVariants.{Schedule, Rerun, Cancel, Claim as TakesRuns, Reclaim, Resolve}
 use Rattle.farm_record.specs.declared.change.Resolution.{Resolution}
 use Rattle.farm_record.specs.declared.change.RunName.{RunName}
 use Rattle.run_states.specs.Rows.{Row, is_unscheduled, is_resolved, is_running_at}
@@ -23,6 +23,7 @@ use Rattle.farm_machine.specs.Calls.ClaimWork.{claim_work}
 use Rattle.farm_machine.specs.Calls.ReclaimTask.{reclaim_task}
 use Rattle.farm_machine.specs.Calls.ReportRun.{report_run}
 use Rattle.farm_machine.specs.Calls.RerunTask.{rerun_task}
+use Rattle.farm_machine.specs.Calls.ScheduleTask.{schedule_task}
 use Rattle.farm_machine.specs.Absent.{absent_run}
 use Rattle.farm_machine.specs.Case.{Setting, Deed, Rule, when, Case, passing, of_row, of_run, on_run, reading, IsFirstRule}
 use Rattle.farm_machine.specs.Changes.{changed}
@@ -32,7 +33,7 @@ use Rattle.farm_machine.specs.Replies.{tells_status, conflict}
 use Rattle.farm_machine.specs.Works.{work_body, at_moment}
 
 -- what is no truth is false
-no_truth : (b : Bool) → ¬ IsTrue b → b ≡ false
+pub no_truth : (b : Bool) → ¬ IsTrue b → b ≡ false
 no_truth true no_ = absurd (no_ refl)
 no_truth false no_ = refl
 
@@ -46,7 +47,7 @@ passed test answer rules (inl p) = let no_ = p.1 in cc
 passed test answer rules (inr p) = p
 
 -- where a call is ready, a change of a kind that may be is one that may be made
-may-all : (at : Setting) (kind : Kind) → IsReady at → may_be at.state.contents at.moment kind ≡ true → may_apply at.state.contents (at_moment at.moment kind) ≡ true
+pub may-all : (at : Setting) (kind : Kind) → IsReady at → may_be at.state.contents at.moment kind ≡ true → may_apply at.state.contents (at_moment at.moment kind) ≡ true
 may-all at kind ready be =
     rw (le-leb at.state.contents.last at.moment ready.later, le-leb at.moment LAST_TOLD_MOMENT ready.told, ready.nothing_due, be) refl
 
@@ -67,6 +68,15 @@ cancel-deed id at ready there unruled = by (row_with id at.state.contents.rows) 
       let open_ : is_resolved row ≡ false = no_truth (is_resolved row) (passed (is_resolved row) _ [] (rw is at unruled)).0 in
       let be : may_be at.state.contents at.moment (Cancel id) ≡ true = rw (is, open_) refl in
       (rw is refl, λ free. may-all at (Cancel id) ready be)
+
+pub schedule-deed : (id : List ℕ) (at : Setting) → IsReady at → (schedule_task id at).absent ≡ None → IsFirstRule (schedule_task id at).rules None → IsDeed at (schedule_task id at).deed (Changes (Schedule id))
+schedule-deed id at ready there unruled = by (row_with id at.state.contents.rows) refl where
+  by : (o : Option Row) → row_with id at.state.contents.rows ≡ o → IsDeed at (schedule_task id at).deed (Changes (Schedule id))
+  by None is = let none = rw is at there in cc
+  by (Some row) is =
+      let free_ : is_unscheduled row ≡ true = no_not (is_unscheduled row) (passed (not (is_unscheduled row)) _ [] (rw is at unruled)).0 in
+      let be : may_be at.state.contents at.moment (Schedule id) ≡ true = rw (is, free_) refl in
+      (rw is refl, λ free. may-all at (Schedule id) ready be)
 
 pub rerun-deed : (id : List ℕ) (at : Setting) → IsReady at → (rerun_task id at).absent ≡ None → IsFirstRule (rerun_task id at).rules None → IsDeed at (rerun_task id at).deed (Changes (Rerun id))
 rerun-deed id at ready there unruled = by (row_with id at.state.contents.rows) refl where

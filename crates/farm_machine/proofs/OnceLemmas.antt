@@ -1,5 +1,5 @@
 -- A task is created once, and a createTask of it that comes again is answered with its status.
-use Rattle.std.proofs.Common.{◌≡◌, ℕ, ◌≤◌, Bool, true, false, IsTrue, List, [], ◌∷◌, ◌++◌, ◌==◌, length, Option, Some, None, is_some, bytes_eq, refl, sym, ap, ◌∙◌, subst, inl, arith}
+use Rattle.std.proofs.Common.{◌≡◌, ℕ, ◌≤◌, Bool, true, false, IsTrue, List, [], ◌∷◌, ◌++◌, length, Option, Some, None, is_some, bytes_eq, refl, sym, ap, ◌∙◌, subst, inl, arith}
 use Rattle.std.proofs.lemmas.List.Folds.{find-append}
 use Rattle.std.proofs.lemmas.Slice.Eq.{bytes_eq-Decides}
 use Rattle.history.specs.Histories.{IsLegal, end_state}
@@ -9,16 +9,17 @@ use Rattle.call_rules.specs.Policy.{create_policy}
 use Rattle.farm_text.specs.Document.{document_text}
 use Rattle.farm_record.specs.declared.change.Change.{Change}
 use Rattle.farm_record.specs.declared.change.Creation.{Creation}
-use Rattle.run_states.specs.Rows.{Row, new_row, scheduled}
+use Rattle.run_states.specs.Rows.{Row, new_row}
 use Rattle.run_states.specs.Later.{RowsLater}
 use Rattle.run_states.proofs.LaterLemmas.{RowsLater-refl, RowsLater-trans}
 use Rattle.farm_rows.specs.Contents.{Contents, row_with}
-use Rattle.farm_rows.specs.Changes.{creating, applied}
+use Rattle.farm_rows.specs.Changes.{creating, created, applied}
+use Rattle.farm_rows.specs.Ready.{settled}
 use Rattle.farm_rows.proofs.AdvanceLemmas.{advance-stays}
 use Rattle.farm_rows.proofs.IdLemmas.{applied-stays}
+use Rattle.farm_rows.proofs.ReadyLemmas.{settled-stays}
 use Rattle.farm_machine.specs.declared.question.Call.{Call}
 use Rattle.farm_machine.specs.declared.question.Call.TheVariants.{CreateTask}
-use Rattle.farm_machine.specs.declared.question.Caller.{Caller}
 use Rattle.farm_machine.specs.Access.{Has, HasAccess}
 use Rattle.farm_machine.specs.Calls.CreateTask.{standing, create_task}
 use Rattle.farm_machine.specs.Case.{Setting, Rule, IsFirstRule}
@@ -26,11 +27,11 @@ use Rattle.farm_machine.specs.Changes.{changed, moment_of}
 use Rattle.farm_machine.specs.Entry.{Asking, Entry, tick, call, finished, out_of_memory}
 use Rattle.farm_machine.specs.Judgement.{Judgement, only_answer}
 use Rattle.farm_machine.specs.Laws.{Finished, setting_behind, created_by, has_id, creations}
-use Rattle.farm_machine.specs.Order.{asks, IsFirst, in_order}
+use Rattle.farm_machine.specs.Order.{IsFirst, in_order}
 use Rattle.farm_machine.specs.Replies.{ok, status_body}
 use Rattle.farm_machine.specs.State.{State}
 use Rattle.farm_machine.specs.Step.{lawful, after, farm_rules}
-use Rattle.farm_machine.specs.Verdict.{form_of, create_form_where, setting_of, IsVerdict}
+use Rattle.farm_machine.specs.Verdict.{form_of, setting_of, IsVerdict}
 use Rattle.farm_machine.proofs.ChangeLemmas.{Creates, verdict-creates}
 use Rattle.farm_machine.proofs.OrderLemmas.{asks-ruled, in_order-one}
 
@@ -79,11 +80,18 @@ found-later id (r ∷ rows) (s ∷ later) row stays is = by (found-later id rows
 bytes_eq-refl : (bs : List ℕ) → bytes_eq bs bs ≡ true
 bytes_eq-refl bs = (bytes_eq-Decides bs bs).1 refl
 
-created-found : (contents : Contents) (at : ℕ) (creation : Creation) → row_with creation.id contents.rows ≡ None → row_with creation.id (applied contents (creating at creation)).rows ≡ Some (scheduled contents.next at (new_row creation.id creation.definition))
+-- a task that is created stands, with its definition
+abbrev IsMade : Contents → Creation → Type 0
+IsMade contents creation = (row : Row) × (row_with creation.id contents.rows ≡ Some row) × (row.definition ≡ creation.definition)
+
+created-found : (contents : Contents) (at : ℕ) (creation : Creation) → row_with creation.id contents.rows ≡ None → IsMade (applied contents (creating at creation)) creation
 unfolding applied
 created-found contents at creation unknown =
-    let new = scheduled contents.next at (new_row creation.id creation.definition) in
-    find-append (λ (row : Row). bytes_eq row.id creation.id) contents.rows (new ∷ []) ∙ rw (unknown, bytes_eq-refl creation.id) refl
+    let new = new_row creation.id creation.definition in
+    let made = created contents at creation in
+    let there : row_with creation.id made.rows ≡ Some new =
+    find-append (λ (row : Row). bytes_eq row.id creation.id) contents.rows (new ∷ []) ∙ rw (unknown, bytes_eq-refl creation.id) refl in
+    found-later creation.id made.rows (settled made at).rows new (settled-stays made at) there
 
 -- an entry that created a task is a finished call
 pub record Created (state : State) (entry : Entry) (creation : Creation) : Type 0 where
@@ -91,7 +99,7 @@ pub record Created (state : State) (entry : Entry) (creation : Creation) : Type 
   pub judgement : Judgement
   pub is : entry ≡ call asking (finished judgement)
   pub creates : Creates (setting_of state asking) asking.call judgement creation
-  pub found : row_with creation.id (after state entry).contents.rows ≡ Some (scheduled state.contents.next (moment_of state.contents asking) (new_row creation.id creation.definition))
+  pub found : IsMade (after state entry).contents creation
 
 entry-creates : (state : State) (entry : Entry) (creation : Creation) → lawful state entry → created_by entry ≡ Some creation → Created state entry creation
 entry-creates state (tick moment) creation may is = cc
@@ -137,7 +145,7 @@ creation-new id state entry may is =
     let some = creation-of id (created_by entry) is in
     let made = entry-creates state entry some.0 may some.1 in
     let before : stands some.0.id state ≡ false = ap is_some made.creates.unknown in
-    let behind : stands some.0.id (after state entry) ≡ true = ap is_some made.found in
+    let behind : stands some.0.id (after state entry) ≡ true = ap is_some made.found.1 in
     (subst (λ (i : List ℕ). stands i state ≡ false) some.2 before, subst (λ (i : List ℕ). stands i (after state entry) ≡ true) some.2 behind)
 
 most-one : (test : Bool) → most test ≤ 1
@@ -169,12 +177,6 @@ created-once opening history id legal = by (stands id opening) (creations-few id
 
 -- ---- an equal createTask that comes again
 
--- a createTask of a task that is its own group and waits for none is judged as its case says
-create-first : (at : Setting) (caller : Caller) (creation : Creation) (own alone : Bool) (judgement : Judgement) → own ≡ true → alone ≡ true → IsFirst (in_order at caller (asks (create_task creation))) judgement → IsFirst (in_order at caller (create_form_where own alone creation)) judgement
-create-first at caller creation true true judgement own alone first = first
-create-first at caller creation true false judgement own alone first = cc
-create-first at caller creation false alone judgement own alone_is first = cc
-
 missing-none : (scopes : List (List ℕ)) (policy : Expression) → IsTrue (holds scopes policy) → missing scopes policy ≡ None
 missing-none scopes policy held = rw held refl
 
@@ -185,15 +187,14 @@ again-ruled (Some x) r creation rules is same =
     let one : x ≡ r = cc in
     inl (ap (λ (y : Row). y.definition) one ∙ same, ap (λ (y : Row). Some (ok (document_text (status_body y)))) (sym one))
 
-again-first : (state : State) (asking : Asking) (creation : Creation) (judgement : Judgement) (scopes : List (List ℕ)) (row : Row) → asking.call ≡ CreateTask creation → bytes_eq creation.definition.task_group_id creation.id ≡ true → (length creation.definition.dependencies == 0) ≡ true → HasAccess state.config (setting_of state asking).moment asking.caller (Has scopes) → IsTrue (holds scopes (create_policy creation.definition)) → row_with creation.id state.contents.rows ≡ Some row → row.definition ≡ creation.definition → IsVerdict state asking judgement → judgement ≡ only_answer (ok (document_text (status_body row)))
+again-first : (state : State) (asking : Asking) (creation : Creation) (judgement : Judgement) (scopes : List (List ℕ)) (row : Row) → asking.call ≡ CreateTask creation → HasAccess state.config (setting_of state asking).moment asking.caller (Has scopes) → IsTrue (holds scopes (create_policy creation.definition)) → row_with creation.id state.contents.rows ≡ Some row → row.definition ≡ creation.definition → IsVerdict state asking judgement → judgement ≡ only_answer (ok (document_text (status_body row)))
 unfolding IsVerdict
-again-first state asking creation judgement scopes row called own alone has held found same verdict =
+again-first state asking creation judgement scopes row called has held found same verdict =
     let at = setting_of state asking in
     let answer = ok (document_text (status_body row)) in
     let ruled = asks-ruled at asking.caller (create_task creation) scopes answer has refl (missing-none scopes (create_policy creation.definition) held) (again-ruled (row_with creation.id state.contents.rows) row creation _ found same) in
-    let first : IsFirst (in_order at asking.caller (form_of (CreateTask creation))) (only_answer answer) = create-first at asking.caller creation (bytes_eq creation.definition.task_group_id creation.id) (length creation.definition.dependencies == 0) (only_answer answer) own alone ruled in
     let judged : IsFirst (in_order at asking.caller (form_of (CreateTask creation))) judgement = subst (λ (c : Call). IsFirst (in_order at asking.caller (form_of c)) judgement) called verdict in
-    in_order-one at asking.caller (form_of (CreateTask creation)) judgement (only_answer answer) judged first
+    in_order-one at asking.caller (form_of (CreateTask creation)) judgement (only_answer answer) judged ruled
 
 -- the entry at a place of a legal history may come there
 pub entry-may : (opening : State) (before after : List Entry) (entry : Entry) → IsLegal farm_rules opening (before ++ entry ∷ after) → lawful (end_state farm_rules opening before) entry
@@ -212,11 +213,10 @@ answers-again opening before between later first creation asking judgement scope
     let now = end_state farm_rules opening history in
     let legal = IsLegal-front farm_rules opening history (call asking (finished judgement) ∷ later) is.legal in
     let made = entry-creates state first creation (entry-may opening before between first legal) creates in
-    let new = scheduled state.contents.next (moment_of state.contents made.asking) (new_row creation.id creation.definition) in
     let stays : RowsLater (after state first).contents.rows now.contents.rows =
     rw (end_state-append farm_rules opening before (first ∷ between)) (entries-stay (after state first) between) in
-    let found = found-later creation.id (after state first).contents.rows now.contents.rows new stays made.found in
+    let found = found-later creation.id (after state first).contents.rows now.contents.rows made.found.0 stays made.found.1 in
     let may = entry-may opening history later (call asking (finished judgement)) is.legal in
     let access : HasAccess now.config (setting_of now asking).moment asking.caller (Has scopes) = rw (entries-config opening history) has in
-    let answered = again-first now asking creation judgement scopes found.0 called made.creates.own made.creates.alone access held found.1 found.2 may.became in
-    (found.0, found.1, found.2, answered)
+    let answered = again-first now asking creation judgement scopes found.0 called access held found.1 (found.2 ∙ made.found.2) may.became in
+    (found.0, found.1, found.2 ∙ made.found.2, answered)

@@ -6,4 +6,5 @@ pub mod Ping
 pub mod ReclaimTask
 pub mod ReportRun
 pub mod RerunTask
+pub mod ScheduleTask
 pub mod Status

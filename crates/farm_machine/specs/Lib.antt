@@ -13,6 +13,7 @@ pub mod Law
 pub mod Laws
 pub mod Order
 pub mod Planned
+pub mod ReadyLaws
 pub mod Refused
 pub mod Replies
 pub mod RunLaws

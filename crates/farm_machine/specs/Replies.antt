@@ -1,6 +1,7 @@
 -- The bodies of replies, as JSON with its keys rising (RFC 8259), and their statuses (RFC 9110).
 use Rattle.std.specs.Prelude.{ℕ, List, [], ◌∷◌, codes, true, pos}
 use Rattle.scope_sets.specs.Expressions.{Expression}
+use Rattle.farm_text.specs.Slug.{slug_text}
 use Rattle.farm_text.specs.Document.{Document, boolean, whole, text, object, Members, no_members, members_of, document_text}
 use Rattle.farm_machine.specs.Expressions.{document_of}
 use Rattle.run_states.specs.Rows.{Row}
@@ -57,6 +58,10 @@ bad_body NoReason = input_error ((codes "rule", whole (pos 24)) ∷ [])
 abbrev pub too_late : Answer
 too_late = input_error ((codes "rule", whole (pos 15)) ∷ [])
 
+-- a task that a new one waits for breaks this rule
+abbrev pub bad_dependency : ℕ → List ℕ → Answer
+bad_dependency rule id = input_error ((codes "name", text (slug_text id)) ∷ (codes "rule", whole (pos rule)) ∷ [])
+
 -- the status of a task, as the body of an answer
 abbrev pub status_body : Row → Document
 status_body row = object (members_of ((codes "status", status_of row) ∷ []))
@@ -71,6 +76,14 @@ conflict rule row =
     record {
       status = 409;
       body = error_text (codes "RequestConflict") (members_of ((codes "rule", whole (pos rule)) ∷ (codes "status", status_of row) ∷ [])) (codes "the state forbids it");
+    }
+
+-- the tasks of the group have this scheduler, and not the new task's
+abbrev pub other_scheduler : List ℕ → Answer
+other_scheduler kept =
+    record {
+      status = 409;
+      body = error_text (codes "RequestConflict") (members_of ((codes "rule", whole (pos 2)) ∷ (codes "schedulerId", text kept) ∷ [])) (codes "the state forbids it");
     }
 
 -- the farm has as many tasks as it takes

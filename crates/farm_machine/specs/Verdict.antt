@@ -1,11 +1,9 @@
 -- What a call is answered and what it changes: the table of calls, and the verdict in the one order of refusals.
-use Rattle.std.specs.Prelude.{ℕ, ◌==◌, Bool, true, false, List, length, codes, bytes_eq}
+use Rattle.std.specs.Prelude.{ℕ, List, codes}
 use Rattle.farm_machine.specs.declared.question.Call.{Call}
-use Rattle.farm_machine.specs.declared.question.Call.TheVariants.{NoRoute, BadParameter, BadBody, Ping, Status, CreateTask, ClaimWork, ReclaimTask, ReportRun, RerunTask, CancelTask}
+use Rattle.farm_machine.specs.declared.question.Call.TheVariants.{NoRoute, BadParameter, BadBody, Ping, Status, CreateTask, ClaimWork, ReclaimTask, ReportRun, ScheduleTask, RerunTask, CancelTask}
 use Rattle.farm_machine.specs.declared.question.Parameter.{Parameter}
 use Rattle.farm_machine.specs.declared.question.Parameter.TheVariants.{TaskId, RunId, Queue}
-use Rattle.farm_record.specs.declared.change.Creation.{Creation}
-use Rattle.farm_machine.specs.declared.question.BodyFault.TheVariants.{NoDefinition}
 use Rattle.farm_machine.specs.Calls.CancelTask.{cancel_task}
 use Rattle.farm_machine.specs.Calls.ClaimWork.{claim_work}
 use Rattle.farm_machine.specs.Calls.CreateTask.{create_task}
@@ -13,6 +11,7 @@ use Rattle.farm_machine.specs.Calls.Ping.{ping}
 use Rattle.farm_machine.specs.Calls.ReclaimTask.{reclaim_task}
 use Rattle.farm_machine.specs.Calls.ReportRun.{report_run}
 use Rattle.farm_machine.specs.Calls.RerunTask.{rerun_task}
+use Rattle.farm_machine.specs.Calls.ScheduleTask.{schedule_task}
 use Rattle.farm_machine.specs.Calls.Status.{status}
 use Rattle.farm_machine.specs.Case.{Setting}
 use Rattle.farm_machine.specs.Changes.{moment_of}
@@ -28,16 +27,6 @@ parameter_name TaskId = codes "taskId"
 parameter_name RunId = codes "runId"
 parameter_name Queue = codes "queue"
 
--- a task is made, where its group is its own, and where it waits for no other; else it is refused by rule 4 or 5 (until task groups are built)
-abbrev pub create_form_where : Bool → Bool → Creation → Form
-create_form_where true true creation = asks (create_task creation)
-create_form_where true false creation = has_bad_body (bad_body (NoDefinition (record { rule = 5; key = codes "dependencies" })))
-create_form_where false alone creation = has_bad_body (bad_body (NoDefinition (record { rule = 4; key = codes "taskGroupId" })))
-
-abbrev pub create_form : Creation → Form
-create_form creation =
-    create_form_where (bytes_eq creation.definition.task_group_id creation.id) (length creation.definition.dependencies == 0) creation
-
 -- the table of calls
 abbrev pub form_of : Call → Form
 form_of (NoRoute name) = has_no_route (not_found (codes "route") name)
@@ -45,10 +34,11 @@ form_of (BadParameter parameter) = has_bad_parameter (bad_parameter (parameter_n
 form_of (BadBody fault) = has_bad_body (bad_body fault)
 form_of Ping = asks ping
 form_of (Status id) = asks (status id)
-form_of (CreateTask creation) = create_form creation
+form_of (CreateTask creation) = asks (create_task creation)
 form_of (ClaimWork work) = asks (claim_work work)
 form_of (ReclaimTask name) = asks (reclaim_task name)
 form_of (ReportRun report) = asks (report_run report)
+form_of (ScheduleTask id) = asks (schedule_task id)
 form_of (RerunTask id) = asks (rerun_task id)
 form_of (CancelTask id) = asks (cancel_task id)
 

@@ -1,7 +1,7 @@
 //! The answers of calls: statuses of HTTP (RFC 9110), and bodies as JSON (RFC 8259).
 
 ghost use Rattle.std.specs.Prelude.{◌≡◌, ◌≢◌, ◌<◌, ◌^◌, codes, Err, IfOk};
-ghost use Rattle.farm_machine.specs.Replies.{ok, not_found, bad_parameter, bad_body, too_late, conflict, farm_full, status_body, not_authentic, skewed, overstepping, expansion_limit, insufficient_scopes, error_text};
+ghost use Rattle.farm_machine.specs.Replies.{ok, not_found, bad_parameter, bad_body, too_late, bad_dependency, conflict, other_scheduler, farm_full, status_body, not_authentic, skewed, overstepping, expansion_limit, insufficient_scopes, error_text};
 ghost use Rattle.hawk_auth.specs.Access.{UnlessNoMemory};
 ghost use Rattle.farm_machine.specs.Access.{Refused, access_by};
 ghost use Rattle.farm_machine.specs.Told.{HasSeconds};
@@ -115,6 +115,17 @@ pub(crate) fn too_late(alloc: Global) -> Result<Answer, AllocError>
     )
 }
 
+/// This task that a new one waits for breaks this rule.
+pub(crate) fn bad_dependency(alloc: Global, rule: u8, id: SlugId) -> Result<Answer, AllocError>
+    ensures { IfOk result (λ a. a ≡ bad_dependency rule id) }
+{
+    let name = id.to_text(alloc)?;
+    let details = Entries::new(alloc)
+        .with(alloc, "name", Doc::text(alloc, name.as_str())?)?
+        .with(alloc, "rule", Doc::Int(i64::from(rule)))?;
+    input_error(alloc, details)
+}
+
 /// The status of a task, as the body of an answer.
 pub(crate) fn status_body(alloc: Global, row: &TaskRow) -> Result<Doc, AllocError>
     ensures { IfOk result (λ d. document d ≡ status_body row.now) }
@@ -143,6 +154,19 @@ pub(crate) fn conflict(alloc: Global, rule: u8, row: &TaskRow) -> Result<Answer,
     let details = Entries::new(alloc)
         .with(alloc, "rule", Doc::Int(i64::from(rule)))?
         .with(alloc, "status", status)?;
+    Ok(Answer {
+        status: StatusCode::CONFLICT,
+        body: error_text(alloc, "RequestConflict", details, "the state forbids it")?,
+    })
+}
+
+/// The tasks of the group have this scheduler, and not the new task's.
+pub(crate) fn other_scheduler(alloc: Global, kept: &str) -> Result<Answer, AllocError>
+    ensures { IfOk result (λ a. a ≡ other_scheduler kept.now) }
+{
+    let details = Entries::new(alloc)
+        .with(alloc, "rule", Doc::Int(2))?
+        .with(alloc, "schedulerId", Doc::text(alloc, kept)?)?;
     Ok(Answer {
         status: StatusCode::CONFLICT,
         body: error_text(alloc, "RequestConflict", details, "the state forbids it")?,

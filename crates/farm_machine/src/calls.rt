@@ -6,4 +6,5 @@ pub(crate) mod ping;
 pub(crate) mod reclaim_task;
 pub(crate) mod report_run;
 pub(crate) mod rerun_task;
+pub(crate) mod schedule_task;
 pub(crate) mod status;

@@ -7,6 +7,7 @@ ghost use Rattle.farm_machine.specs.Entry.{Asking};
 ghost use Rattle.farm_machine.specs.State.{State};
 ghost use Rattle.farm_machine.specs.Judgement.{Judgement};
 ghost use Rattle.farm_machine.specs.Laws.{AccessIsExact, IsCreatedOnce, AnswersAgain};
+ghost use Rattle.farm_machine.specs.ReadyLaws.{LeavesNoneReady, IsScheduledOnce, StartsWhereReady, IsServedForGood};
 ghost use Rattle.farm_machine.specs.RunLaws.{IsClaimedOnce, EndsOnce, ReportsInTime};
 ghost use Rattle.farm_machine.specs.Step.{farm_rules};
 ghost use Rattle.farm_machine.specs.Verdict.{IsVerdict};
@@ -134,4 +135,20 @@ pub fn a_run_ends_once()
 /// A report ends a run only before the end of its claim.
 pub fn a_report_ends_a_run_in_time()
     ensures { ReportsInTime }
+{}
+
+/// Whatever comes, no task is left ready: so one that waits becomes pending by the first event after which what it waits for is there.
+pub fn no_task_is_left_ready()
+    ensures { LeavesNoneReady }
+{}
+
+/// Each task is scheduled at most once, by a call or by what it waits for.
+pub fn a_task_is_scheduled_once()
+    ensures once { IsScheduledOnce }
+    ensures ready { StartsWhereReady }
+{}
+
+/// What a task serves those that wait for it, it serves whatever comes: a rerun of it takes nothing back.
+pub fn what_is_served_stays()
+    ensures { IsServedForGood }
 {}

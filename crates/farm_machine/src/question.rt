@@ -100,6 +100,8 @@ pub enum Call {
     ReclaimTask(RunName),
     /// A worker tells how its run ended: reportCompleted, reportFailed and reportException.
     ReportRun(Resolution),
+    /// An unscheduled task becomes pending.
+    ScheduleTask(SlugId),
     /// A resolved task is run again.
     RerunTask(SlugId),
     /// A task is resolved, where it was not.

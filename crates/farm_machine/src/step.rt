@@ -8,7 +8,7 @@ ghost use Rattle.farm_machine.specs.Deeds.{IsReady};
 ghost use Rattle.farm_machine.specs.Planned.{IsPlanOf, IsPlanOn};
 ghost use Rattle.farm_machine.specs.Refused.{setting_at, IsJudged};
 ghost use Rattle.farm_machine.specs.Replies.{bad_body};
-ghost use Rattle.farm_machine.specs.Verdict.{form_of, create_form};
+ghost use Rattle.farm_machine.specs.Verdict.{form_of};
 
 use crate::answers;
 use crate::calls::cancel_task::CancelTask;
@@ -18,6 +18,7 @@ use crate::calls::ping::Ping;
 use crate::calls::reclaim_task::ReclaimTask;
 use crate::calls::report_run::ReportRun;
 use crate::calls::rerun_task::RerunTask;
+use crate::calls::schedule_task::ScheduleTask;
 use crate::calls::status::Status;
 use crate::config::Config;
 use crate::judged::Judged;
@@ -26,10 +27,8 @@ use crate::plan::Plan;
 use crate::question::{BodyFault, Call, Caller, Question};
 use crate::reply::Reply;
 use crate::tables::Tables;
-use farm_record::Creation;
 use farm_text::{Moment, SlugId};
 use std::alloc::{AllocError, Global};
-use task_defs::{DefError, check_alone};
 
 /// The moment of a call: the greater of its clock's and the last.
 pub fn moment_of(tables: &Tables, question: &Question) -> Moment
@@ -83,7 +82,15 @@ fn judgement_of(
         Call::Ping => judge(alloc, caller, Ping {}, config, tables, moment, drawn),
         Call::Status(id) => judge(alloc, caller, Status { id }, config, tables, moment, drawn),
         Call::CreateTask(creation) => {
-            create(alloc, caller, creation, config, tables, moment, drawn)
+            judge(
+                alloc,
+                caller,
+                CreateTask { creation },
+                config,
+                tables,
+                moment,
+                drawn,
+            )
         }
         Call::ClaimWork(work) => judge(
             alloc,
@@ -116,6 +123,15 @@ fn judgement_of(
                 drawn,
             )
         }
+        Call::ScheduleTask(id) => judge(
+            alloc,
+            caller,
+            ScheduleTask { id },
+            config,
+            tables,
+            moment,
+            drawn,
+        ),
         Call::RerunTask(id) => judge(
             alloc,
             caller,
@@ -143,30 +159,6 @@ fn refused_body(alloc: Global, fault: BodyFault) -> Result<Judged, AllocError>
     ensures change { IfOk result (λ judged. judged.change ≡ None) }
 {
     Ok(Judged::only(answers::bad_body(alloc, &fault)?))
-}
-
-/// The judgement of a task's making. One that belongs to another's group, or waits for another, is refused until groups are built.
-fn create(
-    alloc: Global,
-    caller: &Caller,
-    creation: Creation,
-    config: &Config,
-    tables: &mut Tables,
-    moment: Moment,
-    drawn: SlugId,
-) -> Result<Judged, AllocError>
-    requires { IsReady (setting_at config.now tables.old moment drawn) }
-    ensures judged { IfOk result (IsJudged (setting_at config.now tables.old moment drawn) caller.now (create_form creation)) }
-    ensures same { tables.new ≡ tables.old }
-{
-    match check_alone(alloc, &creation.definition, creation.id) {
-        Ok(()) => {
-            let call = CreateTask::new(creation);
-            judge(alloc, caller, call, config, tables, moment, drawn)
-        }
-        Err(DefError::Fault(fault)) => refused_body(alloc, BodyFault::NoDefinition(fault)),
-        Err(DefError::NoMemory) => Err(AllocError),
-    }
 }
 
 /// Makes the change of a plan that was made on these tables, and gives its reply. It takes no memory.

@@ -6,15 +6,17 @@ ghost use Rattle.farm_rows.specs.Changes.{may_apply, applied};
 ghost use Rattle.farm_rows.specs.Due.{is_due, advance};
 ghost use Rattle.farm_rows.specs.Picks.{picks};
 ghost use Rattle.farm_rows.specs.Plans.{IsPlanOn};
+ghost use Rattle.farm_rows.specs.Waits.{missing_dependency, early_dependency};
+ghost use Rattle.farm_machine.specs.Calls.CreateTask.{scheduler_besides};
 ghost use Rattle.farm_machine.specs.Changes.{reached};
 
-use farm_record::{Change, RunName};
+use farm_record::{Change, Creation, RunName};
 use farm_rows::{TaskPlan, TaskTables};
 use farm_text::{Moment, SlugId};
 use run_states::TaskRow;
 use std::alloc::{AllocError, Global};
 use std::marker::Model;
-use task_defs::TaskQueue;
+use task_defs::{Identifier, TaskQueue};
 
 /// What a farm keeps: its tasks in the order of their creation, the last moment, and the next number.
 #[derive(Debug, Drop)]
@@ -64,6 +66,31 @@ impl Tables {
         ensures { option_copied result ≡ row_with id self.now.rows }
     {
         self.tasks.row(id)
+    }
+
+    /// The first of the tasks that a new one waits for that does not stand, and is not itself.
+    pub(crate) fn missing_dependency(&self, creation: &Creation) -> Option<SlugId>
+        ensures { result ≡ missing_dependency creation.now self.now.rows }
+    {
+        self.tasks.missing_dependency(creation)
+    }
+
+    /// The first of them that expires before the new one's deadline, and is not itself.
+    pub(crate) fn early_dependency(&self, creation: &Creation) -> Option<SlugId>
+        ensures { result ≡ early_dependency creation.now self.now.rows }
+    {
+        self.tasks.early_dependency(creation)
+    }
+
+    /// The scheduler that the tasks of a new one's group have, where that is another than its own.
+    pub(crate) fn scheduler_besides(&self, creation: &Creation) -> Option<&Identifier>
+        ensures { option_copied result ≡ scheduler_besides creation.now self.now.rows }
+    {
+        let own = &creation.definition.scheduler_id;
+        match self.tasks.kept_scheduler(creation.definition.task_group_id) {
+            Some(kept) if kept.as_str() != own.as_str() => Some(kept),
+            _ => None,
+        }
     }
 
     /// The runs that are claimed next in a queue, so many, or all that wait.

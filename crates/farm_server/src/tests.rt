@@ -21,10 +21,12 @@ use role_expand::RoleSet;
 use std::alloc::{AllocError, Global};
 use std::test::Fail;
 
+mod chains;
 mod clients;
 mod rows;
 mod runs;
 mod tasks;
+mod waits;
 mod work;
 
 const PING: &[u8] = b"GET /api/queue/v1/ping HTTP/1.1\r\n\r\n";

@@ -1,52 +1,27 @@
-ghost use Rattle.std.specs.Prelude.{◌≡◌, true, None, IfOk};
-ghost use Rattle.farm_rows.specs.Changes.{is_alone};
+ghost use Rattle.std.specs.Prelude.{◌≡◌, None, IfOk};
+ghost use Rattle.farm_machine.specs.Case.{IsFirstRule};
+ghost use Rattle.farm_machine.specs.Calls.CreateTask.{joining};
 
 use crate::answers;
 use crate::case::{Called, Done, Scene};
 use crate::reply::Answer;
+use crate::tables::Tables;
 use call_rules::create_policy;
 use farm_record::{Creation, Kind};
 use scope_sets::Expr;
 use std::alloc::{AllocError, Global};
-use std::marker::Model;
 use task_defs::same;
 
-/// A task is made: one whose group is its own, and that waits for no other.
+/// A task is made.
 #[derive(Drop)]
 pub(crate) struct CreateTask {
-    creation: Creation,
-}
-
-impl Model for CreateTask {
-    ghost use Rattle.std.specs.Prelude.{◌≡◌, true};
-    ghost use Rattle.std.specs.Coded.{codes};
-    ghost use Rattle.task_defs.specs.Codes.{members_code};
-    ghost use Rattle.farm_record.specs.declared.change.Creation.{Creation};
-    ghost use Rattle.farm_rows.specs.Changes.{is_alone};
-
-    ghost Value = { Creation };
-
-    ghost coded = { Prim.hlevel (codes, members_code) };
-
-    ghost view = { λ c. c.creation };
-
-    ghost invariant = { λ c. is_alone c.creation.id c.creation.definition ≡ true };
-}
-
-impl CreateTask {
-    /// The call that makes this task.
-    pub(crate) fn new(creation: Creation) -> CreateTask
-        requires { is_alone creation.id creation.definition ≡ true }
-        ensures { result ≡ creation }
-    {
-        CreateTask { creation }
-    }
+    pub(crate) creation: Creation,
 }
 
 impl Called for CreateTask {
     ghost use Rattle.farm_machine.specs.Calls.CreateTask.{create_task};
 
-    ghost case = { create_task };
+    ghost case = { λ call. create_task call.creation };
 
     fn absent(&self, _alloc: Global, _at: &Scene<'_>) -> Result<Option<Answer>, AllocError> {
         Ok(None)
@@ -67,10 +42,31 @@ impl Called for CreateTask {
         if definition.deadline <= at.moment {
             return Ok(Some(answers::too_late(alloc)?));
         }
-        Ok(None)
+        let joining = joining(alloc, at.tables, &self.creation)?;
+        Ok(joining)
     }
 
     fn deed(self, _alloc: Global, _at: &Scene<'_>) -> Result<Done, AllocError> {
         Ok(Done::Changes(Kind::Create(self.creation)))
     }
+}
+
+/// The answer of the first rule that ends the making of a new task: of what it waits for, and of its group.
+fn joining(
+    alloc: Global,
+    tables: &Tables,
+    creation: &Creation,
+) -> Result<Option<Answer>, AllocError>
+    ensures { IfOk result (λ a. IsFirstRule (joining creation.now tables.now.rows) a) }
+{
+    if let Some(id) = tables.missing_dependency(creation) {
+        return Ok(Some(answers::bad_dependency(alloc, 16, id)?));
+    }
+    if let Some(id) = tables.early_dependency(creation) {
+        return Ok(Some(answers::bad_dependency(alloc, 17, id)?));
+    }
+    if let Some(kept) = tables.scheduler_besides(creation) {
+        return Ok(Some(answers::other_scheduler(alloc, kept.as_str())?));
+    }
+    Ok(None)
 }

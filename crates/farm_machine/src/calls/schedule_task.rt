@@ -1,0 +1,50 @@
+ghost use Rattle.std.specs.Prelude.{None, ◌≡◌, IfOk};
+
+use crate::answers;
+use crate::case::{Called, Done, Scene};
+use crate::reply::Answer;
+use call_rules::schedule_scopes;
+use farm_record::Kind;
+use farm_text::SlugId;
+use scope_sets::Expr;
+use std::alloc::{AllocError, Global};
+
+/// An unscheduled task becomes pending, whatever it waits for.
+#[derive(Clone, Copy)]
+pub(crate) struct ScheduleTask {
+    pub(crate) id: SlugId,
+}
+
+impl Called for ScheduleTask {
+    ghost use Rattle.farm_machine.specs.Calls.ScheduleTask.{schedule_task};
+
+    ghost case = { λ call. schedule_task call.id };
+
+    fn absent(&self, alloc: Global, at: &Scene<'_>) -> Result<Option<Answer>, AllocError> {
+        if at.tables.row(self.id).is_some() {
+            return Ok(None);
+        }
+        Ok(Some(answers::no_task(alloc, self.id)?))
+    }
+
+    fn policy(&self, alloc: Global, at: &Scene<'_>) -> Result<Expr, AllocError> {
+        let Some(row) = at.tables.row(self.id) else {
+            unreachable!();
+        };
+        schedule_scopes(alloc, self.id, row.definition())
+    }
+
+    fn rule(&self, alloc: Global, at: &Scene<'_>) -> Result<Option<Answer>, AllocError> {
+        let Some(row) = at.tables.row(self.id) else {
+            unreachable!();
+        };
+        if !row.is_unscheduled() {
+            return Ok(Some(answers::status(alloc, row)?));
+        }
+        Ok(None)
+    }
+
+    fn deed(self, _alloc: Global, _at: &Scene<'_>) -> Result<Done, AllocError> {
+        Ok(Done::Changes(Kind::Schedule(self.id)))
+    }
+}
