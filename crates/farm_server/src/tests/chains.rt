@@ -1,119 +1,33 @@
 //! A diamond and a chain of tasks, over connections in memory. The replies were written by hand after the queue service's reference, and by a model of it.
-use super::rows::{Row, first_other};
+use super::rows::first_other;
 use super::tasks::{CREATED, PLAIN, farm, written_at};
 use super::*;
 
 /// Four tasks of a group: two wait for the first, and the last for both.
-const FIRST_HALF: [Row; 7] = [
-    (
-        0,
-        "PUT /api/queue/v1/task/AAAAAAAAQACAAAAAAAAAAA",
-        r#"{"created":"2024-01-01T00:00:00.000Z","deadline":"2024-01-02T00:00:00.000Z","metadata":{"description":"d","name":"n","owner":"o@example.com","source":"https://example.com/"},"payload":{},"taskQueueId":"prov/wt"}"#,
-        "200 OK",
-        r#"{"status":{"deadline":"2024-01-02T00:00:00.000Z","expires":"2025-01-01T00:00:00.000Z","projectId":"none","provisionerId":"prov","retriesLeft":5,"runs":[{"reasonCreated":"scheduled","runId":0,"scheduled":"2024-01-01T00:00:00.000Z","state":"pending"}],"schedulerId":"-","state":"pending","taskGroupId":"AAAAAAAAQACAAAAAAAAAAA","taskId":"AAAAAAAAQACAAAAAAAAAAA","taskQueueId":"prov/wt","workerType":"wt"}}"#,
-    ),
-    (
-        0,
-        "PUT /api/queue/v1/task/AAAAAAAAQACAAAAAAAAAAQ",
-        r#"{"created":"2024-01-01T00:00:00.000Z","deadline":"2024-01-02T00:00:00.000Z","dependencies":["AAAAAAAAQACAAAAAAAAAAA"],"metadata":{"description":"d","name":"n","owner":"o@example.com","source":"https://example.com/"},"payload":{},"taskGroupId":"AAAAAAAAQACAAAAAAAAAAA","taskQueueId":"prov/wt"}"#,
-        "200 OK",
-        r#"{"status":{"deadline":"2024-01-02T00:00:00.000Z","expires":"2025-01-01T00:00:00.000Z","projectId":"none","provisionerId":"prov","retriesLeft":5,"runs":[],"schedulerId":"-","state":"unscheduled","taskGroupId":"AAAAAAAAQACAAAAAAAAAAA","taskId":"AAAAAAAAQACAAAAAAAAAAQ","taskQueueId":"prov/wt","workerType":"wt"}}"#,
-    ),
-    (
-        0,
-        "PUT /api/queue/v1/task/AAAAAAAAQACAAAAAAAAAAg",
-        r#"{"created":"2024-01-01T00:00:00.000Z","deadline":"2024-01-02T00:00:00.000Z","dependencies":["AAAAAAAAQACAAAAAAAAAAA"],"metadata":{"description":"d","name":"n","owner":"o@example.com","source":"https://example.com/"},"payload":{},"requires":"all-resolved","taskGroupId":"AAAAAAAAQACAAAAAAAAAAA","taskQueueId":"prov/wt"}"#,
-        "200 OK",
-        r#"{"status":{"deadline":"2024-01-02T00:00:00.000Z","expires":"2025-01-01T00:00:00.000Z","projectId":"none","provisionerId":"prov","retriesLeft":5,"runs":[],"schedulerId":"-","state":"unscheduled","taskGroupId":"AAAAAAAAQACAAAAAAAAAAA","taskId":"AAAAAAAAQACAAAAAAAAAAg","taskQueueId":"prov/wt","workerType":"wt"}}"#,
-    ),
-    (
-        0,
-        "PUT /api/queue/v1/task/AAAAAAAAQACAAAAAAAAAAw",
-        r#"{"created":"2024-01-01T00:00:00.000Z","deadline":"2024-01-02T00:00:00.000Z","dependencies":["AAAAAAAAQACAAAAAAAAAAQ","AAAAAAAAQACAAAAAAAAAAg"],"metadata":{"description":"d","name":"n","owner":"o@example.com","source":"https://example.com/"},"payload":{},"taskGroupId":"AAAAAAAAQACAAAAAAAAAAA","taskQueueId":"prov/wt"}"#,
-        "200 OK",
-        r#"{"status":{"deadline":"2024-01-02T00:00:00.000Z","expires":"2025-01-01T00:00:00.000Z","projectId":"none","provisionerId":"prov","retriesLeft":5,"runs":[],"schedulerId":"-","state":"unscheduled","taskGroupId":"AAAAAAAAQACAAAAAAAAAAA","taskId":"AAAAAAAAQACAAAAAAAAAAw","taskQueueId":"prov/wt","workerType":"wt"}}"#,
-    ),
-    (
-        1_000,
-        "POST /api/queue/v1/claim-work/prov%2Fwt",
-        r#"{"tasks":32,"workerGroup":"g","workerId":"a"}"#,
-        "200 OK",
-        r#"{"tasks":[{"runId":0,"status":{"deadline":"2024-01-02T00:00:00.000Z","expires":"2025-01-01T00:00:00.000Z","projectId":"none","provisionerId":"prov","retriesLeft":5,"runs":[{"reasonCreated":"scheduled","runId":0,"scheduled":"2024-01-01T00:00:00.000Z","started":"2024-01-01T00:00:01.000Z","state":"running","takenUntil":"2024-01-01T00:20:01.000Z","workerGroup":"g","workerId":"a"}],"schedulerId":"-","state":"running","taskGroupId":"AAAAAAAAQACAAAAAAAAAAA","taskId":"AAAAAAAAQACAAAAAAAAAAA","taskQueueId":"prov/wt","workerType":"wt"},"takenUntil":"2024-01-01T00:20:01.000Z","task":{"created":"2024-01-01T00:00:00.000Z","deadline":"2024-01-02T00:00:00.000Z","dependencies":[],"expires":"2025-01-01T00:00:00.000Z","extra":{},"metadata":{"description":"d","name":"n","owner":"o@example.com","source":"https://example.com/"},"payload":{},"priority":"lowest","projectId":"none","provisionerId":"prov","requires":"all-completed","retries":5,"routes":[],"schedulerId":"-","scopes":[],"tags":{},"taskGroupId":"AAAAAAAAQACAAAAAAAAAAA","taskQueueId":"prov/wt","workerType":"wt"},"workerGroup":"g","workerId":"a"}]}"#,
-    ),
-    (
-        2_000,
-        "POST /api/queue/v1/task/AAAAAAAAQACAAAAAAAAAAA/runs/0/completed",
-        r#""#,
-        "200 OK",
-        r#"{"status":{"deadline":"2024-01-02T00:00:00.000Z","expires":"2025-01-01T00:00:00.000Z","projectId":"none","provisionerId":"prov","retriesLeft":5,"runs":[{"reasonCreated":"scheduled","reasonResolved":"completed","resolved":"2024-01-01T00:00:02.000Z","runId":0,"scheduled":"2024-01-01T00:00:00.000Z","started":"2024-01-01T00:00:01.000Z","state":"completed","takenUntil":"2024-01-01T00:20:01.000Z","workerGroup":"g","workerId":"a"}],"schedulerId":"-","state":"completed","taskGroupId":"AAAAAAAAQACAAAAAAAAAAA","taskId":"AAAAAAAAQACAAAAAAAAAAA","taskQueueId":"prov/wt","workerType":"wt"}}"#,
-    ),
-    (
-        3_000,
-        "POST /api/queue/v1/claim-work/prov%2Fwt",
-        r#"{"tasks":32,"workerGroup":"g","workerId":"a"}"#,
-        "200 OK",
-        r#"{"tasks":[{"runId":0,"status":{"deadline":"2024-01-02T00:00:00.000Z","expires":"2025-01-01T00:00:00.000Z","projectId":"none","provisionerId":"prov","retriesLeft":5,"runs":[{"reasonCreated":"scheduled","runId":0,"scheduled":"2024-01-01T00:00:02.000Z","started":"2024-01-01T00:00:03.000Z","state":"running","takenUntil":"2024-01-01T00:20:03.000Z","workerGroup":"g","workerId":"a"}],"schedulerId":"-","state":"running","taskGroupId":"AAAAAAAAQACAAAAAAAAAAA","taskId":"AAAAAAAAQACAAAAAAAAAAQ","taskQueueId":"prov/wt","workerType":"wt"},"takenUntil":"2024-01-01T00:20:03.000Z","task":{"created":"2024-01-01T00:00:00.000Z","deadline":"2024-01-02T00:00:00.000Z","dependencies":["AAAAAAAAQACAAAAAAAAAAA"],"expires":"2025-01-01T00:00:00.000Z","extra":{},"metadata":{"description":"d","name":"n","owner":"o@example.com","source":"https://example.com/"},"payload":{},"priority":"lowest","projectId":"none","provisionerId":"prov","requires":"all-completed","retries":5,"routes":[],"schedulerId":"-","scopes":[],"tags":{},"taskGroupId":"AAAAAAAAQACAAAAAAAAAAA","taskQueueId":"prov/wt","workerType":"wt"},"workerGroup":"g","workerId":"a"},{"runId":0,"status":{"deadline":"2024-01-02T00:00:00.000Z","expires":"2025-01-01T00:00:00.000Z","projectId":"none","provisionerId":"prov","retriesLeft":5,"runs":[{"reasonCreated":"scheduled","runId":0,"scheduled":"2024-01-01T00:00:02.000Z","started":"2024-01-01T00:00:03.000Z","state":"running","takenUntil":"2024-01-01T00:20:03.000Z","workerGroup":"g","workerId":"a"}],"schedulerId":"-","state":"running","taskGroupId":"AAAAAAAAQACAAAAAAAAAAA","taskId":"AAAAAAAAQACAAAAAAAAAAg","taskQueueId":"prov/wt","workerType":"wt"},"takenUntil":"2024-01-01T00:20:03.000Z","task":{"created":"2024-01-01T00:00:00.000Z","deadline":"2024-01-02T00:00:00.000Z","dependencies":["AAAAAAAAQACAAAAAAAAAAA"],"expires":"2025-01-01T00:00:00.000Z","extra":{},"metadata":{"description":"d","name":"n","owner":"o@example.com","source":"https://example.com/"},"payload":{},"priority":"lowest","projectId":"none","provisionerId":"prov","requires":"all-resolved","retries":5,"routes":[],"schedulerId":"-","scopes":[],"tags":{},"taskGroupId":"AAAAAAAAQACAAAAAAAAAAA","taskQueueId":"prov/wt","workerType":"wt"},"workerGroup":"g","workerId":"a"}]}"#,
-    ),
-];
+const FIRST_HALF: &str =
+    r#"0|PUT /api/queue/v1/task/AAAAAAAAQACAAAAAAAAAAA|{"created":"2024-01-01T00:00:00.000Z","deadline":"2024-01-02T00:00:00.000Z","metadata":{"description":"d","name":"n","owner":"o@example.com","source":"https://example.com/"},"payload":{},"taskQueueId":"prov/wt"}|200 OK|{"status":{"deadline":"2024-01-02T00:00:00.000Z","expires":"2025-01-01T00:00:00.000Z","projectId":"none","provisionerId":"prov","retriesLeft":5,"runs":[{"reasonCreated":"scheduled","runId":0,"scheduled":"2024-01-01T00:00:00.000Z","state":"pending"}],"schedulerId":"-","state":"pending","taskGroupId":"AAAAAAAAQACAAAAAAAAAAA","taskId":"AAAAAAAAQACAAAAAAAAAAA","taskQueueId":"prov/wt","workerType":"wt"}}
+0|PUT /api/queue/v1/task/AAAAAAAAQACAAAAAAAAAAQ|{"created":"2024-01-01T00:00:00.000Z","deadline":"2024-01-02T00:00:00.000Z","dependencies":["AAAAAAAAQACAAAAAAAAAAA"],"metadata":{"description":"d","name":"n","owner":"o@example.com","source":"https://example.com/"},"payload":{},"taskGroupId":"AAAAAAAAQACAAAAAAAAAAA","taskQueueId":"prov/wt"}|200 OK|{"status":{"deadline":"2024-01-02T00:00:00.000Z","expires":"2025-01-01T00:00:00.000Z","projectId":"none","provisionerId":"prov","retriesLeft":5,"runs":[],"schedulerId":"-","state":"unscheduled","taskGroupId":"AAAAAAAAQACAAAAAAAAAAA","taskId":"AAAAAAAAQACAAAAAAAAAAQ","taskQueueId":"prov/wt","workerType":"wt"}}
+0|PUT /api/queue/v1/task/AAAAAAAAQACAAAAAAAAAAg|{"created":"2024-01-01T00:00:00.000Z","deadline":"2024-01-02T00:00:00.000Z","dependencies":["AAAAAAAAQACAAAAAAAAAAA"],"metadata":{"description":"d","name":"n","owner":"o@example.com","source":"https://example.com/"},"payload":{},"requires":"all-resolved","taskGroupId":"AAAAAAAAQACAAAAAAAAAAA","taskQueueId":"prov/wt"}|200 OK|{"status":{"deadline":"2024-01-02T00:00:00.000Z","expires":"2025-01-01T00:00:00.000Z","projectId":"none","provisionerId":"prov","retriesLeft":5,"runs":[],"schedulerId":"-","state":"unscheduled","taskGroupId":"AAAAAAAAQACAAAAAAAAAAA","taskId":"AAAAAAAAQACAAAAAAAAAAg","taskQueueId":"prov/wt","workerType":"wt"}}
+0|PUT /api/queue/v1/task/AAAAAAAAQACAAAAAAAAAAw|{"created":"2024-01-01T00:00:00.000Z","deadline":"2024-01-02T00:00:00.000Z","dependencies":["AAAAAAAAQACAAAAAAAAAAQ","AAAAAAAAQACAAAAAAAAAAg"],"metadata":{"description":"d","name":"n","owner":"o@example.com","source":"https://example.com/"},"payload":{},"taskGroupId":"AAAAAAAAQACAAAAAAAAAAA","taskQueueId":"prov/wt"}|200 OK|{"status":{"deadline":"2024-01-02T00:00:00.000Z","expires":"2025-01-01T00:00:00.000Z","projectId":"none","provisionerId":"prov","retriesLeft":5,"runs":[],"schedulerId":"-","state":"unscheduled","taskGroupId":"AAAAAAAAQACAAAAAAAAAAA","taskId":"AAAAAAAAQACAAAAAAAAAAw","taskQueueId":"prov/wt","workerType":"wt"}}
+1000|POST /api/queue/v1/claim-work/prov%2Fwt|{"tasks":32,"workerGroup":"g","workerId":"a"}|200 OK|{"tasks":[{"runId":0,"status":{"deadline":"2024-01-02T00:00:00.000Z","expires":"2025-01-01T00:00:00.000Z","projectId":"none","provisionerId":"prov","retriesLeft":5,"runs":[{"reasonCreated":"scheduled","runId":0,"scheduled":"2024-01-01T00:00:00.000Z","started":"2024-01-01T00:00:01.000Z","state":"running","takenUntil":"2024-01-01T00:20:01.000Z","workerGroup":"g","workerId":"a"}],"schedulerId":"-","state":"running","taskGroupId":"AAAAAAAAQACAAAAAAAAAAA","taskId":"AAAAAAAAQACAAAAAAAAAAA","taskQueueId":"prov/wt","workerType":"wt"},"takenUntil":"2024-01-01T00:20:01.000Z","task":{"created":"2024-01-01T00:00:00.000Z","deadline":"2024-01-02T00:00:00.000Z","dependencies":[],"expires":"2025-01-01T00:00:00.000Z","extra":{},"metadata":{"description":"d","name":"n","owner":"o@example.com","source":"https://example.com/"},"payload":{},"priority":"lowest","projectId":"none","provisionerId":"prov","requires":"all-completed","retries":5,"routes":[],"schedulerId":"-","scopes":[],"tags":{},"taskGroupId":"AAAAAAAAQACAAAAAAAAAAA","taskQueueId":"prov/wt","workerType":"wt"},"workerGroup":"g","workerId":"a"}]}
+2000|POST /api/queue/v1/task/AAAAAAAAQACAAAAAAAAAAA/runs/0/completed||200 OK|{"status":{"deadline":"2024-01-02T00:00:00.000Z","expires":"2025-01-01T00:00:00.000Z","projectId":"none","provisionerId":"prov","retriesLeft":5,"runs":[{"reasonCreated":"scheduled","reasonResolved":"completed","resolved":"2024-01-01T00:00:02.000Z","runId":0,"scheduled":"2024-01-01T00:00:00.000Z","started":"2024-01-01T00:00:01.000Z","state":"completed","takenUntil":"2024-01-01T00:20:01.000Z","workerGroup":"g","workerId":"a"}],"schedulerId":"-","state":"completed","taskGroupId":"AAAAAAAAQACAAAAAAAAAAA","taskId":"AAAAAAAAQACAAAAAAAAAAA","taskQueueId":"prov/wt","workerType":"wt"}}
+3000|POST /api/queue/v1/claim-work/prov%2Fwt|{"tasks":32,"workerGroup":"g","workerId":"a"}|200 OK|{"tasks":[{"runId":0,"status":{"deadline":"2024-01-02T00:00:00.000Z","expires":"2025-01-01T00:00:00.000Z","projectId":"none","provisionerId":"prov","retriesLeft":5,"runs":[{"reasonCreated":"scheduled","runId":0,"scheduled":"2024-01-01T00:00:02.000Z","started":"2024-01-01T00:00:03.000Z","state":"running","takenUntil":"2024-01-01T00:20:03.000Z","workerGroup":"g","workerId":"a"}],"schedulerId":"-","state":"running","taskGroupId":"AAAAAAAAQACAAAAAAAAAAA","taskId":"AAAAAAAAQACAAAAAAAAAAQ","taskQueueId":"prov/wt","workerType":"wt"},"takenUntil":"2024-01-01T00:20:03.000Z","task":{"created":"2024-01-01T00:00:00.000Z","deadline":"2024-01-02T00:00:00.000Z","dependencies":["AAAAAAAAQACAAAAAAAAAAA"],"expires":"2025-01-01T00:00:00.000Z","extra":{},"metadata":{"description":"d","name":"n","owner":"o@example.com","source":"https://example.com/"},"payload":{},"priority":"lowest","projectId":"none","provisionerId":"prov","requires":"all-completed","retries":5,"routes":[],"schedulerId":"-","scopes":[],"tags":{},"taskGroupId":"AAAAAAAAQACAAAAAAAAAAA","taskQueueId":"prov/wt","workerType":"wt"},"workerGroup":"g","workerId":"a"},{"runId":0,"status":{"deadline":"2024-01-02T00:00:00.000Z","expires":"2025-01-01T00:00:00.000Z","projectId":"none","provisionerId":"prov","retriesLeft":5,"runs":[{"reasonCreated":"scheduled","runId":0,"scheduled":"2024-01-01T00:00:02.000Z","started":"2024-01-01T00:00:03.000Z","state":"running","takenUntil":"2024-01-01T00:20:03.000Z","workerGroup":"g","workerId":"a"}],"schedulerId":"-","state":"running","taskGroupId":"AAAAAAAAQACAAAAAAAAAAA","taskId":"AAAAAAAAQACAAAAAAAAAAg","taskQueueId":"prov/wt","workerType":"wt"},"takenUntil":"2024-01-01T00:20:03.000Z","task":{"created":"2024-01-01T00:00:00.000Z","deadline":"2024-01-02T00:00:00.000Z","dependencies":["AAAAAAAAQACAAAAAAAAAAA"],"expires":"2025-01-01T00:00:00.000Z","extra":{},"metadata":{"description":"d","name":"n","owner":"o@example.com","source":"https://example.com/"},"payload":{},"priority":"lowest","projectId":"none","provisionerId":"prov","requires":"all-resolved","retries":5,"routes":[],"schedulerId":"-","scopes":[],"tags":{},"taskGroupId":"AAAAAAAAQACAAAAAAAAAAA","taskQueueId":"prov/wt","workerType":"wt"},"workerGroup":"g","workerId":"a"}]}"#;
 
 /// The last is pending once both are completed.
-const SECOND_HALF: [Row; 7] = [
-    (
-        4_000,
-        "POST /api/queue/v1/task/AAAAAAAAQACAAAAAAAAAAQ/runs/0/completed",
-        r#""#,
-        "200 OK",
-        r#"{"status":{"deadline":"2024-01-02T00:00:00.000Z","expires":"2025-01-01T00:00:00.000Z","projectId":"none","provisionerId":"prov","retriesLeft":5,"runs":[{"reasonCreated":"scheduled","reasonResolved":"completed","resolved":"2024-01-01T00:00:04.000Z","runId":0,"scheduled":"2024-01-01T00:00:02.000Z","started":"2024-01-01T00:00:03.000Z","state":"completed","takenUntil":"2024-01-01T00:20:03.000Z","workerGroup":"g","workerId":"a"}],"schedulerId":"-","state":"completed","taskGroupId":"AAAAAAAAQACAAAAAAAAAAA","taskId":"AAAAAAAAQACAAAAAAAAAAQ","taskQueueId":"prov/wt","workerType":"wt"}}"#,
-    ),
-    (
-        4_000,
-        "GET /api/queue/v1/task/AAAAAAAAQACAAAAAAAAAAw/status",
-        r#""#,
-        "200 OK",
-        r#"{"status":{"deadline":"2024-01-02T00:00:00.000Z","expires":"2025-01-01T00:00:00.000Z","projectId":"none","provisionerId":"prov","retriesLeft":5,"runs":[],"schedulerId":"-","state":"unscheduled","taskGroupId":"AAAAAAAAQACAAAAAAAAAAA","taskId":"AAAAAAAAQACAAAAAAAAAAw","taskQueueId":"prov/wt","workerType":"wt"}}"#,
-    ),
-    (
-        5_000,
-        "POST /api/queue/v1/task/AAAAAAAAQACAAAAAAAAAAg/runs/0/completed",
-        r#""#,
-        "200 OK",
-        r#"{"status":{"deadline":"2024-01-02T00:00:00.000Z","expires":"2025-01-01T00:00:00.000Z","projectId":"none","provisionerId":"prov","retriesLeft":5,"runs":[{"reasonCreated":"scheduled","reasonResolved":"completed","resolved":"2024-01-01T00:00:05.000Z","runId":0,"scheduled":"2024-01-01T00:00:02.000Z","started":"2024-01-01T00:00:03.000Z","state":"completed","takenUntil":"2024-01-01T00:20:03.000Z","workerGroup":"g","workerId":"a"}],"schedulerId":"-","state":"completed","taskGroupId":"AAAAAAAAQACAAAAAAAAAAA","taskId":"AAAAAAAAQACAAAAAAAAAAg","taskQueueId":"prov/wt","workerType":"wt"}}"#,
-    ),
-    (
-        5_000,
-        "GET /api/queue/v1/task/AAAAAAAAQACAAAAAAAAAAw/status",
-        r#""#,
-        "200 OK",
-        r#"{"status":{"deadline":"2024-01-02T00:00:00.000Z","expires":"2025-01-01T00:00:00.000Z","projectId":"none","provisionerId":"prov","retriesLeft":5,"runs":[{"reasonCreated":"scheduled","runId":0,"scheduled":"2024-01-01T00:00:05.000Z","state":"pending"}],"schedulerId":"-","state":"pending","taskGroupId":"AAAAAAAAQACAAAAAAAAAAA","taskId":"AAAAAAAAQACAAAAAAAAAAw","taskQueueId":"prov/wt","workerType":"wt"}}"#,
-    ),
-    (
-        6_000,
-        "POST /api/queue/v1/claim-work/prov%2Fwt",
-        r#"{"workerGroup":"g","workerId":"b"}"#,
-        "200 OK",
-        r#"{"tasks":[{"runId":0,"status":{"deadline":"2024-01-02T00:00:00.000Z","expires":"2025-01-01T00:00:00.000Z","projectId":"none","provisionerId":"prov","retriesLeft":5,"runs":[{"reasonCreated":"scheduled","runId":0,"scheduled":"2024-01-01T00:00:05.000Z","started":"2024-01-01T00:00:06.000Z","state":"running","takenUntil":"2024-01-01T00:20:06.000Z","workerGroup":"g","workerId":"b"}],"schedulerId":"-","state":"running","taskGroupId":"AAAAAAAAQACAAAAAAAAAAA","taskId":"AAAAAAAAQACAAAAAAAAAAw","taskQueueId":"prov/wt","workerType":"wt"},"takenUntil":"2024-01-01T00:20:06.000Z","task":{"created":"2024-01-01T00:00:00.000Z","deadline":"2024-01-02T00:00:00.000Z","dependencies":["AAAAAAAAQACAAAAAAAAAAQ","AAAAAAAAQACAAAAAAAAAAg"],"expires":"2025-01-01T00:00:00.000Z","extra":{},"metadata":{"description":"d","name":"n","owner":"o@example.com","source":"https://example.com/"},"payload":{},"priority":"lowest","projectId":"none","provisionerId":"prov","requires":"all-completed","retries":5,"routes":[],"schedulerId":"-","scopes":[],"tags":{},"taskGroupId":"AAAAAAAAQACAAAAAAAAAAA","taskQueueId":"prov/wt","workerType":"wt"},"workerGroup":"g","workerId":"b"}]}"#,
-    ),
-    (
-        7_000,
-        "POST /api/queue/v1/task/AAAAAAAAQACAAAAAAAAAAw/runs/0/failed",
-        r#""#,
-        "200 OK",
-        r#"{"status":{"deadline":"2024-01-02T00:00:00.000Z","expires":"2025-01-01T00:00:00.000Z","projectId":"none","provisionerId":"prov","retriesLeft":5,"runs":[{"reasonCreated":"scheduled","reasonResolved":"failed","resolved":"2024-01-01T00:00:07.000Z","runId":0,"scheduled":"2024-01-01T00:00:05.000Z","started":"2024-01-01T00:00:06.000Z","state":"failed","takenUntil":"2024-01-01T00:20:06.000Z","workerGroup":"g","workerId":"b"}],"schedulerId":"-","state":"failed","taskGroupId":"AAAAAAAAQACAAAAAAAAAAA","taskId":"AAAAAAAAQACAAAAAAAAAAw","taskQueueId":"prov/wt","workerType":"wt"}}"#,
-    ),
-    (
-        7_000,
-        "PUT /api/queue/v1/task/AAAAAAAAQACAAAAAAAAAAw",
-        r#"{"created":"2024-01-01T00:00:00.000Z","deadline":"2024-01-02T00:00:00.000Z","dependencies":["AAAAAAAAQACAAAAAAAAAAQ","AAAAAAAAQACAAAAAAAAAAg"],"metadata":{"description":"d","name":"n","owner":"o@example.com","source":"https://example.com/"},"payload":{},"taskGroupId":"AAAAAAAAQACAAAAAAAAAAA","taskQueueId":"prov/wt"}"#,
-        "200 OK",
-        r#"{"status":{"deadline":"2024-01-02T00:00:00.000Z","expires":"2025-01-01T00:00:00.000Z","projectId":"none","provisionerId":"prov","retriesLeft":5,"runs":[{"reasonCreated":"scheduled","reasonResolved":"failed","resolved":"2024-01-01T00:00:07.000Z","runId":0,"scheduled":"2024-01-01T00:00:05.000Z","started":"2024-01-01T00:00:06.000Z","state":"failed","takenUntil":"2024-01-01T00:20:06.000Z","workerGroup":"g","workerId":"b"}],"schedulerId":"-","state":"failed","taskGroupId":"AAAAAAAAQACAAAAAAAAAAA","taskId":"AAAAAAAAQACAAAAAAAAAAw","taskQueueId":"prov/wt","workerType":"wt"}}"#,
-    ),
-];
+const SECOND_HALF: &str =
+    r#"4000|POST /api/queue/v1/task/AAAAAAAAQACAAAAAAAAAAQ/runs/0/completed||200 OK|{"status":{"deadline":"2024-01-02T00:00:00.000Z","expires":"2025-01-01T00:00:00.000Z","projectId":"none","provisionerId":"prov","retriesLeft":5,"runs":[{"reasonCreated":"scheduled","reasonResolved":"completed","resolved":"2024-01-01T00:00:04.000Z","runId":0,"scheduled":"2024-01-01T00:00:02.000Z","started":"2024-01-01T00:00:03.000Z","state":"completed","takenUntil":"2024-01-01T00:20:03.000Z","workerGroup":"g","workerId":"a"}],"schedulerId":"-","state":"completed","taskGroupId":"AAAAAAAAQACAAAAAAAAAAA","taskId":"AAAAAAAAQACAAAAAAAAAAQ","taskQueueId":"prov/wt","workerType":"wt"}}
+4000|GET /api/queue/v1/task/AAAAAAAAQACAAAAAAAAAAw/status||200 OK|{"status":{"deadline":"2024-01-02T00:00:00.000Z","expires":"2025-01-01T00:00:00.000Z","projectId":"none","provisionerId":"prov","retriesLeft":5,"runs":[],"schedulerId":"-","state":"unscheduled","taskGroupId":"AAAAAAAAQACAAAAAAAAAAA","taskId":"AAAAAAAAQACAAAAAAAAAAw","taskQueueId":"prov/wt","workerType":"wt"}}
+5000|POST /api/queue/v1/task/AAAAAAAAQACAAAAAAAAAAg/runs/0/completed||200 OK|{"status":{"deadline":"2024-01-02T00:00:00.000Z","expires":"2025-01-01T00:00:00.000Z","projectId":"none","provisionerId":"prov","retriesLeft":5,"runs":[{"reasonCreated":"scheduled","reasonResolved":"completed","resolved":"2024-01-01T00:00:05.000Z","runId":0,"scheduled":"2024-01-01T00:00:02.000Z","started":"2024-01-01T00:00:03.000Z","state":"completed","takenUntil":"2024-01-01T00:20:03.000Z","workerGroup":"g","workerId":"a"}],"schedulerId":"-","state":"completed","taskGroupId":"AAAAAAAAQACAAAAAAAAAAA","taskId":"AAAAAAAAQACAAAAAAAAAAg","taskQueueId":"prov/wt","workerType":"wt"}}
+5000|GET /api/queue/v1/task/AAAAAAAAQACAAAAAAAAAAw/status||200 OK|{"status":{"deadline":"2024-01-02T00:00:00.000Z","expires":"2025-01-01T00:00:00.000Z","projectId":"none","provisionerId":"prov","retriesLeft":5,"runs":[{"reasonCreated":"scheduled","runId":0,"scheduled":"2024-01-01T00:00:05.000Z","state":"pending"}],"schedulerId":"-","state":"pending","taskGroupId":"AAAAAAAAQACAAAAAAAAAAA","taskId":"AAAAAAAAQACAAAAAAAAAAw","taskQueueId":"prov/wt","workerType":"wt"}}
+6000|POST /api/queue/v1/claim-work/prov%2Fwt|{"workerGroup":"g","workerId":"b"}|200 OK|{"tasks":[{"runId":0,"status":{"deadline":"2024-01-02T00:00:00.000Z","expires":"2025-01-01T00:00:00.000Z","projectId":"none","provisionerId":"prov","retriesLeft":5,"runs":[{"reasonCreated":"scheduled","runId":0,"scheduled":"2024-01-01T00:00:05.000Z","started":"2024-01-01T00:00:06.000Z","state":"running","takenUntil":"2024-01-01T00:20:06.000Z","workerGroup":"g","workerId":"b"}],"schedulerId":"-","state":"running","taskGroupId":"AAAAAAAAQACAAAAAAAAAAA","taskId":"AAAAAAAAQACAAAAAAAAAAw","taskQueueId":"prov/wt","workerType":"wt"},"takenUntil":"2024-01-01T00:20:06.000Z","task":{"created":"2024-01-01T00:00:00.000Z","deadline":"2024-01-02T00:00:00.000Z","dependencies":["AAAAAAAAQACAAAAAAAAAAQ","AAAAAAAAQACAAAAAAAAAAg"],"expires":"2025-01-01T00:00:00.000Z","extra":{},"metadata":{"description":"d","name":"n","owner":"o@example.com","source":"https://example.com/"},"payload":{},"priority":"lowest","projectId":"none","provisionerId":"prov","requires":"all-completed","retries":5,"routes":[],"schedulerId":"-","scopes":[],"tags":{},"taskGroupId":"AAAAAAAAQACAAAAAAAAAAA","taskQueueId":"prov/wt","workerType":"wt"},"workerGroup":"g","workerId":"b"}]}
+7000|POST /api/queue/v1/task/AAAAAAAAQACAAAAAAAAAAw/runs/0/failed||200 OK|{"status":{"deadline":"2024-01-02T00:00:00.000Z","expires":"2025-01-01T00:00:00.000Z","projectId":"none","provisionerId":"prov","retriesLeft":5,"runs":[{"reasonCreated":"scheduled","reasonResolved":"failed","resolved":"2024-01-01T00:00:07.000Z","runId":0,"scheduled":"2024-01-01T00:00:05.000Z","started":"2024-01-01T00:00:06.000Z","state":"failed","takenUntil":"2024-01-01T00:20:06.000Z","workerGroup":"g","workerId":"b"}],"schedulerId":"-","state":"failed","taskGroupId":"AAAAAAAAQACAAAAAAAAAAA","taskId":"AAAAAAAAQACAAAAAAAAAAw","taskQueueId":"prov/wt","workerType":"wt"}}
+7000|PUT /api/queue/v1/task/AAAAAAAAQACAAAAAAAAAAw|{"created":"2024-01-01T00:00:00.000Z","deadline":"2024-01-02T00:00:00.000Z","dependencies":["AAAAAAAAQACAAAAAAAAAAQ","AAAAAAAAQACAAAAAAAAAAg"],"metadata":{"description":"d","name":"n","owner":"o@example.com","source":"https://example.com/"},"payload":{},"taskGroupId":"AAAAAAAAQACAAAAAAAAAAA","taskQueueId":"prov/wt"}|200 OK|{"status":{"deadline":"2024-01-02T00:00:00.000Z","expires":"2025-01-01T00:00:00.000Z","projectId":"none","provisionerId":"prov","retriesLeft":5,"runs":[{"reasonCreated":"scheduled","reasonResolved":"failed","resolved":"2024-01-01T00:00:07.000Z","runId":0,"scheduled":"2024-01-01T00:00:05.000Z","started":"2024-01-01T00:00:06.000Z","state":"failed","takenUntil":"2024-01-01T00:20:06.000Z","workerGroup":"g","workerId":"b"}],"schedulerId":"-","state":"failed","taskGroupId":"AAAAAAAAQACAAAAAAAAAAA","taskId":"AAAAAAAAQACAAAAAAAAAAw","taskQueueId":"prov/wt","workerType":"wt"}}"#;
 
 #[test]
 fn four_tasks_of_a_diamond_run_in_turn(rt: HostRuntime) -> Result<(), Fail> {
     let mut desk = farm(rt.alloc(), &["*"], 1_000_000)?;
-    assert_eq!(rt; first_other(rt.alloc(), &mut desk, &FIRST_HALF)?, 7);
-    assert_eq!(rt; first_other(rt.alloc(), &mut desk, &SECOND_HALF)?, 7);
+    assert_eq!(rt; first_other(rt.alloc(), &mut desk, FIRST_HALF)?, "none");
+    assert_eq!(rt; first_other(rt.alloc(), &mut desk, SECOND_HALF)?, "none");
     Ok(())
 }
 
