@@ -199,8 +199,11 @@ served-later needs id (row ∷ rows) (next ∷ later) kept is = by (served-later
   by : (id_serves needs rows id ≡ true → id_serves needs later id ≡ true) → (b : Bool) → bytes_eq row.id id ≡ b → id_serves needs (next ∷ later) id ≡ true
   by rest true same =
       let here : serves needs row ≡ true = rw same at is in
-      rw (kept.0.0, same) (kept.0.1 needs here)
-  by rest false other = rw (kept.0.0, other) (rest (rw other at is))
+      let also : bytes_eq next.id id ≡ true = ap (λ (i : List ℕ). bytes_eq i id) kept.0.0 ∙ same in
+      rw also (kept.0.1 needs here)
+  by rest false other =
+      let also : bytes_eq next.id id ≡ false = ap (λ (i : List ℕ). bytes_eq i id) kept.0.0 ∙ other in
+      rw also (rest (rw other at is))
 
 pub served-for-good : (config : Config) (before later : List Entry) (needs : Requires) (id : List ℕ) → id_serves needs (end_state farm_rules (empty_state config) before).contents.rows id ≡ true
     → id_serves needs (end_state farm_rules (empty_state config) (before ++ later)).contents.rows id ≡ true
