@@ -1,7 +1,7 @@
 -- An expression has one outcome.
 use Rattle.std.proofs.Common.{◌≡◌, ℕ, Bool, true, false, List, [], ◌∷◌, Option, Some, None, Result, Ok, Err, pos, refl, sym, ap, subst, ◌∙◌}
 use Rattle.std.specs.Bool.{MatchBool}
-use Rattle.farm_text.specs.Document.{Document, boolean, array, items_of}
+use Rattle.farm_text.specs.Document.{Document, text as text_value, boolean, array, items_of}
 use Rattle.jsone_values.specs.declared.faults.Fault.{Fault}
 use Rattle.jsone_values.specs.Builtins.{IsLengthOf}
 use Rattle.jsone_values.specs.Indexes.{indexed, sliced}
@@ -17,7 +17,7 @@ use Rattle.jsone_expr.specs.declared.marks.Operator.TheVariants.{Within, Equal, 
 use Rattle.jsone_expr.specs.declared.marks.Sign.{Sign}
 use Rattle.jsone_expr.specs.declared.marks.Sign.TheVariants.{Denied, Negative, Positive}
 use Rattle.jsone_expr.specs.Trees.{Tree, number, text, literal, name, unary, binary, group, member, index, slice, call, items, entries, Side, absent, present, Trees, no_trees, tree, Fields, no_fields, field}
-use Rattle.jsone_eval.specs.Calls.{IsOfOne, IsOfTwo, IsOfThree, IsOfMany, IsCalled, IsCall}
+use Rattle.jsone_eval.specs.Calls.{IsFromNowAt, IsOfOne, IsOfTwo, IsOfThree, IsOfMany, IsCalled, IsCall}
 use Rattle.jsone_eval.specs.Operators.{IsSigned, decides, IsJoined}
 use Rattle.jsone_eval.specs.Outcomes.{Outcome, given, faulted, too_much, paid, at_node, Then, AtNode}
 use Rattle.jsone_eval.specs.Values.{Setting, bytes_at, text_at, quoted, literal_value, named, member_named, key_span, WithKey, Evaluates, SideEvaluates, EachEvaluates, FieldsEvaluate, IsOutcome}
@@ -38,16 +38,21 @@ one_joined Over d e r q h k = one_of_numbers IsQuotient one_quotient d e r q h k
 one_joined Power d e r q h k = one_of_numbers IsPower one_power d e r q h k
 one_joined _ d e r q h k = h ∙ sym k
 
+one_from_now_at : (d : Document) (from : Option Document) → IsOne (IsFromNowAt d from)
+one_from_now_at d None r q h k = one_from_now d None r q h k
+one_from_now_at d (Some (text_value bs)) r q h k = one_from_now d (Some (text_value bs)) r q h k
+one_from_now_at d (Some _) r q h k = h ∙ sym k
+
 one_of_one : (f : Function) (scopes : List Document) (d : Document) → IsOne (IsOfOne f scopes d)
 one_of_one Abs scopes d r q h k = one_absolute d r q h k
 one_of_one Len scopes d r q h k = one_number (IsLengthOf d) (one_length d) r q h k
 one_of_one Number scopes d r q h k = one_read d r q h k
-one_of_one FromNow scopes d r q h k = one_from_now d _ r q h k
+one_of_one FromNow scopes d r q h k = one_from_now_at d _ r q h k
 one_of_one _ scopes d r q h k = h ∙ sym k
 
 one_of_two : (f : Function) (d e : Document) → IsOne (IsOfTwo f d e)
 one_of_two Split d e r q h k = one_pieces d e r q h k
-one_of_two FromNow d e r q h k = one_from_now d _ r q h k
+one_of_two FromNow d e r q h k = one_from_now_at d (Some e) r q h k
 one_of_two _ d e r q h k = h ∙ sym k
 
 one_of_three : (f : Function) (d e g : Document) → IsOne (IsOfThree f d e g)

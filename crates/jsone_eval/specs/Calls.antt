@@ -26,6 +26,12 @@ abbrev pub defined : List Document → Document → Result Document Fault
 defined scopes (text name) = Ok (boolean (is_some (bound name scopes)))
 defined scopes _ = Err WrongKind
 
+-- `fromNow`: the moment that it begins at has to be a text, whatever the span is
+abbrev pub IsFromNowAt : Document → Option Document → Result Document Fault → Type 0
+IsFromNowAt d None r = IsFromNow d None r
+IsFromNowAt d (Some (text from)) r = IsFromNow d (Some (text from)) r
+IsFromNowAt d (Some _) r = r ≡ Err WrongKind
+
 -- functions of one value; the others take another number of them
 abbrev pub IsOfOne : Function → List Document → Document → Result Document Fault → Type 0
 IsOfOne Abs scopes d r = IsAbsolute d r
@@ -39,7 +45,7 @@ IsOfOne StripLeft scopes d r = r ≡ stripped_left d
 IsOfOne StripRight scopes d r = r ≡ stripped_right d
 IsOfOne TypeOf scopes d r = r ≡ Ok (text (kind_of d))
 IsOfOne Defined scopes d r = r ≡ defined scopes d
-IsOfOne FromNow scopes d r = IsFromNow d (bound (codes "now") scopes) r
+IsOfOne FromNow scopes d r = IsFromNowAt d (bound (codes "now") scopes) r
 IsOfOne _ scopes d r = r ≡ Err WrongKind
 
 -- of two
@@ -47,7 +53,7 @@ abbrev pub IsOfTwo : Function → Document → Document → Result Document Faul
 IsOfTwo Split d e r = IsPieces d e r
 IsOfTwo Join d e r = r ≡ joined d e
 IsOfTwo Range d e r = r ≡ ranged d e (whole (pos 1))
-IsOfTwo FromNow d e r = IsFromNow d (Some e) r
+IsOfTwo FromNow d e r = IsFromNowAt d (Some e) r
 IsOfTwo _ d e r = r ≡ Err WrongKind
 
 -- of three

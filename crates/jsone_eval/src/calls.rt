@@ -1,11 +1,11 @@
 //! What the functions of the language give for their arguments.
-ghost use Rattle.std.specs.Prelude.{◌≡◌, Ok};
+ghost use Rattle.std.specs.Prelude.{◌≡◌, Ok, option_map};
 ghost use Rattle.farm_text.specs.Document.{text as plain};
 ghost use Rattle.farm_text.specs.Doc.{document, documents};
 ghost use Rattle.jsone_values.specs.Builtins.{IsLengthOf, text_of, kind_of};
 ghost use Rattle.jsone_values.specs.Meets.{Meets, MeetsWithin};
 ghost use Rattle.jsone_values.specs.Operators.{IsNumber};
-ghost use Rattle.jsone_eval.specs.Calls.{as_text, defined, IsOfOne, IsOfTwo, IsOfThree, IsOfMany, IsCalled, IsCall, made};
+ghost use Rattle.jsone_eval.specs.Calls.{as_text, defined, IsFromNowAt, IsOfOne, IsOfTwo, IsOfThree, IsOfMany, IsCalled, IsCall, made};
 ghost use Rattle.jsone_eval.specs.Scopes.{scopes_of};
 
 use crate::context::Context;
@@ -61,6 +61,16 @@ fn defined(context: &Context, name: &Doc) -> Result<Doc, Stop>
     }
 }
 
+/// The moment to which the span leads from a value, which has to be a text whatever the span is, or from nothing.
+fn from_now(alloc: Global, span: &Doc, from: Option<&Doc>) -> Result<Doc, Stop>
+    ensures { Meets (IsFromNowAt (document span.now) (option_map (λ d. document d.now) from.entry)) result }
+{
+    match from {
+        None | Some(Doc::Text(_)) => from_now_of(alloc, span, from),
+        Some(_) => Err(WRONG_KIND),
+    }
+}
+
 fn of_one(alloc: Global, function: Function, context: &Context, value: &Doc) -> Result<Doc, Stop>
     ensures { Meets (IsOfOne function (scopes_of context.now) (document value.now)) result }
 {
@@ -76,7 +86,7 @@ fn of_one(alloc: Global, function: Function, context: &Context, value: &Doc) -> 
         Function::StripRight => right_strip_of(alloc, value),
         Function::TypeOf => kind(alloc, value),
         Function::Defined => defined(context, value),
-        Function::FromNow => from_now_of(alloc, value, context.get("now")),
+        Function::FromNow => from_now(alloc, value, context.get("now")),
         _ => Err(WRONG_KIND),
     }
 }
@@ -98,7 +108,7 @@ fn of_two(alloc: Global, function: Function, first: &Doc, second: &Doc) -> Resul
         Function::Split => made(split_of(alloc, first, second)),
         Function::Join => join_of(alloc, first, second, LIMIT as usize),
         Function::Range => range_of(alloc, first, second, &Doc::Int(1), LIMIT as usize),
-        Function::FromNow => made(from_now_of(alloc, first, Some(second))),
+        Function::FromNow => made(from_now(alloc, first, Some(second))),
         _ => Err(WRONG_KIND),
     }
 }
@@ -127,6 +137,7 @@ fn of_many(
     ensures { MeetsWithin 1000000 (IsOfMany function (scopes_of context.now) (documents arguments.now)) result }
 {
     match arguments {
+        [] => Err(WRONG_KIND),
         [first] => made(of_one(alloc, function, context, first)),
         [first, second] => of_two(alloc, function, first, second),
         [first, second, third] => of_three(alloc, function, first, second, third),

@@ -8,6 +8,7 @@ use std::process::Abort;
 use std::test::Fail;
 
 mod arithmetic;
+mod contexts;
 mod costs;
 mod literals;
 mod moments;
@@ -16,8 +17,7 @@ mod places;
 mod texts;
 mod truth;
 
-const NAMES: &str =
-    "{\"a\":1,\"b\":\"text\",\"c\":[10,20,30],\"d\":{\"k\":\"v\",\"n\":{\"m\":7}},\"e\":\"\",\"f\":[],\"g\":{},\"now\":\"2024-01-01T00:00:00.000Z\",\"t\":true,\"z\":null,\"neg\":-5,\"big\":9223372036854775807,\"u\":\"a\u{e9}\u{4e2d}d\",\"min\":3}";
+const NAMES: &str = r#"{"a":1,"b":"text","c":[10,20,30],"d":{"k":"v","n":{"m":7}},"e":"","f":[],"g":{},"now":"2024-01-01T00:00:00.000Z","t":true,"z":null,"neg":-5,"big":9223372036854775807,"u":"aé中d","min":3}"#;
 
 /// The value of a JSON text, which each text here has.
 fn read(alloc: Global, text: &str) -> Result<Doc, Fail> {
@@ -34,7 +34,7 @@ fn gives(
     let Ok(tree) = parse(alloc, expression.as_bytes()) else {
         return Ok(wanted == "no tree");
     };
-    let mut cost = Cost { spent: 0 };
+    let mut cost = Cost::new();
     match eval(alloc, &tree, context, &mut cost) {
         Ok(value) => Ok(value.write(alloc)?.as_str() == wanted),
         Err(EvalFault::Fault(fault)) => {
@@ -46,14 +46,13 @@ fn gives(
     }
 }
 
-fn all_give(rt: &impl Abort, alloc: Global, rows: &[(&str, &str)]) -> Result<(), Fail> {
+/// A line of the table is an expression and what it gives, with ` ~ ` between them.
+fn all_give(rt: &impl Abort, alloc: Global, table: &str) -> Result<(), Fail> {
     let names = read(alloc, NAMES)?;
     let context = Context::new(alloc, &names);
-    for (expression, wanted) in rows {
-        assert!(rt;
-            gives(alloc, expression, &context, wanted)?,
-            "{expression} gives {wanted}"
-        );
+    for row in table.lines() {
+        let (expression, wanted) = row.split_once(" ~ ").ok_or("no row")?;
+        assert!(rt; gives(alloc, expression, &context, wanted)?, "{row}");
     }
     Ok(())
 }

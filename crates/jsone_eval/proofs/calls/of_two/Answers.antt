@@ -4,11 +4,10 @@ use Rattle.farm_text.specs.Doc.{document}
 use Rattle.jsone_values.specs.Lists.{joined}
 use Rattle.jsone_values.specs.Meets.{MeetsWithin}
 use Rattle.jsone_values.specs.Ranges.{ranged}
-use Rattle.jsone_values.specs.Spans.{IsFromNow}
 use Rattle.jsone_values.specs.Splits.{IsPieces}
 use Rattle.jsone_values.proofs.JoinLemmas.{document-Int}
 use Rattle.jsone_expr.specs.declared.functions.Function.{Function}
-use Rattle.jsone_eval.specs.Calls.{IsOfTwo}
+use Rattle.jsone_eval.specs.Calls.{IsFromNowAt, IsOfTwo}
 use Rattle.jsone_eval.proofs.CallLemmas.{made_within}
 use Rattle.jsone_eval.proofs.calls.of_two.Goals as goal
 
@@ -28,4 +27,4 @@ returns-in-Range c =
 pub returns-in-FromNow : goal.returns-in-FromNow
 returns-in-FromNow c =
     subst (λ (f : Function). MeetsWithin 1000000 (IsOfTwo f (document c.args.first.now) (document c.args.second.now)) c.made-in-FromNow.result) (sym c.in-FromNow.is)
-    (made_within 1000000 (IsFromNow (document c.args.first.now) (Some (document c.args.second.now))) c.from_now_of.result c.made-in-FromNow.result c.made-in-FromNow.ensures c.from_now_of.ensures)
+    (made_within 1000000 (IsFromNowAt (document c.args.first.now) (Some (document c.args.second.now))) c.from_now.result c.made-in-FromNow.result c.made-in-FromNow.ensures c.from_now.ensures)
