@@ -17,11 +17,11 @@ use Rattle.jsone_expr.specs.declared.marks.Operator.{Operator}
 use Rattle.jsone_expr.specs.declared.nodes.Node.{Node}
 use Rattle.jsone_expr.specs.declared.nodes.Node.TheVariants.{Left as left_node, Binary as binary_node}
 use Rattle.jsone_eval.specs.Values.{Setting}
-use Rattle.jsone_eval.specs.Outcomes.{Outcome, given, faulted, too_much, paid, at_node}
+use Rattle.jsone_eval.specs.Outcomes.{Outcome, given, faulted, too_much, paid}
 use Rattle.jsone_eval.specs.declared.evaluator.EvalFault.{EvalFault}
 use Rattle.jsone_eval.specs.declared.evaluator.EvalFault.TheVariants.{Fault as eval_fault, TooMuchWork, NoMemory as no_memory}
 use Rattle.jsone_eval.specs.declared.machine.Machine.{Machine}
-use Rattle.jsone_eval.specs.Machine.{Part, top, top_part, below, side_top, side_below, Moved, went, ended, pushed, IsPushed, IsGathered, with_item, with_member, IsStep, one_less, passed, Goes, Runs, values_in, parts_in, Does, Leads, Pays, PaysWithin, fault_of, Answers}
+use Rattle.jsone_eval.specs.Machine.{Part, top, top_part, below, side_top, side_below, Moved, went, ended, pushed, IsPushed, IsGathered, with_item, with_member, IsStep, one_less, passed, Goes, Runs, values_in, parts_in, Does, Leads, Pays, PaysWithin, Answers}
 
 pub does_so : {A : Type 0} (P Q : Moved → Type 0) → ((p : Moved) → P p → Q p) → (r : Result A EvalFault) (m : Machine) → Does P r m → Does Q r m
 does_so P Q weaker (Ok u) m h = weaker _ h

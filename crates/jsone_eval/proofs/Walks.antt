@@ -1,5 +1,5 @@
 -- The nodes of a tree, one after the other, evaluate it.
-use Rattle.std.proofs.Common.{◌≡◌, ℕ, zero, suc, Bool, true, false, List, [], ◌∷◌, ◌++◌, Option, Some, None, Result, Ok, Err, pos, refl, sym, ap, subst, ◌∙◌, append_assoc, append-nil}
+use Rattle.std.proofs.Common.{◌≡◌, ℕ, zero, suc, Bool, true, false, List, [], ◌∷◌, ◌++◌, Some, None, Result, Ok, Err, pos, sym, subst, ◌∙◌, append_assoc, append-nil}
 use Rattle.std.specs.Bool.{MatchBool}
 use Rattle.farm_text.specs.Document.{Document, boolean, array, items_of}
 use Rattle.jsone_values.specs.declared.faults.Fault.{Fault}
@@ -10,14 +10,13 @@ use Rattle.jsone_values.specs.Operators.{IsNumber}
 use Rattle.jsone_values.specs.Truth.{is_true}
 use Rattle.jsone_expr.specs.declared.nodes.Node.{Node}
 use Rattle.jsone_expr.specs.declared.nodes.Node.TheVariants.{Unary as unary_node, Left as left_node, Binary as binary_node, Group as group_node, Member as member_node, Index as index_node, Slice as slice_node, Item as item_node, Call as call_node, Items as items_node, Field as field_node, Entries as entries_node}
-use Rattle.jsone_expr.specs.declared.marks.Operator.{Operator}
 use Rattle.jsone_expr.specs.Trees.{Tree, number, text, literal, name, unary, binary, group, member, index, slice, call, items, entries, absent, present, Trees, no_trees, tree, Fields, no_fields, field}
 use Rattle.jsone_expr.specs.Postfix.{postfix, each_postfix, fields_postfix}
 use Rattle.jsone_eval.specs.Calls.{IsCall}
 use Rattle.jsone_eval.specs.Operators.{IsSigned, decides, IsJoined}
 use Rattle.jsone_eval.specs.Outcomes.{Outcome, given, faulted, too_much, paid, at_node, Then, AtNode}
 use Rattle.jsone_eval.specs.Values.{Setting, bytes_at, text_at, quoted, literal_value, named, member_named, key_span, WithKey, Evaluates, EachEvaluates, FieldsEvaluate, IsOutcome}
-use Rattle.jsone_eval.specs.Machine.{Part, Moved, went, ended, pushed, IsPushed, IsGathered, Goes, Runs, below, top, with_member}
+use Rattle.jsone_eval.specs.Machine.{Part, Moved, went, pushed, IsPushed, IsGathered, Goes, Runs, below, top, with_member}
 
 abbrev More : Type 1
 More = List Document → List Part → ℕ → ℕ → Outcome → Type 0

@@ -2,7 +2,7 @@
 use Rattle.std.specs.Prelude.{◌≡◌, ℕ, pos, codes, List, [], ◌∷◌, is_some, Option, Some, None, Result, Ok, Err}
 use Rattle.std.specs.Int.{int_min, int_max}
 use Rattle.farm_text.specs.declared.doc.Doc.{Doc}
-use Rattle.farm_text.specs.Document.{Document, null, boolean, whole, text, array, object}
+use Rattle.farm_text.specs.Document.{Document, boolean, whole, text}
 use Rattle.jsone_values.specs.declared.faults.Fault.{Fault}
 use Rattle.jsone_values.specs.declared.faults.Fault.TheVariants.{UnknownName, WrongKind}
 use Rattle.jsone_values.specs.declared.faults.Stop.{Stop}

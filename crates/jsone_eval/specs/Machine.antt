@@ -1,7 +1,6 @@
 -- Evaluating node by node, over the values and the lists that are not whole yet, the last one first; for private clauses.
 use Rattle.std.specs.Prelude.{◌≡◌, ℕ, zero, suc, pos, Bool, true, false, List, [], ◌∷◌, ◌++◌, map, reverse, Option, Some, None, Result, Ok, Err}
 use Rattle.std.specs.Bool.{MatchBool}
-use Rattle.std.specs.declared.alloc.Global.{Global}
 use Rattle.farm_text.specs.Document.{Document, null, boolean, array, items_of}
 use Rattle.farm_text.specs.Doc.{document, documents, entries_of}
 use Rattle.farm_text.specs.declared.doc.Doc.{Doc}

@@ -1,5 +1,5 @@
 -- The value of an expression (JSON-e, "Language"), as equations on trees.
-use Rattle.std.specs.Prelude.{◌≡◌, ℕ, pos, ◌-◌, ◌+◌, true, false, List, [], ◌∷◌, take, drop, if◌then◌else◌, Option, Some, None, Result, Ok, Err}
+use Rattle.std.specs.Prelude.{◌≡◌, ℕ, pos, ◌-◌, true, false, List, [], ◌∷◌, take, drop, if◌then◌else◌, Option, Some, None, Result, Ok, Err}
 use Rattle.std.specs.Bool.{MatchBool}
 use Rattle.std.specs.Str.{is_utf8}
 use Rattle.farm_text.specs.Document.{Document, null, boolean, text, array, items_of}
@@ -14,7 +14,6 @@ use Rattle.jsone_values.specs.Truth.{is_true}
 use Rattle.jsone_expr.specs.declared.marks.Literal.{Literal}
 use Rattle.jsone_expr.specs.declared.marks.Literal.TheVariants.{True, False, Null}
 use Rattle.jsone_expr.specs.declared.tokens.Span.{Span}
-use Rattle.jsone_expr.specs.declared.tokens.Word.{Word}
 use Rattle.jsone_expr.specs.declared.tokens.Key.{Key}
 use Rattle.jsone_expr.specs.declared.tokens.Key.TheVariants.{Plain, InQuotes}
 use Rattle.jsone_expr.specs.Trees.{Tree, number, text as text_tree, literal, name, unary, binary, group, member, index, slice, call, items, entries, Side, absent, present, Trees, no_trees, tree, Fields, no_fields, field}

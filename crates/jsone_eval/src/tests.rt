@@ -17,7 +17,8 @@ mod places;
 mod texts;
 mod truth;
 
-const NAMES: &str = r#"{"a":1,"b":"text","c":[10,20,30],"d":{"k":"v","n":{"m":7}},"e":"","f":[],"g":{},"now":"2024-01-01T00:00:00.000Z","t":true,"z":null,"neg":-5,"big":9223372036854775807,"u":"aé中d","min":3}"#;
+const NAMES: &str =
+    r#"{"a":1,"b":"text","c":[10,20,30],"d":{"k":"v","n":{"m":7}},"e":"","f":[],"g":{},"now":"2024-01-01T00:00:00.000Z","t":true,"z":null,"neg":-5,"big":9223372036854775807,"u":"aé中d","min":3}"#;
 
 /// The value of a JSON text, which each text here has.
 fn read(alloc: Global, text: &str) -> Result<Doc, Fail> {

@@ -7,7 +7,9 @@ use std::test::Fail;
 fn a_later_map_hides_those_before_it(rt: HostRuntime) -> Result<(), Fail> {
     let outermost = read(rt.alloc(), r#"{"a":1,"b":2,"c":3}"#)?;
     let mut context = Context::new(rt.alloc(), &outermost);
-    context.bindings.push(read(rt.alloc(), r#"{"b":20,"c":30}"#)?)?;
+    context
+        .bindings
+        .push(read(rt.alloc(), r#"{"b":20,"c":30}"#)?)?;
     context.bindings.push(read(rt.alloc(), r#"{"c":null}"#)?)?;
     assert!(rt; gives(rt.alloc(), "[a,b,c]", &context, "[1,20,null]")?);
     assert!(rt; gives(rt.alloc(), "defined('c')", &context, "true")?);

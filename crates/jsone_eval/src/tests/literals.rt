@@ -28,11 +28,6 @@ len ~ !2
 (a) ~ 1
 ((a)) ~ 1"#;
 
-#[test]
-fn literals_and_names(rt: HostRuntime) -> Result<(), Fail> {
-    all_give(&rt, rt.alloc(), LITERALS)
-}
-
 const LISTS: &str = r#"[] ~ []
 [1] ~ [1]
 [1,[2,3],'a',null] ~ [1,[2,3],"a",null]
@@ -52,6 +47,7 @@ const LISTS: &str = r#"[] ~ []
 [[[]],[[],[]]] ~ [[[]],[[],[]]]"#;
 
 #[test]
-fn lists_and_maps(rt: HostRuntime) -> Result<(), Fail> {
+fn literals_names_lists_and_maps(rt: HostRuntime) -> Result<(), Fail> {
+    all_give(&rt, rt.alloc(), LITERALS)?;
     all_give(&rt, rt.alloc(), LISTS)
 }

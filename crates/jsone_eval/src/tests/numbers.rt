@@ -20,11 +20,6 @@ abs('a') ~ !3
 abs() ~ !3
 abs(1,2) ~ !3";
 
-#[test]
-fn least_greatest_and_absolute(rt: HostRuntime) -> Result<(), Fail> {
-    all_give(&rt, rt.alloc(), PICKED)
-}
-
 const READ: &str = "number('12') ~ 12
 number('-12') ~ -12
 number('+12') ~ !3
@@ -36,11 +31,6 @@ number('9223372036854775808') ~ !4
 number('-9223372036854775808') ~ -9223372036854775808
 number(1) ~ !3";
 
-#[test]
-fn numbers_of_texts(rt: HostRuntime) -> Result<(), Fail> {
-    all_give(&rt, rt.alloc(), READ)
-}
-
 const LENGTHS: &str = "len('abc') ~ 3
 len(u) ~ 4
 len('') ~ 0
@@ -51,11 +41,6 @@ len(1) ~ !3
 len() ~ !3
 len(c,c) ~ !3
 len(missing, 1/0) ~ !2";
-
-#[test]
-fn lengths(rt: HostRuntime) -> Result<(), Fail> {
-    all_give(&rt, rt.alloc(), LENGTHS)
-}
 
 const RANGES: &str = "range(0,3) ~ [0,1,2]
 range(3,0) ~ []
@@ -77,6 +62,9 @@ len(range(0,2000000)) ~ too much
 range(0-big,big) ~ too much";
 
 #[test]
-fn ranges(rt: HostRuntime) -> Result<(), Fail> {
+fn functions_give_numbers(rt: HostRuntime) -> Result<(), Fail> {
+    all_give(&rt, rt.alloc(), PICKED)?;
+    all_give(&rt, rt.alloc(), READ)?;
+    all_give(&rt, rt.alloc(), LENGTHS)?;
     all_give(&rt, rt.alloc(), RANGES)
 }

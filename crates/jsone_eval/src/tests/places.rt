@@ -13,11 +13,6 @@ c.k ~ !3
 z.k ~ !3
 c['k'] ~ !3"#;
 
-#[test]
-fn keys(rt: HostRuntime) -> Result<(), Fail> {
-    all_give(&rt, rt.alloc(), KEYS)
-}
-
 const INDEXES: &str = r#"c[0] ~ 10
 c[2] ~ 30
 c[3] ~ !6
@@ -44,11 +39,6 @@ c[1+1] ~ 30
 (1/0)[missing] ~ !5
 missing[1/0] ~ !2"#;
 
-#[test]
-fn indexes(rt: HostRuntime) -> Result<(), Fail> {
-    all_give(&rt, rt.alloc(), INDEXES)
-}
-
 const LIST_SLICES: &str = "c[:] ~ [10,20,30]
 c[1:] ~ [20,30]
 c[:1] ~ [10]
@@ -66,11 +56,6 @@ c[-1:1] ~ []
 c[1:-1] ~ [20]
 f[:] ~ []";
 
-#[test]
-fn slices_of_lists(rt: HostRuntime) -> Result<(), Fail> {
-    all_give(&rt, rt.alloc(), LIST_SLICES)
-}
-
 const OTHER_SLICES: &str = r#"b[1:3] ~ "ex"
 b[:-1] ~ "tex"
 b[-2:] ~ "xt"
@@ -86,6 +71,9 @@ c[missing:(1/0)] ~ !2
 c[(1/0):missing] ~ !5"#;
 
 #[test]
-fn slices_of_other_values(rt: HostRuntime) -> Result<(), Fail> {
+fn keys_indexes_and_slices(rt: HostRuntime) -> Result<(), Fail> {
+    all_give(&rt, rt.alloc(), KEYS)?;
+    all_give(&rt, rt.alloc(), INDEXES)?;
+    all_give(&rt, rt.alloc(), LIST_SLICES)?;
     all_give(&rt, rt.alloc(), OTHER_SLICES)
 }

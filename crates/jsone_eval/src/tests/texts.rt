@@ -13,11 +13,6 @@ str([]) ~ !3
 str({}) ~ !3
 str() ~ !3"#;
 
-#[test]
-fn texts_of_values(rt: HostRuntime) -> Result<(), Fail> {
-    all_give(&rt, rt.alloc(), TEXTS)
-}
-
 const LETTERS: &str = r#"lowercase('AbCÉ1') ~ "abcÉ1"
 uppercase('aBcé1') ~ "ABCé1"
 lowercase(1) ~ !3
@@ -27,24 +22,6 @@ rstrip('  a ') ~ "  a"
 strip('   ') ~ ""
 strip('') ~ ""
 strip(1) ~ !3"#;
-
-#[test]
-fn letters_and_spaces(rt: HostRuntime) -> Result<(), Fail> {
-    all_give(&rt, rt.alloc(), LETTERS)
-}
-
-const UNSEEN: &str = "strip('\u{a0}a') ~ \"\u{a0}a\"
-strip('\u{c}a') ~ \"\\fa\"";
-
-#[test]
-fn characters_that_are_not_seen(rt: HostRuntime) -> Result<(), Fail> {
-    all_give(&rt, rt.alloc(), UNSEEN)?;
-    let names = Entries::new(rt.alloc()).into_doc();
-    let context = Context::new(rt.alloc(), &names);
-    let spaced = "strip('  a b\t\n\r ')";
-    assert!(rt; gives(rt.alloc(), spaced, &context, "\"a b\"")?);
-    Ok(())
-}
 
 const PIECES: &str = r#"split('a,b,c', ',') ~ ["a","b","c"]
 split('a', ',') ~ ["a"]
@@ -59,11 +36,6 @@ split('a') ~ !3
 split('a', 1) ~ !3
 split(1, 'a') ~ !3"#;
 
-#[test]
-fn pieces(rt: HostRuntime) -> Result<(), Fail> {
-    all_give(&rt, rt.alloc(), PIECES)
-}
-
 const JOINED: &str = r#"join(['a','b'], ', ') ~ "a, b"
 join([1,-2], '') ~ "1-2"
 join([], 'x') ~ ""
@@ -75,11 +47,6 @@ join([null,'a'], 'x') ~ !3
 join('ab', 'x') ~ !3
 join(['a'], 1) ~ !3
 join(['a']) ~ !3"#;
-
-#[test]
-fn joined_lists(rt: HostRuntime) -> Result<(), Fail> {
-    all_give(&rt, rt.alloc(), JOINED)
-}
 
 const KINDS: &str = r#"typeof(null) ~ "null"
 typeof(t) ~ "boolean"
@@ -99,6 +66,23 @@ missing(1) ~ no tree
 a(1) ~ no tree"#;
 
 #[test]
-fn kinds_and_bound_names(rt: HostRuntime) -> Result<(), Fail> {
+fn functions_take_texts(rt: HostRuntime) -> Result<(), Fail> {
+    all_give(&rt, rt.alloc(), TEXTS)?;
+    all_give(&rt, rt.alloc(), LETTERS)?;
+    all_give(&rt, rt.alloc(), PIECES)?;
+    all_give(&rt, rt.alloc(), JOINED)?;
     all_give(&rt, rt.alloc(), KINDS)
+}
+
+const UNSEEN: &str = "strip('\u{a0}a') ~ \"\u{a0}a\"
+strip('\u{c}a') ~ \"\\fa\"";
+
+#[test]
+fn characters_that_are_not_seen(rt: HostRuntime) -> Result<(), Fail> {
+    all_give(&rt, rt.alloc(), UNSEEN)?;
+    let names = Entries::new(rt.alloc()).into_doc();
+    let context = Context::new(rt.alloc(), &names);
+    let spaced = "strip('  a b\t\n\r ')";
+    assert!(rt; gives(rt.alloc(), spaced, &context, "\"a b\"")?);
+    Ok(())
 }

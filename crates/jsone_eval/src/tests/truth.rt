@@ -12,11 +12,6 @@ const DENIALS: &str = "!true ~ false
 !c ~ false
 !neg ~ false";
 
-#[test]
-fn denials(rt: HostRuntime) -> Result<(), Fail> {
-    all_give(&rt, rt.alloc(), DENIALS)
-}
-
 const DECIDING: &str = "true && false ~ false
 1 && 'a' ~ true
 0 && missing ~ false
@@ -34,11 +29,6 @@ missing && 0 ~ !2
 1 || missing || missing ~ true
 !(1 && 0) ~ true";
 
-#[test]
-fn sides_that_decide(rt: HostRuntime) -> Result<(), Fail> {
-    all_give(&rt, rt.alloc(), DECIDING)
-}
-
 const EQUALITY: &str = "1 == 1 ~ true
 1 == 2 ~ false
 1 == '1' ~ false
@@ -52,11 +42,6 @@ c == [10,20] ~ false
 d == {n: {m: 7}, k: 'v'} ~ true
 d != {n: {m: 8}, k: 'v'} ~ true
 {} == [] ~ false";
-
-#[test]
-fn equality(rt: HostRuntime) -> Result<(), Fail> {
-    all_give(&rt, rt.alloc(), EQUALITY)
-}
 
 const ORDER: &str = "1 < 2 ~ true
 2 < 1 ~ false
@@ -76,21 +61,11 @@ null < 1 ~ !3
 true < false ~ !3
 c < c ~ !3";
 
-#[test]
-fn order(rt: HostRuntime) -> Result<(), Fail> {
-    all_give(&rt, rt.alloc(), ORDER)
-}
-
 const COMPARED: &str = "1 < 2 == true ~ true
 1 + 1 < 3 && 2 > 1 ~ true
 1 == 1 == true ~ true
 1 in [1] == true ~ !3
 !1 == 2 ~ false";
-
-#[test]
-fn levels_of_comparisons(rt: HostRuntime) -> Result<(), Fail> {
-    all_give(&rt, rt.alloc(), COMPARED)
-}
 
 const MEMBERSHIP: &str = "'ex' in b ~ true
 'xe' in b ~ false
@@ -116,6 +91,11 @@ null in null ~ !3
 't' + 'e' in b ~ true";
 
 #[test]
-fn membership(rt: HostRuntime) -> Result<(), Fail> {
+fn truth_order_and_membership(rt: HostRuntime) -> Result<(), Fail> {
+    all_give(&rt, rt.alloc(), DENIALS)?;
+    all_give(&rt, rt.alloc(), DECIDING)?;
+    all_give(&rt, rt.alloc(), EQUALITY)?;
+    all_give(&rt, rt.alloc(), ORDER)?;
+    all_give(&rt, rt.alloc(), COMPARED)?;
     all_give(&rt, rt.alloc(), MEMBERSHIP)
 }

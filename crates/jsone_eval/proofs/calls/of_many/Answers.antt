@@ -1,4 +1,4 @@
-use Rattle.std.proofs.Common.{◌≡◌, length, arith}
+use Rattle.std.proofs.Common.{arith}
 use Rattle.jsone_eval.specs.Scopes.{scopes_of}
 use Rattle.jsone_eval.proofs.CallLemmas.{other_arguments}
 use Rattle.jsone_eval.proofs.calls.of_many.Goals as goal

@@ -1,7 +1,6 @@
 use Rattle.std.proofs.Common.{◌≡◌, pos, Some, sym, subst}
 use Rattle.farm_text.specs.Document.{Document}
 use Rattle.farm_text.specs.Doc.{document}
-use Rattle.jsone_values.specs.Lists.{joined}
 use Rattle.jsone_values.specs.Meets.{MeetsWithin}
 use Rattle.jsone_values.specs.Ranges.{ranged}
 use Rattle.jsone_values.specs.Splits.{IsPieces}

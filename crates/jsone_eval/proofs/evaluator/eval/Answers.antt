@@ -1,9 +1,9 @@
-use Rattle.std.proofs.Common.{◌≡◌, List, [], ◌∷◌, ◌+◌, drop, get_or, refl, sym, ap, subst, ◌∙◌}
+use Rattle.std.proofs.Common.{◌+◌, drop, get_or, refl, ◌∙◌}
 use Rattle.farm_text.specs.Doc.{document}
 use Rattle.jsone_expr.specs.declared.nodes.Node.{Node}
 use Rattle.jsone_expr.specs.declared.nodes.Node.TheVariants.{Number as number_node}
-use Rattle.jsone_eval.specs.Machine.{top, Runs, values_in, parts_in}
-use Rattle.jsone_eval.specs.Outcomes.{Outcome, given}
+use Rattle.jsone_eval.specs.Machine.{top, values_in, parts_in}
+use Rattle.jsone_eval.specs.Outcomes.{given}
 use Rattle.jsone_eval.specs.Scopes.{scopes_of}
 use Rattle.jsone_eval.specs.Values.{Setting, IsOutcome}
 use Rattle.jsone_eval.proofs.EvalLemmas.{one_node, outcome_of, all_nodes, at_first, last_answer}

@@ -1,5 +1,4 @@
-use Rattle.std.proofs.Common.{◌≡◌, sym, ap, ◌∙◌}
-use Rattle.farm_text.specs.Doc.{document}
+use Rattle.std.proofs.Common.{sym, ap, ◌∙◌}
 use Rattle.jsone_values.specs.Truth.{is_true}
 use Rattle.jsone_eval.specs.Operators.{decides}
 use Rattle.jsone_eval.proofs.PartLemmas.{document-Null, top_is_last, top_is_null}

@@ -1,4 +1,4 @@
-use Rattle.std.proofs.Common.{◌≡◌, sym, ap, ◌∙◌}
+use Rattle.std.proofs.Common.{sym, ap}
 use Rattle.farm_text.specs.Doc.{document}
 use Rattle.jsone_eval.specs.Machine.{top, below}
 use Rattle.jsone_eval.proofs.MachineLemmas.{taken}

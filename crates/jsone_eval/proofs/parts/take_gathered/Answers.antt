@@ -1,4 +1,4 @@
-use Rattle.std.proofs.Common.{◌≡◌, sym, ap, ◌∙◌}
+use Rattle.std.proofs.Common.{sym, ap}
 use Rattle.jsone_eval.specs.Machine.{part_of, top_part, below}
 use Rattle.jsone_eval.proofs.MachineLemmas.{part_taken}
 use Rattle.jsone_eval.proofs.parts.take_gathered.Goals as goal

@@ -1,4 +1,4 @@
-use Rattle.std.proofs.Common.{◌≡◌, ℕ, List, [], ◌∷◌, ◌++◌, ap, ◌∙◌}
+use Rattle.std.proofs.Common.{ℕ, List, [], ◌∷◌, ◌++◌, ap, ◌∙◌}
 use Rattle.farm_text.specs.Document.{Document}
 use Rattle.farm_text.specs.Doc.{document, documents, entries_of}
 use Rattle.jsone_eval.specs.Machine.{Part}

@@ -2,7 +2,7 @@ use Rattle.std.proofs.Common.{◌≡◌, ℕ, List, Result, sym, ap, subst}
 use Rattle.farm_text.specs.Doc.{document}
 use Rattle.jsone_values.specs.declared.faults.Fault.{Fault}
 use Rattle.jsone_values.specs.Meets.{Meets}
-use Rattle.jsone_eval.specs.Values.{text_at, member_named}
+use Rattle.jsone_eval.specs.Values.{member_named}
 use Rattle.jsone_eval.proofs.pieces.member_at.Goals as goal
 
 pub returns-in-Ok : goal.returns-in-Ok

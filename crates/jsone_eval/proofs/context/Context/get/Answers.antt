@@ -1,4 +1,4 @@
-use Rattle.std.proofs.Common.{◌≡◌, List, option_map, ap, ◌∙◌}
+use Rattle.std.proofs.Common.{List, option_map, ap, ◌∙◌}
 use Rattle.farm_text.specs.Doc.{document, documents}
 use Rattle.farm_text.specs.declared.doc.Doc.{Doc}
 use Rattle.jsone_eval.specs.Scopes.{bound_by}

@@ -1,4 +1,4 @@
-use Rattle.std.proofs.Common.{◌≡◌, ◌+◌, ◌<◌, ◌≤◌, ℕ, List, min, reverse, arith, ap, ◌∙◌}
+use Rattle.std.proofs.Common.{◌+◌, List, min, reverse, arith, ap, ◌∙◌}
 use Rattle.farm_text.specs.Doc.{document, documents}
 use Rattle.farm_text.specs.declared.doc.Doc.{Doc}
 use Rattle.jsone_eval.specs.Machine.{went, values_in, parts_in}

@@ -1,8 +1,8 @@
-use Rattle.std.proofs.Common.{◌≡◌, List, suc, true, false, reverse, arith, refl, ap, sym, ◌∙◌}
+use Rattle.std.proofs.Common.{List, reverse, arith, refl, ap, sym, ◌∙◌}
 use Rattle.farm_text.specs.Doc.{documents}
 use Rattle.farm_text.specs.declared.doc.Doc.{Doc}
 use Rattle.jsone_values.specs.Truth.{is_true}
-use Rattle.jsone_eval.specs.Machine.{top, went, values_in, parts_in}
+use Rattle.jsone_eval.specs.Machine.{top, values_in, parts_in}
 use Rattle.jsone_eval.specs.Operators.{decides}
 use Rattle.jsone_eval.proofs.MachineLemmas.{undecided, decides_so}
 use Rattle.jsone_eval.proofs.machine.Machine.decide.Goals as goal

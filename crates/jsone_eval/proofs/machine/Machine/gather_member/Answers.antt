@@ -1,4 +1,4 @@
-use Rattle.std.proofs.Common.{◌≡◌, ℕ, List, sym, ap, ◌∙◌}
+use Rattle.std.proofs.Common.{ℕ, List, sym, ap, ◌∙◌}
 use Rattle.jsone_expr.specs.declared.tokens.Span.{Span}
 use Rattle.jsone_eval.specs.Machine.{values_in, parts_in}
 use Rattle.jsone_eval.specs.Values.{text_at, key_span}

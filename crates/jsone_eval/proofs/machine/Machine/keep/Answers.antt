@@ -1,6 +1,6 @@
-use Rattle.std.proofs.Common.{◌≡◌, List, map, reverse, ap, ◌∙◌}
+use Rattle.std.proofs.Common.{List, map, reverse, ap, ◌∙◌}
 use Rattle.jsone_eval.specs.declared.parts.Gathered.{Gathered}
-use Rattle.jsone_eval.specs.Machine.{Part, part_of, went, values_in, parts_in}
+use Rattle.jsone_eval.specs.Machine.{Part, part_of, went, values_in}
 use Rattle.jsone_eval.proofs.MachineLemmas.{last_part}
 use Rattle.jsone_eval.proofs.machine.Machine.keep.Goals as goal
 

@@ -1,4 +1,4 @@
-use Rattle.std.proofs.Common.{◌≡◌, ℕ, suc, ap, sym, ◌∙◌, add-one}
+use Rattle.std.proofs.Common.{ℕ, ap, sym, ◌∙◌, add-one}
 use Rattle.jsone_expr.specs.declared.nodes.Node.{Node}
 use Rattle.jsone_eval.specs.Machine.{went, passed, values_in, parts_in}
 use Rattle.jsone_eval.proofs.MachineLemmas.{passed_other, one_less_is}

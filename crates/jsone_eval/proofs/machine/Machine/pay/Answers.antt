@@ -1,5 +1,4 @@
 use Rattle.std.proofs.Common.{Err, ap}
-use Rattle.jsone_eval.specs.Machine.{Pays}
 use Rattle.jsone_eval.proofs.machine.Machine.pay.Goals as goal
 
 pub returns-in-Ok : goal.returns-in-Ok

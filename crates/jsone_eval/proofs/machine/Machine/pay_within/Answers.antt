@@ -1,5 +1,4 @@
 use Rattle.std.proofs.Common.{Err, ap, refl}
-use Rattle.jsone_eval.specs.Machine.{PaysWithin}
 use Rattle.jsone_eval.proofs.machine.Machine.pay_within.Goals as goal
 
 pub returns-in-Ok-Some : goal.returns-in-Ok-Some

@@ -1,5 +1,4 @@
 use Rattle.std.proofs.Common.{◌≡◌, pos, Ok, refl, ap}
-use Rattle.farm_text.specs.Doc.{document}
 use Rattle.jsone_values.specs.Numbers.{IsInRange, digits_from}
 use Rattle.jsone_values.specs.Operators.{IsNumber}
 use Rattle.jsone_eval.specs.Machine.{values_in, parts_in}
