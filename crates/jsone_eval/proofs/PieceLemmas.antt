@@ -1,0 +1,57 @@
+-- What stands in the text of an expression.
+use Rattle.std.proofs.Common.{◌≡◌, ℕ, ◌-◌, ◌≤◌, min, true, List, [], length, take, drop, inl, inr, Ok, Err, refl, sym, ap, subst, ◌∙◌, arith, length-drop}
+use Rattle.std.specs.Str.{IsUtf8, is_utf8}
+use Rattle.std.proofs.lemmas.Bool.{cases_Bool, cases_lt}
+use Rattle.std.proofs.lemmas.List.{drop_all, take_all}
+use Rattle.std.proofs.lemmas.Str.{IsUtf8-from_is_utf8, is_utf8-from_IsUtf8}
+use Rattle.jsone_values.specs.declared.faults.Fault.TheVariants.{Syntax}
+use Rattle.jsone_expr.specs.declared.tokens.Span.{Span}
+use Rattle.jsone_eval.specs.Values.{bytes_at, text_at}
+
+take_none : (m n : ℕ) (xs : List ℕ) → length xs ≤ 0 → take m xs ≡ take n xs
+take_none m n xs none = take_all m xs (omega (arith, none)) ∙ sym (take_all n xs (omega (arith, none)))
+
+-- cut to the ends it is the same part
+pub cut_within : (xs : List ℕ) (from to : ℕ) → take (min to (length xs) - min from (min to (length xs))) (drop (min from (min to (length xs))) xs) ≡ take (to - from) (drop from xs)
+cut_within xs from to = elim (cases_lt (length xs) to) [
+  | inl past ↦
+      let end : min to (length xs) ≡ length xs = omega arith in
+      rw end (elim (cases_lt (length xs) from) [
+        | inl none ↦
+            let start : min from (length xs) ≡ length xs = omega arith in
+            rw (start, drop_all (length xs) xs (omega arith), drop_all from xs (omega arith)) (take_none _ _ [] (omega arith))
+        | inr some ↦
+            let start : min from (length xs) ≡ from = omega arith in
+            rw start (take_all (length xs - from) (drop from xs) (omega (arith, length-drop from xs)) ∙ sym (take_all (to - from) (drop from xs) (omega (arith, length-drop from xs))))
+      ])
+  | inr within ↦
+      let end : min to (length xs) ≡ to = omega arith in
+      rw end (elim (cases_lt to from) [
+        | inl crossed ↦
+            let start : min from to ≡ to = omega arith in
+            let none : to - to ≡ 0 = omega arith in
+            let also : to - from ≡ 0 = omega arith in
+            rw (start, none, also) refl
+        | inr ordered ↦
+            let start : min from to ≡ from = omega arith in
+            rw start refl
+      ])
+]
+
+-- the same where the ends are computed one after the other
+pub cut_is : (xs : List ℕ) (from to a b : ℕ) → a ≡ min to (length xs) → b ≡ min from a → take (a - b) (drop b xs) ≡ take (to - from) (drop from xs)
+cut_is xs from to a b e f =
+    ap (λ z. take (a - z) (drop z xs)) (f ∙ ap (min from) e)
+    ∙ ap (λ z. take (z - min from (min to (length xs))) (drop (min from (min to (length xs))) xs)) e
+    ∙ cut_within xs from to
+
+pub text_found : (source bs found : List ℕ) (place : Span) → bs ≡ bytes_at source place → found ≡ bs → IsUtf8 bs → text_at source place ≡ Ok found
+text_found source bs found place e f utf8 =
+    let is : is_utf8 (bytes_at source place) ≡ true = is_utf8-from_IsUtf8 _ (subst IsUtf8 e utf8) in
+    rw is (ap Ok (sym e ∙ sym f))
+
+pub no_text : (source bs : List ℕ) (place : Span) → bs ≡ bytes_at source place → (IsUtf8 bs → ⊥) → text_at source place ≡ Err Syntax
+no_text source bs place e other = elim (cases_Bool (is_utf8 (bytes_at source place))) [
+  | inl is ↦ absurd (other (subst IsUtf8 (sym e) (IsUtf8-from_is_utf8 _ is)))
+  | inr none ↦ rw none refl
+]
