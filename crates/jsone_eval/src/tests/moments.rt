@@ -27,6 +27,7 @@ fromNow('--1 day') ~ !11"#;
 const MOMENTS: &str = r#"fromNow('1 day', '2020-02-28T23:59:59Z') ~ "2020-02-29T23:59:59.000Z"
 fromNow('', '2020-02-28T23:59:59.1239+01:00') ~ "2020-02-28T22:59:59.123Z"
 fromNow('', 'yesterday') ~ !3
+fromNow('', '9999-01-01T00:00:00Z') ~ !3
 fromNow('x', 'yesterday') ~ !11
 fromNow('x', 1) ~ !3
 fromNow(1, 1) ~ !3
