@@ -1,9 +1,9 @@
 -- What stands before the first place that passes a test, and what stands behind it.
-use Rattle.std.proofs.Common.{◌≡◌, ℕ, ◌+◌, ◌≤◌, Bool, true, false, not, cond, ltb, List, [], length, take, drop, Option, Some, None, refl, ap, ◌∙◌, arith}
+use Rattle.std.proofs.Common.{◌≡◌, ℕ, ◌+◌, ◌-◌, Bool, true, false, not, cond, ltb, List, length, take, drop, Some, None, refl, sym, ap, ◌∙◌, arith}
 use Rattle.std.specs.List.{before_first, after_first, position, position_or_len}
 use Rattle.std.proofs.Math.Seq.{take-length}
 use Rattle.std.proofs.lemmas.Bool.{ltb-false}
-use Rattle.std.proofs.lemmas.List.{drop_all}
+use Rattle.std.proofs.lemmas.List.{take_rest}
 use Rattle.std.proofs.lemmas.List.Sums.{prefix_len-le-length}
 
 module _ (p : ℕ → Bool) (bs : List ℕ) where
@@ -27,10 +27,5 @@ module _ (p : ℕ → Bool) (bs : List ℕ) where
   pub before-none : position p bs ≡ None → before_first p bs ≡ bs
   before-none e = ap (λ n. take n bs) (no-place e) ∙ take-length bs
 
-  pub after-found : (place : ℕ) → position p bs ≡ Some place → after_first p bs ≡ drop (place + 1) bs
-  after-found place e = ap (λ n. drop (n + 1) bs) (first-place place e)
-
-  pub after-none : position p bs ≡ None → after_first p bs ≡ []
-  after-none e =
-      let past : length bs ≤ length bs + 1 = omega arith in
-      ap (λ n. drop (n + 1) bs) (no-place e) ∙ drop_all bs (length bs + 1) past
+  pub after-found : (place : ℕ) → position p bs ≡ Some place → after_first p bs ≡ take (length bs - (place + 1)) (drop (place + 1) bs)
+  after-found place e = ap (λ n. drop (n + 1) bs) (first-place place e) ∙ sym (take_rest bs (place + 1))

@@ -1,5 +1,5 @@
 use Rattle.std.proofs.Common.{◌==◌, sym}
-use Rattle.api_routes.proofs.CutLemmas.{before-found, before-none, after-found, after-none}
+use Rattle.api_routes.proofs.CutLemmas.{before-found, before-none, after-found}
 use Rattle.api_routes.proofs.queries.cut.Goals as goal
 
 pub returns-in-Some-clause-before : goal.returns-in-Some-clause-before
