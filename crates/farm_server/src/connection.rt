@@ -52,7 +52,17 @@ pub fn serve_connection<
         Err(_) => return Served::NoMemory,
     };
     'requests: for place in 0..REQUESTS {
-        let ended = turn(alloc, &table, &mut reader, place, link, desk, clock, draws, gate);
+        let ended = turn(
+            alloc,
+            &table,
+            &mut reader,
+            place,
+            link,
+            desk,
+            clock,
+            draws,
+            gate,
+        );
         if let Some(served) = ended {
             return served;
         }
