@@ -39,6 +39,8 @@ fn calls_ask(
     matches!(expression(alloc, Call::CreateTask(def)), Ok(asked) if is_creation(&asked))
         && matches!(expression(alloc, Call::Status(id)), Ok(asked) if is_one(&asked, "queue:status:AAAAAAAAQACAAAAAAAAAAA"))
         && matches!(expression(alloc, Call::Task(id)), Ok(asked) if is_one(&asked, "queue:get-task:AAAAAAAAQACAAAAAAAAAAA"))
+        && matches!(expression(alloc, Call::ListTaskGroup(id)), Ok(asked) if is_one(&asked, "queue:list-task-group:AAAAAAAAQACAAAAAAAAAAA"))
+        && matches!(expression(alloc, Call::ListDependentTasks(id)), Ok(asked) if is_one(&asked, "queue:list-dependent-tasks:AAAAAAAAQACAAAAAAAAAAA"))
         && matches!(expression(alloc, Call::PendingTasks(queue)), Ok(asked) if is_one(&asked, "queue:pending-count:prov/wt"))
         && matches!(expression(alloc, Call::ClaimWork(queue, worker, worker)), Ok(asked) if are_all(&asked, &["queue:claim-work:prov/wt", "queue:worker-id:w/w"]))
 }
@@ -162,16 +164,4 @@ fn managing_asks(alloc: Global, id: SlugId, def: &TaskDef) -> bool {
     matches!(schedule_scopes(alloc, id, def), Ok(asked) if are_any(&asked, schedule.as_slice()))
         && matches!(rerun_scopes(alloc, id, def), Ok(asked) if are_any(&asked, rerun.as_slice()))
         && matches!(cancel_scopes(alloc, id, def), Ok(asked) if are_any(&asked, cancel.as_slice()))
-}
-
-#[test]
-fn what_listing_tasks_asks(rt: HostRuntime) -> Result<(), Fail> {
-    let id = first_id()?;
-    assert!(rt;
-        matches!(expression(rt.alloc(), Call::ListTaskGroup(id)), Ok(asked) if is_one(&asked, "queue:list-task-group:AAAAAAAAQACAAAAAAAAAAA"))
-    );
-    assert!(rt;
-        matches!(expression(rt.alloc(), Call::ListDependentTasks(id)), Ok(asked) if is_one(&asked, "queue:list-dependent-tasks:AAAAAAAAQACAAAAAAAAAAA"))
-    );
-    Ok(())
 }
