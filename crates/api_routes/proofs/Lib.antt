@@ -7,3 +7,4 @@ pub mod PathLemmas
 pub mod PhraseLemmas
 pub mod PostLemmas
 pub mod QueueLemmas
+pub mod SaidLemmas

@@ -11,7 +11,7 @@ mod routes;
 mod wire_replies;
 
 pub use head::{Head, reply_head};
-pub use laws::a_path_fits_one_route;
+pub use laws::{a_called_task_is_said, a_path_fits_one_route};
 pub use routes::{call_of, caller_of};
 pub use wire_replies::own_reply;
 

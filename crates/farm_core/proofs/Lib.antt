@@ -1,1 +1,7 @@
 pub mod BareLemmas
+pub mod PlanLemmas
+pub mod RecordLemmas
+pub mod OpenLemmas
+pub mod AskLemmas
+pub mod HoldLemmas
+pub mod ImageLemmas

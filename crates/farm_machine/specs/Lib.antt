@@ -15,6 +15,8 @@ pub mod Order
 pub mod Planned
 pub mod ReadyLaws
 pub mod Refused
+pub mod Replay
+pub mod Replayed
 pub mod Replies
 pub mod RunLaws
 pub mod State
@@ -23,3 +25,4 @@ pub mod Tellings
 pub mod Told
 pub mod Verdict
 pub mod Works
+pub mod Written
