@@ -8,7 +8,7 @@ use Rattle.farm_record.specs.declared.change.Report.TheVariants.{Completed, Fail
 use Rattle.task_defs.specs.declared.names.TaskQueue.{TaskQueue}
 use Rattle.http_wire.specs.declared.message.Message.{Message}
 use Rattle.farm_machine.specs.declared.question.Call.{Call}
-use Rattle.farm_machine.specs.declared.question.Call.TheVariants.{NoRoute, BadParameter, BadBody, Ping, Status, CreateTask, ClaimWork, ReclaimTask, ReportRun, RerunTask, CancelTask}
+use Rattle.farm_machine.specs.declared.question.Call.TheVariants.{NoRoute, CreateTask, ScheduleTask, RerunTask, CancelTask}
 use Rattle.farm_machine.specs.Written.{IsSaidCall}
 use Rattle.api_routes.specs.Bodies.{IsTaskBody, IsCreateCall, IsWorkBody, IsReasonBody}
 use Rattle.api_routes.specs.Posts.{Route, task_or, task_route, CallsRunOr, run_of, run_route, Reclaims, Reports, CallsQueue, work_route, post_routes, CallsOr, CallsFirst}
@@ -38,16 +38,7 @@ said-ping_or None path = said-status_or (parameters_in status_route (parts_of pa
 
 said-body : (body id : List ℕ) (call : Call) → IsTaskBody body id call → IsSaidCall call
 said-body body id (CreateTask creation) (same, says) = (says.0, says.2)
-said-body body id (NoRoute name) is = tt
-said-body body id (BadParameter parameter) is = tt
-said-body body id (BadBody fault) is = tt
-said-body body id Ping is = tt
-said-body body id (Status task) is = tt
-said-body body id (ClaimWork work) is = tt
-said-body body id (ReclaimTask name) is = tt
-said-body body id (ReportRun report) is = tt
-said-body body id (RerunTask task) is = tt
-said-body body id (CancelTask task) is = tt
+said-body body id _ is = tt
 
 said-create : (body : List ℕ) (id : Option (List ℕ)) (call : Call) → IsCreateCall body id call → IsSaidCall call
 said-create body None call is = said-is call _ is tt
@@ -90,29 +81,11 @@ said-run verb Asks said (id ∷ run ∷ part ∷ parts) call is = absurd is
 
 said-reason : (body : List ℕ) (name : RunName) (call : Call) → IsReasonBody body name call → IsSaidCall call
 said-reason body name (CreateTask creation) is = absurd is
-said-reason body name (NoRoute route) is = tt
-said-reason body name (BadParameter parameter) is = tt
-said-reason body name (BadBody fault) is = tt
-said-reason body name Ping is = tt
-said-reason body name (Status task) is = tt
-said-reason body name (ClaimWork work) is = tt
-said-reason body name (ReclaimTask run) is = tt
-said-reason body name (ReportRun report) is = tt
-said-reason body name (RerunTask task) is = tt
-said-reason body name (CancelTask task) is = tt
+said-reason body name _ is = tt
 
 said-work_body : (body : List ℕ) (queue : TaskQueue) (call : Call) → IsWorkBody body queue call → IsSaidCall call
 said-work_body body queue (CreateTask creation) is = absurd is
-said-work_body body queue (NoRoute route) is = tt
-said-work_body body queue (BadParameter parameter) is = tt
-said-work_body body queue (BadBody fault) is = tt
-said-work_body body queue Ping is = tt
-said-work_body body queue (Status task) is = tt
-said-work_body body queue (ClaimWork work) is = tt
-said-work_body body queue (ReclaimTask run) is = tt
-said-work_body body queue (ReportRun report) is = tt
-said-work_body body queue (RerunTask task) is = tt
-said-work_body body queue (CancelTask task) is = tt
+said-work_body body queue _ is = tt
 
 said-queue : (body name : List ℕ) (call : Call) → CallsQueue body name call → IsSaidCall call
 said-queue body name call (inl named) = said-work_body body named.0 call named.4
@@ -135,7 +108,8 @@ said-first (route ∷ routes) path call said is =
 
 all-said : (body : List ℕ) → AllSaid (post_routes body)
 all-said body = (
-  said-task (codes "rerun") RerunTask (λ id. tt),
+  said-task (codes "schedule") ScheduleTask (λ id. tt),
+  (said-task (codes "rerun") RerunTask (λ id. tt),
   (said-task (codes "cancel") CancelTask (λ id. tt),
   (said-work (parameter ∷ []) body,
   (said-work (parameter ∷ parameter ∷ []) body,
@@ -143,7 +117,7 @@ all-said body = (
   (said-run (codes "completed") (Reports Completed) (λ name call is. said-is call _ is tt),
   (said-run (codes "failed") (Reports Failed) (λ name call is. said-is call _ is tt),
   (said-run (codes "exception") (IsReasonBody body) (said-reason body),
-  tt)))))))
+  tt))))))))
 )
 
 -- ---- any method

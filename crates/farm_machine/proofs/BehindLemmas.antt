@@ -13,7 +13,6 @@ use Rattle.farm_rows.specs.Due.{is_due, advance}
 use Rattle.farm_rows.specs.Sweep.{all_turns}
 use Rattle.farm_rows.proofs.AdvanceLemmas.{advance-is}
 use Rattle.farm_rows.proofs.TurnLemmas.{with_last, all-last}
-use Rattle.farm_machine.specs.Replay.{may_come, left_by}
 use Rattle.farm_machine.specs.Works.{at_moment}
 
 -- the same rows and next number, and a last moment that is no greater

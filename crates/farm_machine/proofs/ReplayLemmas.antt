@@ -90,24 +90,26 @@ replayed-if contents change changes may = ap (λ (b : Bool). cond b (replayed (a
 
 pub replayed-append : (contents middle : Contents) (changes more : List Change) → replayed contents changes ≡ Some middle → replayed contents (changes ++ more) ≡ replayed middle more
 replayed-append contents middle [] more is = let same : contents ≡ middle = cc in ap (λ (c : Contents). replayed c more) same
-replayed-append contents middle (change ∷ changes) more is = by (may_replay contents change) refl where
-  by : (b : Bool) → may_replay contents change ≡ b → replayed contents (change ∷ changes ++ more) ≡ replayed middle more
-  by true may =
+replayed-append contents middle (change ∷ changes) more is = by (replayed-append (after_replay contents change) middle changes more) (may_replay contents change) refl where
+  by : (replayed (after_replay contents change) changes ≡ Some middle → replayed (after_replay contents change) (changes ++ more) ≡ replayed middle more) → (b : Bool) → may_replay contents change ≡ b
+      → replayed contents (change ∷ changes ++ more) ≡ replayed middle more
+  by behind true may =
       let rest : replayed (after_replay contents change) changes ≡ Some middle = sym (replayed-if contents change changes may) ∙ is in
-      replayed-if contents change (changes ++ more) may ∙ replayed-append (after_replay contents change) middle changes more rest
-  by false not_ =
+      replayed-if contents change (changes ++ more) may ∙ behind rest
+  by behind false not_ =
       let none : replayed contents (change ∷ changes) ≡ None = ap (λ (b : Bool). cond b (replayed (after_replay contents change) changes) None) not_ in
       cc
 
 pub replayed-front : (contents last : Contents) (changes more : List Change) → replayed contents (changes ++ more) ≡ Some last → (middle : Contents) × (replayed contents changes ≡ Some middle)
 replayed-front contents last [] more is = (contents, refl)
-replayed-front contents last (change ∷ changes) more is = by (may_replay contents change) refl where
-  by : (b : Bool) → may_replay contents change ≡ b → (middle : Contents) × (replayed contents (change ∷ changes) ≡ Some middle)
-  by true may =
+replayed-front contents last (change ∷ changes) more is = by (replayed-front (after_replay contents change) last changes more) (may_replay contents change) refl where
+  by : (replayed (after_replay contents change) (changes ++ more) ≡ Some last → (middle : Contents) × (replayed (after_replay contents change) changes ≡ Some middle)) → (b : Bool) → may_replay contents change ≡ b
+      → (middle : Contents) × (replayed contents (change ∷ changes) ≡ Some middle)
+  by behind true may =
       let rest : replayed (after_replay contents change) (changes ++ more) ≡ Some last = sym (replayed-if contents change (changes ++ more) may) ∙ is in
-      let found = replayed-front (after_replay contents change) last changes more rest in
+      let found = behind rest in
       (found.0, replayed-if contents change changes may ∙ found.1)
-  by false not_ =
+  by behind false not_ =
       let none : replayed contents (change ∷ changes ++ more) ≡ None = ap (λ (b : Bool). cond b (replayed (after_replay contents change) (changes ++ more)) None) not_ in
       cc
 
@@ -211,11 +213,11 @@ is_tick-is (TakesRuns claim) is = cc
 is_tick-is (Reclaim r) is = cc
 is_tick-is (Resolve r) is = cc
 
-ticked-by : {E : Type 0} (contents : Contents) (at : ℕ) (ticked : Bool) (new : Contents) → IsTicked contents at ticked new → IsTried {E = E} (may_tick contents at) (advance contents at) contents (Ok ticked) new
-ticked-by contents at true new is = is
-ticked-by contents at false new is = is
+ticked-by : (E : Type 0) (contents : Contents) (at : ℕ) (ticked : Bool) (new : Contents) → IsTicked contents at ticked new → IsTried {E = E} (may_tick contents at) (advance contents at) contents (Ok ticked) new
+ticked-by E contents at true new is = is
+ticked-by E contents at false new is = is
 
-pub tried-tick : {E : Type 0} (contents : Contents) (change : Change) (ticked : Bool) (new : Contents) → is_tick change.kind ≡ true → IsTicked contents change.at ticked new → IsTried {E = E} (may_replay contents change) (after_replay contents change) contents (Ok ticked) new
-tried-tick {E = E} contents change ticked new is done =
+pub tried-tick : (E : Type 0) (contents : Contents) (change : Change) (ticked : Bool) (new : Contents) → is_tick change.kind ≡ true → IsTicked contents change.at ticked new → IsTried {E = E} (may_replay contents change) (after_replay contents change) contents (Ok ticked) new
+tried-tick E contents change ticked new is done =
     let P : Kind → Type 0 = λ kind. IsTried {E = E} (may_come contents change.at kind) (left_by contents change.at kind) contents (Ok ticked) new in
-    subst P (sym (is_tick-is change.kind is)) (ticked-by contents change.at ticked new done)
+    subst P (sym (is_tick-is change.kind is)) (ticked-by E contents change.at ticked new done)

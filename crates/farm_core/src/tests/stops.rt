@@ -21,29 +21,32 @@ fn memory(alloc: Global, file: &[u8], failing: u64) -> Result<MemoryDisk, AllocE
 const NONE: u64 = 1_000_000;
 
 /// When is asked, in milliseconds after midnight, and what. The third ask comes when the claim of the second ends.
-const SCRIPT: [(u64, &str); 6] = [
-    (0, "create"),
-    (10_000, "claim"),
-    (1_210_000, "claim"),
-    (1_210_001, "completed 1"),
-    (1_210_002, "rerun"),
-    (1_210_003, "cancel"),
-];
+const SCRIPT: &str = "0|create
+10000|claim
+1210000|claim
+1210001|completed 1
+1210002|rerun
+1210003|cancel";
 
 /// The state of the task after so many records: those of the six asks, of which the third keeps a tick before its claim.
-const STATES: [&str; 8] = [
-    "",
-    "pending",
-    "running",
-    "pending",
-    "running",
-    "completed",
-    "pending",
-    "exception",
-];
+fn state_after(records: u64) -> &'static str {
+    match records {
+        1 | 3 | 6 => "pending",
+        2 | 4 => "running",
+        5 => "completed",
+        7 => "exception",
+        _ => "",
+    }
+}
 
-/// The asks of the script that are acknowledged once so many records are kept.
-const ACKNOWLEDGED: [u64; 8] = [0, 1, 2, 2, 3, 4, 5, 6];
+/// How many asks of the script are acknowledged once so many records are kept.
+fn acknowledged_after(records: u64) -> u64 {
+    match records {
+        0 | 1 => records,
+        2 | 3 => 2,
+        _ => records.saturating_sub(1),
+    }
+}
 
 /// The status and the body of the reply to this question.
 fn ask<D: Disk>(
@@ -57,12 +60,23 @@ fn ask<D: Disk>(
     Ok((asked.reply.status().as_u16(), body))
 }
 
+/// The same of a row of the script.
+fn ask_row<D: Disk>(
+    alloc: Global,
+    farm: &mut Farm<D>,
+    row: &str,
+) -> Result<(u16, String), Fail> {
+    let (after, word) = row.split_once('|').ok_or("a moment")?;
+    let after = after.parse().ok().ok_or("a number")?;
+    ask(alloc, farm, after, word)
+}
+
 /// Asks the script, and says how many asks were answered with 200 before the first that was not; those after it are Halted.
 fn run_script<D: Disk>(alloc: Global, farm: &mut Farm<D>) -> Result<u64, Fail> {
     let mut done = 0u64;
     let mut halted = false;
-    for (after, word) in &SCRIPT {
-        let (status, body) = ask(alloc, farm, *after, word)?;
+    for row in SCRIPT.split('\n') {
+        let (status, body) = ask_row(alloc, farm, row)?;
         if halted && !body.as_str().contains("\"Halted\"") {
             return Err(Fail::from("a farm went on after a disk fault"));
         }
@@ -89,16 +103,15 @@ fn reopen<D: Disk + Drop>(alloc: Global, disk: D) -> Result<(Result<Counts, Open
 }
 
 /// Whether a farm opens from an image with so many records, and the task is then in the state that they tell.
-fn opens_to(alloc: Global, image: &[u8], least: usize, most: usize) -> Result<bool, Fail> {
+fn opens_to(alloc: Global, image: &[u8], least: u64, most: u64) -> Result<bool, Fail> {
     let (opened, body) = reopen(alloc, memory(alloc, image, NONE)?)?;
     let Ok(counts) = opened else {
         return Ok(false);
     };
-    let records = counts.records as usize;
-    if records < least || records > most || records >= STATES.len() {
+    if counts.records < least || counts.records > most {
         return Ok(false);
     }
-    let state = STATES[records];
+    let state = state_after(counts.records);
     if state.is_empty() {
         return Ok(counts.tasks == 0 && body.as_str().contains("\"ResourceNotFound\""));
     }
@@ -111,8 +124,8 @@ fn all_open_to(
     alloc: Global,
     disk: &MemoryDisk,
     choices: &[u8],
-    least: usize,
-    most: usize,
+    least: u64,
+    most: u64,
 ) -> Result<bool, Fail> {
     if !opens_to(alloc, disk.bytes(), least, most)? {
         return Ok(false);
@@ -145,9 +158,8 @@ fn nothing_acknowledged_is_lost_in_any_call(rt: HostRuntime) -> Result<(), Fail>
     let alloc = rt.alloc();
     for call in 0..33u64 {
         let (done, disk) = stopped(alloc, call)?;
-        let records = (call.saturating_sub(4) / 4) as usize;
-        assert!(rt; records < ACKNOWLEDGED.len());
-        assert_eq!(rt; done, ACKNOWLEDGED[records]);
+        let records = call.saturating_sub(4) / 4;
+        assert_eq!(rt; done, acknowledged_after(records));
         let is_gate = call >= 4 && call % 4 > 1;
         let choices: &[u8] = if is_gate { &[0, 0xa5, 0xa6, 0xff] } else { &[] };
         let most = if is_gate { records.saturating_add(1) } else { records };
