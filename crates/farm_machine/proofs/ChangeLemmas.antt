@@ -1,5 +1,5 @@
 -- A verdict that changes something is that of a createTask whose id no task had.
-use Rattle.std.proofs.Common.{◌≡◌, ℕ, Bool, true, false, List, [], ◌∷◌, ◌++◌, ◌==◌, map, length, Option, Some, None, bytes_eq, nat_lt, min, ◌+◌, refl, ap, ◌∙◌, subst, inl, inr}
+use Rattle.std.proofs.Common.{◌≡◌, ℕ, Bool, true, false, List, [], ◌∷◌, ◌++◌, map, length, Option, Some, None, nat_lt, min, ◌+◌, refl, ap, ◌∙◌, subst, inl, inr}
 use Rattle.farm_record.specs.declared.change.Change.{Change}
 use Rattle.farm_record.specs.declared.change.Creation.{Creation}
 use Rattle.run_states.specs.Rows.{Row}

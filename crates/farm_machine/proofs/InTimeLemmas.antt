@@ -1,5 +1,5 @@
 -- A report ends a run only before the end of its claim.
-use Rattle.std.proofs.Common.{◌≡◌, ℕ, ◌<◌, Bool, true, false, not, ◌&&◌, ◌||◌, ◌==◌, cond, List, [], ◌∷◌, length, find, Option, Some, None, is_some, is_none, option_map, option_and_then, slice_get, bytes_eq, nat_lt, nat_le, min, ◌+◌, refl, sym, ap, ◌∙◌, subst}
+use Rattle.std.proofs.Common.{◌≡◌, ℕ, ◌<◌, Bool, true, false, not, ◌&&◌, ◌||◌, cond, List, [], ◌∷◌, length, find, Option, Some, None, is_some, is_none, option_map, option_and_then, slice_get, bytes_eq, nat_lt, nat_le, min, ◌+◌, refl, sym, ap, ◌∙◌, subst}
 use Rattle.std.specs.List.{last_or, list_any}
 use Rattle.std.specs.Option.{option_to_list}
 use Rattle.std.proofs.lemmas.Bool.{and_parts, leb-false}

@@ -22,7 +22,7 @@ use Rattle.farm_machine.specs.declared.question.Call.{Call}
 use Rattle.farm_machine.specs.declared.question.Call.TheVariants.{CreateTask}
 use Rattle.farm_machine.specs.Access.{Has, HasAccess}
 use Rattle.farm_machine.specs.Calls.CreateTask.{standing, create_task}
-use Rattle.farm_machine.specs.Case.{Setting, Rule, IsFirstRule}
+use Rattle.farm_machine.specs.Case.{Rule, IsFirstRule}
 use Rattle.farm_machine.specs.Changes.{changed, moment_of}
 use Rattle.farm_machine.specs.Entry.{Asking, Entry, tick, call, finished, out_of_memory, disk_failed, was_halted}
 use Rattle.farm_machine.specs.Judgement.{Judgement, only_answer}

@@ -1,5 +1,5 @@
 -- The verdict is one, and each call has one.
-use Rattle.std.proofs.Common.{◌≡◌, ◌⊎◌, ℕ, Bool, true, false, List, [], ◌∷◌, ◌++◌, length, Option, Some, None, not, ◌&&◌, nat_le, nat_lt, refl, inl, inr}
+use Rattle.std.proofs.Common.{◌≡◌, ◌⊎◌, ℕ, Bool, true, false, List, ◌++◌, length, Option, Some, None, not, ◌&&◌, nat_le, nat_lt, refl, inl, inr}
 use Rattle.hawk_auth.specs.Clients.{IsBook}
 use Rattle.role_expand.specs.Cycles.{IsAccepted}
 use Rattle.farm_record.specs.declared.change.Creation.{Creation}

@@ -1,5 +1,5 @@
 -- What is written of a planned change can be read: a task that it makes was said.
-use Rattle.std.proofs.Common.{◌≡◌, ℕ, List, Option, Some, None, option_map, refl, sym, ap, ◌∙◌, subst}
+use Rattle.std.proofs.Common.{◌≡◌, ℕ, List, Option, Some, None, option_map, refl, ap, ◌∙◌, subst}
 use Rattle.farm_record.specs.declared.change.Change.{Change}
 use Rattle.farm_record.specs.declared.change.Kind.{Kind}
 use Rattle.farm_record.specs.declared.change.Kind.TheVariants.{Tick, Create, Schedule, Rerun, Cancel, Claim as TakesRuns, Reclaim, Resolve}
@@ -13,7 +13,7 @@ use Rattle.farm_machine.specs.Laws.{creation_of, creation_of_kind}
 use Rattle.farm_machine.specs.Planned.{judgement_of}
 use Rattle.farm_machine.specs.State.{State}
 use Rattle.farm_machine.specs.Verdict.{IsVerdict}
-use Rattle.farm_machine.specs.Written.{IsSaidCall, IsWritten, AreWritten, AreRecorded}
+use Rattle.farm_machine.specs.Written.{IsSaidCall, AreWritten, AreRecorded}
 use Rattle.farm_machine.proofs.ChangeLemmas.{verdict-creates}
 
 -- the change of a verdict makes no task that was not said
