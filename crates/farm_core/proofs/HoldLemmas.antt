@@ -1,5 +1,5 @@
 -- What a farm holds of a history goes on by the entries of its asks.
-use Rattle.std.proofs.Common.{◌≡◌, ◌⊎◌, ℕ, true, false, Bool, List, [], ◌∷◌, ◌++◌, refl, sym, ap, ◌∙◌, subst, append_assoc, inl, inr}
+use Rattle.std.proofs.Common.{◌≡◌, ◌⊎◌, ℕ, true, false, Bool, List, [], ◌∷◌, ◌++◌, refl, sym, ap, ◌∙◌, subst, arith, append_assoc, inl, inr}
 use Rattle.std.proofs.lemmas.List.{append-nil}
 use Rattle.std.proofs.lemmas.Grind.{flat_map-append}
 use Rattle.history.specs.Asks.{IsAsk}
@@ -63,6 +63,7 @@ pub holds-asked : (tells : Type 0) (old : State) (old_disk : Disk) (old_end old_
 unfolding farm_rules
 holds-asked tells old old_disk old_end old_faults asking answer new new_disk new_end new_faults asked working tellings opening seen leads h = record {
   counts = record {
+    later = let same = h.counts.stays working in let rest = tellings.later in omega arith;
     rose = λ halted. subst (λ (n : ℕ). Rose n new_faults) (h.counts.stays working) (tellings.rose halted);
     stays = λ still. tellings.stays still ∙ h.counts.stays working;
   };

@@ -5,3 +5,4 @@ pub mod OpenLemmas
 pub mod AskLemmas
 pub mod HoldLemmas
 pub mod ImageLemmas
+pub mod FaultLemmas

@@ -1,5 +1,5 @@
 -- What replaying bodies leaves, and where one is broken.
-use Rattle.std.proofs.Common.{◌≡◌, ◌≢◌, ℕ, zero, suc, ◌+◌, ◌<◌, ◌≤◌, true, false, Bool, List, [], ◌∷◌, ◌++◌, length, take, drop, cond, slice_index_or, Option, Some, None, Result, Ok, Err, refl, sym, ap, ◌∙◌, subst, arith, append_assoc, inl, inr, add-one}
+use Rattle.std.proofs.Common.{◌≡◌, ◌↔◌, ℕ, zero, suc, ◌+◌, ◌<◌, ◌≤◌, true, false, Bool, List, [], ◌∷◌, ◌++◌, length, take, drop, cond, slice_index_or, Option, Some, None, Result, Ok, Err, refl, sym, ap, ◌∙◌, subst, arith, append_assoc, inl, inr, add-one}
 use Rattle.std.proofs.Math.ListN.{length-append}
 use Rattle.std.proofs.Math.Seq.{drop-cons}
 use Rattle.std.proofs.lemmas.List.{take-append-drop, take_more}
@@ -10,9 +10,10 @@ use Rattle.disk_journal.proofs.RecordLemmas.{length-sized}
 use Rattle.farm_record.specs.declared.change.Change.{Change}
 use Rattle.farm_record.specs.Records.{IsRecord}
 use Rattle.farm_rows.specs.Contents.{Contents, no_contents}
-use Rattle.farm_machine.specs.Replay.{may_replay, after_replay, replayed}
+use Rattle.farm_machine.specs.Replay.{may_replay, after_replay, replayed, IsTried}
 use Rattle.farm_machine.proofs.ReplayLemmas.{replayed-push, replayed-append, replayed-front}
 use Rattle.farm_core.specs.Opened.{Replays, IsBroken, IsFarmDamaged}
+use Rattle.farm_core.specs.Reading.{IsRead}
 use Rattle.farm_core.specs.Records.{AreRecords}
 use Rattle.farm_core.proofs.RecordLemmas.{records-append}
 
@@ -114,6 +115,20 @@ within-sound one file bodies more last place whole within damaged =
     image-sound one file (bodies ++ take count more) (drop count more) last place (subst (λ (l : List (List ℕ)). Replays l last) all whole) opens damaged
 
 -- ---- the loop over all bodies
+
+-- what a body was read as was replayed
+pub replayed-read : (E : Type 0) (old : Contents) (body : List ℕ) (change : Change) → ((c : Change) → (Some change ≡ Some c) ↔ IsRecord c body) → (r : Result Bool E) (new : Contents)
+    → IsTried {E = E} (may_replay old change) (after_replay old change) old r new → IsRead {E = E} old body r new
+replayed-read E old body change is (Ok true) new tried = (change, (is change).0 refl, tried.0, tried.1)
+replayed-read E old body change is (Ok false) new tried = λ other recorded.
+    let same : Some change ≡ Some other = (is other).1 recorded in
+    let one : change ≡ other = cc in
+    subst (λ (c : Change). may_replay old c ≡ false) one tried.0
+replayed-read E old body change is (Err e) new tried = tt
+
+-- it was read as none
+pub unread-broken : (found : Option Change) (old : Contents) (body : List ℕ) → found ≡ None → ((c : Change) → (found ≡ Some c) ↔ IsRecord c body) → (change : Change) → IsRecord change body → may_replay old change ≡ false
+unread-broken found old body none is change recorded = let some : found ≡ Some change = (is change).1 recorded in cc
 
 -- one body more was replayed
 pub replays-more : (bodies : List (List ℕ)) (index : ℕ) (old new : Contents) (body : List ℕ) → index < length bodies → body ≡ slice_index_or bodies index [] → Replays (take index bodies) old

@@ -1,5 +1,5 @@
 -- What an ask of a farm does to its disk, and what the disk has of a history.
-use Rattle.std.specs.Prelude.{◌≡◌, ◌≢◌, ℕ, true, false, Bool, ◌⊎◌, List, [], ◌∷◌, ◌++◌, length}
+use Rattle.std.specs.Prelude.{◌≡◌, ℕ, ◌≤◌, true, false, Bool, ◌⊎◌, List, [], ◌∷◌, ◌++◌}
 use Rattle.causes.specs.Causes.{Rose}
 use Rattle.disk_base.specs.Contents.{Contents as Disk}
 use Rattle.farm_record.specs.declared.change.Change.{Change}
@@ -38,8 +38,9 @@ pub record AsksDisk (tells : Type 0) (old : State) (old_disk : Disk) (old_end : 
   pub whole : new.halted ≡ false → failed ≡ []
   pub keeps : tells → KeepsRecords old_disk old_end new_disk new_end (records_of (entries farm_rules old asking answer call)) failed
 
--- The count of the disk's faults rose where the farm halted, and stays where it did not.
+-- The count of the disk's faults does not fall: it rose where the farm halted, and stays where it did not.
 pub record TellsFaults (opening now : ℕ) (halted : Bool) : Type 0 where
+  pub later : opening ≤ now
   pub rose : halted ≡ true → Rose opening now
   pub stays : halted ≡ false → now ≡ opening
 
