@@ -154,3 +154,21 @@ performs-planned_out tells config old asking plan moment new disk end disk_now e
     let at : moment ≡ moment_of old asking = is ∙ planned.at in
     performs-out tells config old new asking disk end disk_now end_now
     (record { at_work = refl; told = omega (arith, at); nothing_due = rw (← planned.at) planned.nothing_due; became = tt }) (rw (new_is, at) refl) keeps
+
+-- ---- the same, where the tables and whether the farm halted are known as equations
+
+module _ (tells : Type 0) (config : Config) (asking : Asking) (reply : Reply) (new : Contents) (disk : Disk) (end : ℕ) (disk_now : Disk) (end_now : ℕ) where
+  pub performs-halted : (old : Contents) (one halted : Bool) → halted ≡ one → Performs tells config old asking reply new disk end disk_now end_now one → Performs tells config old asking reply new disk end disk_now end_now halted
+  performs-halted old one halted is p = subst (λ (b : Bool). Performs tells config old asking reply new disk end disk_now end_now b) (sym is) p
+
+  pub performs-from : (other old : Contents) (halted : Bool) → other ≡ old → Performs tells config other asking reply new disk end disk_now end_now halted → Performs tells config old asking reply new disk end disk_now end_now halted
+  performs-from other old halted is p = subst (λ (t : Contents). Performs tells config t asking reply new disk end disk_now end_now halted) is p
+
+module _ (tells : Type 0) (config : Config) (asking : Asking) (answer : Asked) (disk : Disk) (end : ℕ) (disk_now : Disk) (end_now : ℕ) where
+  pub asks-from : (old : Contents) (one halted : Bool) (new : State) → halted ≡ one → AsksDisk tells (state_of config old one) disk end asking answer new disk_now end_now → AsksDisk tells (state_of config old halted) disk end asking answer new disk_now end_now
+  asks-from old one halted new is a = subst (λ (b : Bool). AsksDisk tells (state_of config old b) disk end asking answer new disk_now end_now) (sym is) a
+
+  pub asks-to : (old : State) (one new : Contents) (b halted : Bool) → new ≡ one → halted ≡ b → AsksDisk tells old disk end asking answer (state_of config one b) disk_now end_now → AsksDisk tells old disk end asking answer (state_of config new halted) disk_now end_now
+  asks-to old one new b halted same is a =
+      subst (λ (t : Contents). AsksDisk tells old disk end asking answer (state_of config t halted) disk_now end_now) (sym same)
+      (subst (λ (h : Bool). AsksDisk tells old disk end asking answer (state_of config one h) disk_now end_now) (sym is) a)

@@ -117,14 +117,14 @@ within-sound one file bodies more last place whole within damaged =
 -- ---- the loop over all bodies
 
 -- what a body was read as was replayed
-pub replayed-read : (E : Type 0) (old : Contents) (body : List ℕ) (change : Change) → ((c : Change) → (Some change ≡ Some c) ↔ IsRecord c body) → (r : Result Bool E) (new : Contents)
+pub replayed-read : (E : Type 0) (found : Option Change) (old : Contents) (body : List ℕ) (change : Change) → found ≡ Some change → ((c : Change) → (found ≡ Some c) ↔ IsRecord c body) → (r : Result Bool E) (new : Contents)
     → IsTried {E = E} (may_replay old change) (after_replay old change) old r new → IsRead {E = E} old body r new
-replayed-read E old body change is (Ok true) new tried = (change, (is change).0 refl, tried.0, tried.1)
-replayed-read E old body change is (Ok false) new tried = λ other recorded.
-    let same : Some change ≡ Some other = (is other).1 recorded in
+replayed-read E found old body change some is (Ok true) new tried = (change, (is change).0 some, tried.0, tried.1)
+replayed-read E found old body change some is (Ok false) new tried = λ other recorded.
+    let same : found ≡ Some other = (is other).1 recorded in
     let one : change ≡ other = cc in
     subst (λ (c : Change). may_replay old c ≡ false) one tried.0
-replayed-read E old body change is (Err e) new tried = tt
+replayed-read E found old body change some is (Err e) new tried = tt
 
 -- it was read as none
 pub unread-broken : (found : Option Change) (old : Contents) (body : List ℕ) → found ≡ None → ((c : Change) → (found ≡ Some c) ↔ IsRecord c body) → (change : Change) → IsRecord change body → may_replay old change ≡ false
