@@ -109,15 +109,31 @@ said-first (route ∷ routes) path call said is =
 all-said : (body : List ℕ) → AllSaid (post_routes body)
 all-said body = (
   said-task (codes "schedule") ScheduleTask (λ id. tt),
-  (said-task (codes "rerun") RerunTask (λ id. tt),
-  (said-task (codes "cancel") CancelTask (λ id. tt),
-  (said-work (parameter ∷ []) body,
-  (said-work (parameter ∷ parameter ∷ []) body,
-  (said-run (codes "reclaim") Reclaims (λ name call is. said-is call _ is tt),
-  (said-run (codes "completed") (Reports Completed) (λ name call is. said-is call _ is tt),
-  (said-run (codes "failed") (Reports Failed) (λ name call is. said-is call _ is tt),
-  (said-run (codes "exception") (IsReasonBody body) (said-reason body),
-  tt))))))))
+  (
+    said-task (codes "rerun") RerunTask (λ id. tt),
+    (
+      said-task (codes "cancel") CancelTask (λ id. tt),
+      (
+        said-work (parameter ∷ []) body,
+        (
+          said-work (parameter ∷ parameter ∷ []) body,
+          (
+            said-run (codes "reclaim") Reclaims (λ name call is. said-is call _ is tt),
+            (
+              said-run (codes "completed") (Reports Completed) (λ name call is. said-is call _ is tt),
+              (
+                said-run (codes "failed") (Reports Failed) (λ name call is. said-is call _ is tt),
+                (
+                  said-run (codes "exception") (IsReasonBody body) (said-reason body),
+                  tt,
+                ),
+              ),
+            ),
+          ),
+        ),
+      ),
+    ),
+  ),
 )
 
 -- ---- any method

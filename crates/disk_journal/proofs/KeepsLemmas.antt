@@ -46,11 +46,11 @@ Keeps-then head a a_end b b_end c c_end first second failed p q = record {
   stops = λ bodies ready.
       let all : List (List ℕ) = (first ++ second) ++ failed in
       let early : StopsLeave a b (IsWithin head bodies all) = StopsLeave-weaker a b _ _ (λ image within.
-          subst (λ (l : List (List ℕ)). IsWithin head bodies l image) (sym (append_assoc first second failed))
-          (within-more head bodies first (second ++ failed) image (subst (λ (l : List (List ℕ)). IsWithin head bodies l image) (append-nil first) within))) (p.stops bodies ready) in
+      subst (λ (l : List (List ℕ)). IsWithin head bodies l image) (sym (append_assoc first second failed))
+      (within-more head bodies first (second ++ failed) image (subst (λ (l : List (List ℕ)). IsWithin head bodies l image) (append-nil first) within))) (p.stops bodies ready) in
       let late : StopsLeave b c (IsWithin head bodies all) = StopsLeave-weaker b c _ _ (λ image within.
-          subst (λ (l : List (List ℕ)). IsWithin head bodies l image) (sym (append_assoc first second failed))
-          (within-behind head bodies first (second ++ failed) image within)) (q.stops (bodies ++ first) (p.ready refl bodies ready)) in
+      subst (λ (l : List (List ℕ)). IsWithin head bodies l image) (sym (append_assoc first second failed))
+      (within-behind head bodies first (second ++ failed) image within)) (q.stops (bodies ++ first) (p.ready refl bodies ready)) in
       StopsLeave-then a b c (IsWithin head bodies all) early late;
 }
 

@@ -40,12 +40,14 @@ pub history-replays : (disk : Disk) (end : ℕ) (state : State) (opening : Openi
 history-replays disk end state opening seen failed has restores legal (inl none) =
     let restored = records-restore opening.state opening.records seen restores legal in
     let empty : has.others ≡ [] = subst (λ (l : List Change). AreRecords l has.others) none has.pending in
-    let all : has.bodies ++ has.others ≡ has.bodies = ap (λ (l : List (List ℕ)). has.bodies ++ l) empty ∙ append-nil has.bodies in
-    (restored.reached, record {
-      changes = opening.records ++ records_of seen;
-      recorded = subst (λ (l : List (List ℕ)). AreRecords (opening.records ++ records_of seen) l) (sym all) has.recorded;
-      leaves = restored.replays;
-    })
+    let all : has.bodies ++ has.others ≡ has.bodies = ap (λ (l : List (List ℕ)). has.bodies ++ l) empty ∙ append-nil has.bodies in (
+      restored.reached,
+      record {
+        changes = opening.records ++ records_of seen;
+        recorded = subst (λ (l : List (List ℕ)). AreRecords (opening.records ++ records_of seen) l) (sym all) has.recorded;
+        leaves = restored.replays;
+      },
+    )
 history-replays disk end state opening seen failed has restores legal (inr (change, f, is)) =
     let whole : IsLegal farm_rules opening.state (f.before ++ call f.asking disk_failed ∷ f.after) = subst (λ (l : List Entry). IsLegal farm_rules opening.state l) f.is legal in
     let front = IsLegal-front farm_rules opening.state f.before (call f.asking disk_failed ∷ f.after) whole in
@@ -56,12 +58,14 @@ history-replays disk end state opening seen failed has restores legal (inr (chan
     let restored = records-restore opening.state opening.records f.before restores front in
     let more = kept-follows (end_state farm_rules opening.state f.before) (opening.records ++ records_of f.before) f.asking change restored f.kept in
     let pending : AreRecords (change ∷ []) has.others = subst (λ (l : List Change). AreRecords l has.others) is has.pending in
-    let recorded = records-append (opening.records ++ records_of seen) (change ∷ []) has.bodies has.others has.recorded pending in
-    (more.0, record {
-      changes = (opening.records ++ records_of f.before) ++ change ∷ [];
-      recorded = subst (λ (l : List Change). AreRecords ((opening.records ++ l) ++ change ∷ []) (has.bodies ++ has.others)) kept recorded;
-      leaves = more.1;
-    })
+    let recorded = records-append (opening.records ++ records_of seen) (change ∷ []) has.bodies has.others has.recorded pending in (
+      more.0,
+      record {
+        changes = (opening.records ++ records_of f.before) ++ change ∷ [];
+        recorded = subst (λ (l : List Change). AreRecords ((opening.records ++ l) ++ change ∷ []) (has.bodies ++ has.others)) kept recorded;
+        leaves = more.1;
+      },
+    )
 
 pub images-sound : OneChange → (tells : Type 0) → tells → (disk : Disk) (end faults : ℕ) (state : State) (opening : Opening) (seen : List Entry)
     → Restores opening.records opening.state.contents → Leads farm_rules opening.state seen state → HoldsHistory tells disk end faults state opening seen

@@ -6,3 +6,4 @@ pub mod AskLemmas
 pub mod HoldLemmas
 pub mod ImageLemmas
 pub mod FaultLemmas
+pub mod OpenedLemmas

@@ -32,12 +32,10 @@ pub struct Asked {
 const NO_MEMORY: &str = "{\"code\":\"OutOfMemory\",\"details\":{},\"message\":\"no memory\"}";
 
 /// The body of a reply where the disk failed.
-const DISK_FAULT: &str =
-    "{\"code\":\"DiskFault\",\"details\":{},\"message\":\"the disk failed\"}";
+const DISK_FAULT: &str = "{\"code\":\"DiskFault\",\"details\":{},\"message\":\"the disk failed\"}";
 
 /// The body of a reply where the disk had failed.
-const HALTED: &str =
-    "{\"code\":\"Halted\",\"details\":{},\"message\":\"the disk failed earlier\"}";
+const HALTED: &str = "{\"code\":\"Halted\",\"details\":{},\"message\":\"the disk failed earlier\"}";
 
 impl Reply {
     ghost use Rattle.farm_machine.specs.Replies.{answer_of};

@@ -61,11 +61,7 @@ fn ask<D: Disk>(
 }
 
 /// The same of a row of the script.
-fn ask_row<D: Disk>(
-    alloc: Global,
-    farm: &mut Farm<D>,
-    row: &str,
-) -> Result<(u16, String), Fail> {
+fn ask_row<D: Disk>(alloc: Global, farm: &mut Farm<D>, row: &str) -> Result<(u16, String), Fail> {
     let (after, word) = row.split_once('|').ok_or("a moment")?;
     let after = after.parse().ok().ok_or("a number")?;
     ask(alloc, farm, after, word)
@@ -90,7 +86,10 @@ fn run_script<D: Disk>(alloc: Global, farm: &mut Farm<D>) -> Result<u64, Fail> {
 }
 
 /// How many records a farm was opened with, and the body of the status at midnight, or why it was not opened.
-fn reopen<D: Disk + Drop>(alloc: Global, disk: D) -> Result<(Result<Counts, OpenFault>, String), Fail> {
+fn reopen<D: Disk + Drop>(
+    alloc: Global,
+    disk: D,
+) -> Result<(Result<Counts, OpenFault>, String), Fail> {
     match Farm::open(alloc, disk, config(alloc)?) {
         Ok(farm) => {
             let mut farm = farm;
@@ -162,7 +161,11 @@ fn nothing_acknowledged_is_lost_in_any_call(rt: HostRuntime) -> Result<(), Fail>
         assert_eq!(rt; done, acknowledged_after(records));
         let is_gate = call >= 4 && call % 4 > 1;
         let choices: &[u8] = if is_gate { &[0, 0xa5, 0xa6, 0xff] } else { &[] };
-        let most = if is_gate { records.saturating_add(1) } else { records };
+        let most = if is_gate {
+            records.saturating_add(1)
+        } else {
+            records
+        };
         assert!(rt; all_open_to(alloc, &disk, choices, records, most)?);
     }
     Ok(())
@@ -194,7 +197,13 @@ fn a_lost_run_is_told_from_any_image(rt: HostRuntime) -> Result<(), Fail> {
     assert!(rt; !images.is_empty());
     for image in &images {
         let (opened, body) = reopen(alloc, memory(alloc, image, NONE)?)?;
-        assert_eq!(rt; opened, Ok(Counts { records: 4, tasks: 1 }));
+        assert_eq!(rt;
+            opened,
+            Ok(Counts {
+                records: 4,
+                tasks: 1
+            })
+        );
         assert_eq!(rt; body.as_str(), LOST);
     }
     Ok(())
@@ -210,9 +219,15 @@ fn a_farm_halts_where_its_disk_fails(rt: HostRuntime) -> Result<(), Fail> {
     let mut farm = farm;
     let (status, body) = ask(alloc, &mut farm, 0, "create")?;
     assert_eq!(rt; status, 500);
-    assert_eq!(rt; body.as_str(), r#"{"code":"DiskFault","details":{},"message":"the disk failed"}"#);
+    assert_eq!(rt;
+        body.as_str(),
+        r#"{"code":"DiskFault","details":{},"message":"the disk failed"}"#
+    );
     let (status, body) = ask(alloc, &mut farm, 0, "ping")?;
     assert_eq!(rt; status, 500);
-    assert_eq!(rt; body.as_str(), r#"{"code":"Halted","details":{},"message":"the disk failed earlier"}"#);
+    assert_eq!(rt;
+        body.as_str(),
+        r#"{"code":"Halted","details":{},"message":"the disk failed earlier"}"#
+    );
     Ok(())
 }
