@@ -51,15 +51,16 @@ fn open_records<D: Disk>(alloc: Global, disk: D) -> Result<(Tables, Records<D>),
     ensures later { D.faults disk ≤ D.faults (disk_left (λ o. o.1.disk) result) }
     ensures kept { IfOk result (λ o. D.faults o.1.disk ≡ D.faults disk) }
 {
-    match Journal::open(alloc, disk) {
-        Ok((journal, bodies)) => match restore(alloc, &bodies) {
-            Ok(tables) => {
-                let count = bodies.len() as u64;
-                Ok((tables, Records::new(journal, count)))
-            }
-            Err(fault) => Err((fault, journal.into_disk())),
-        },
-        Err(refused) => Err(refused),
+    let (journal, bodies) = match Journal::open(alloc, disk) {
+        Ok((journal, bodies)) => (journal, bodies),
+        Err(refused) => return Err(refused),
+    };
+    match restore(alloc, &bodies) {
+        Ok(tables) => {
+            let count = bodies.len() as u64;
+            Ok((tables, Records::new(journal, count)))
+        }
+        Err(fault) => Err((fault, journal.into_disk())),
     }
 }
 
