@@ -15,11 +15,6 @@ records-append [] more (body ∷ bodies) others are them = cc
 records-append (change ∷ changes) more [] others are them = absurd are
 records-append (change ∷ changes) more (body ∷ bodies) others are them = (are.0, records-append changes more bodies others are.1 them)
 
--- no record is of no change
-pub records-none : (changes : List Change) → AreRecords changes [] → changes ≡ []
-records-none [] are = refl
-records-none (change ∷ changes) are = absurd are
-
 -- nothing was kept
 pub KeepsRecords-none : (disk : Contents) (end : ℕ) → KeepsRecords disk end disk end [] []
 KeepsRecords-none disk end = record { bodies = []; others = []; recorded = refl; pending = refl; keeps = Keeps-none [] disk end }
