@@ -14,6 +14,3 @@ pub use head::{Head, reply_head};
 pub use laws::a_path_fits_one_route;
 pub use routes::{call_of, caller_of};
 pub use wire_replies::own_reply;
-
-#[cfg(test)]
-mod tests;

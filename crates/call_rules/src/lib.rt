@@ -16,6 +16,3 @@ pub use create::create_policy;
 pub use laws::a_lower_priority_asks_less;
 pub use manage::{cancel_scopes, rerun_scopes, schedule_scopes};
 pub use work::{claim_scopes, reclaim_scope, resolve_scope, run_name};
-
-#[cfg(test)]
-mod tests;

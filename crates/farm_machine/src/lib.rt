@@ -21,6 +21,4 @@ pub mod question;
 pub mod reply;
 pub mod step;
 pub mod tables;
-#[cfg(test)]
-mod tests;
 mod works;
