@@ -3,14 +3,14 @@
 
 mod command;
 mod laws;
+mod load;
 mod program;
 mod reading;
 mod signing;
-#[cfg(test)]
-mod tests;
 mod values;
 
 pub use command::{Command, Work};
 pub use laws::{plain_words_are_read, words_that_say_a_command_are_read};
+pub use load::Load;
 pub use reading::{WordsFault, read_words};
 pub use signing::Signing;

@@ -16,11 +16,10 @@ mod judged;
 pub mod law;
 mod named;
 mod order;
+mod pages;
 pub mod plan;
 pub mod question;
 pub mod reply;
 pub mod step;
 pub mod tables;
-#[cfg(test)]
-mod tests;
 mod works;

@@ -16,6 +16,7 @@ use farm_machine::question::{Call, Caller, Question};
 use farm_machine::reply::{Asked, Reply};
 use farm_text::{Clock, Draws};
 use http_wire::{Link, Message, Reader, Wire, write_all};
+use route_table::Table;
 use std::alloc::Global;
 
 /// Serves one connection: takes requests from the link (RFC 9112), asks the desk each of them, and writes the replies in
@@ -42,12 +43,53 @@ pub fn serve_connection<
         (outside_of L.Link C.Clock R.Draws G.Gate link.new clock.new draws.new gate.new)
         result }
 {
+    match Table::new(alloc) {
+        Ok(table) => serve_routed(alloc, &table, link, desk, clock, draws, gate),
+        Err(_) => Served::NoMemory,
+    }
+}
+
+/// The same with a table of routes that is there, so that it is made once where many connections are served.
+pub fn serve_routed<
+    L: Link,
+    K: Desk<Question = Question, Answer = Asked, Law = Farm>,
+    C: Clock,
+    R: Draws,
+    G: Gate,
+>(
+    alloc: Global,
+    table: &Table,
+    link: &mut L,
+    desk: &mut K,
+    clock: &mut C,
+    draws: &mut R,
+    gate: &mut G,
+) -> Served
+    requires { REQUESTS ≤ K.spare desk.old }
+    ensures home { K.home desk.new ≡ K.home desk.old }
+    ensures serves { Serves
+        (record { stands = K.stands desk.old; spare = K.spare desk.old })
+        (record { stands = K.stands desk.new; spare = K.spare desk.new })
+        (outside_of L.Link C.Clock R.Draws G.Gate link.old clock.old draws.old gate.old)
+        (outside_of L.Link C.Clock R.Draws G.Gate link.new clock.new draws.new gate.new)
+        result }
+{
     let mut reader = match Reader::new(alloc) {
         Ok(reader) => reader,
         Err(_) => return Served::NoMemory,
     };
     'requests: for place in 0..REQUESTS {
-        let ended = turn(alloc, &mut reader, place, link, desk, clock, draws, gate);
+        let ended = turn(
+            alloc,
+            table,
+            &mut reader,
+            place,
+            link,
+            desk,
+            clock,
+            draws,
+            gate,
+        );
         if let Some(served) = ended {
             return served;
         }
@@ -64,6 +106,7 @@ fn turn<
     G: Gate,
 >(
     alloc: Global,
+    table: &Table,
     reader: &mut Reader,
     place: u64,
     link: &mut L,
@@ -83,7 +126,7 @@ fn turn<
         (prepend_known reader.new (L.left link.new)) result }
 {
     match reader.next_request(alloc, link) {
-        Ok(message) => answer(alloc, message, place, link, desk, clock, draws, gate),
+        Ok(message) => answer(alloc, table, message, place, link, desk, clock, draws, gate),
         Err(reason) => Some(refuse(link, reason)),
     }
 }
@@ -97,6 +140,7 @@ fn answer<
     G: Gate,
 >(
     alloc: Global,
+    table: &Table,
     message: Message,
     place: u64,
     link: &mut L,
@@ -116,7 +160,7 @@ fn answer<
     ensures left { L.left link.new ≡ L.left link.old }
     ensures read_faults { L.read_faults link.new ≡ L.read_faults link.old }
 {
-    let call = match call_of(alloc, &message) {
+    let call = match call_of(alloc, table, &message) {
         Ok(call) => call,
         Err(_) => return Some(Served::NoMemory),
     };
