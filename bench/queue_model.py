@@ -2,6 +2,7 @@
 
 python3 bench/queue_model.py workers|again|lapse|last|deadline|retry: the tables of crates/farm_server/src/tests/work.rt (workers) and runs.rt.
 python3 bench/queue_model.py pair|itself|full|refused|canceled|diamond|tick: those of waits.rt there, of tasks that wait for others.
+python3 bench/queue_model.py group|dependants|pending: those of lists.rt there, line by line.
 """
 import json, sys
 B=1704067200000
@@ -91,6 +92,24 @@ class Farm:
         if not r["runs"]: s.new(r,"scheduled",m)
         return s.ok(r)
     def stat(s,m,i): r=s.row(i); return s.ok(r) if r else s.nf("task",i)
+    def task(s,m,i): r=s.row(i); return (200,s.full(r)) if r else s.nf("task",i)
+    # the tasks of a list behind the one that a token names, so many at most; the list has a name and an id
+    def page(s,key,name,rows,limit,token):
+        behind=rows if token is None else rows[[r["id"] for r in rows].index(token)+1:]
+        d={key:name,"tasks":[dict(status=s.status(r),task=s.full(r)) for r in behind[:limit]]}
+        if len(behind)>limit: d["continuationToken"]=behind[limit-1]["id"]
+        return 200,d
+    def group(s,m,g,limit,token):
+        rows=[r for r in s.rows if r["group"]==g]
+        if token is not None and token not in [r["id"] for r in rows]: return s.bad(name="continuationToken",rule=22)
+        return s.page("taskGroupId",g,rows,limit,token) if rows else s.nf("group",g)
+    def dependants(s,m,i,limit,token):
+        rows=[r for r in s.rows if i in r["deps"]]
+        if token is not None and token not in [r["id"] for r in rows]: return s.bad(name="continuationToken",rule=22)
+        return s.page("taskId",i,rows,limit,token) if s.row(i) else s.nf("task",i)
+    def waiting(s,m,w):
+        n=sum(1 for r in s.rows if s.pending(r)) if w=="wt" else 0
+        return 200,dict(pendingTasks=n,provisionerId="prov",taskQueueId="prov/"+w,workerType=w)
     def claim(s,m,g,w,n):
         out=[]
         for _ in range(n):
@@ -216,6 +235,30 @@ def diamond():
     report(4*S,1,0,"completed"); stat(4*S,3); report(5*S,2,0,"completed"); stat(5*S,3); claim(6*S,"b"); report(7*S,3,0,"failed"); waits(7*S,3,[1,2],group=0)
 # a deadline makes a task pending whose own deadline falls in the same tick
 def tick(): waits(0,0,dl=10*S); waits(0,1,[0],"all-resolved",dl=20*S); waits(0,2,[1],"all-resolved",dl=DAY); stat(30*S,1); stat(30*S,2)
-{"pair":pair,"itself":itself,"full":full,"refused":refused,"canceled":canceled,"diamond":diamond,"tick":tick,"workers":workers,"again":again,"lapse":lapse,"last":last,"deadline":deadline,"retry":retry}[sys.argv[1]]()
+def task(ms,k): go(ms,"GET "+t+I[k],"","task",I[k])
+# a query: how many tasks a page has at most, and the token
+def listed(ms,path,call,i,limit,token,more=""):
+    q=[]
+    if limit is not None: q.append("limit=%d"%limit)
+    if token is not None: q.append("continuationToken="+I[token])
+    go(ms,"GET "+path+("?" if q or more else "")+"&".join(q)+more,"",call,i,1000 if limit is None else limit,None if token is None else I[token])
+def group(ms,k,limit=None,token=None,more=""): listed(ms,"/api/queue/v1/task-group/%s/list"%I[k],"group",I[k],limit,token,more)
+def dependants(ms,k,limit=None,token=None,more=""): listed(ms,"%s%s/dependents"%(t,I[k]),"dependants",I[k],limit,token,more)
+def waiting(ms,w,two=False): go(ms,"GET /api/queue/v1/pending/prov"+("/" if two else "%2F")+w,"","waiting",w)
+# two tasks of a group, one of another
+def of_group():
+    group(0,0); group(0,0,1,0); waits(0,0); waits(0,1,group=0); waits(0,2); group(0,0,1); group(0,0,1,0); group(0,0,1,3); group(0,0,None,2); group(0,0,2); group(0,0,None,1); group(0,2,1000)
+    group(0,1); raw(0,"GET /api/queue/v1/task-group/%s/list?limit=1001"%I[0],"",400,dict(code="InputError",details=dict(name="limit",rule=22),message="the request breaks a rule"))
+    raw(0,"GET /api/queue/v1/task-group/%s/list?limit=1&limit=1"%I[0],"",400,dict(code="InputError",details=dict(name="limit",rule=22),message="the request breaks a rule"))
+# two tasks that wait for one, of which one waits for itself too
+def of_task():
+    dependants(0,0); dependants(0,0,1,0); waits(0,0); dependants(0,0); waits(0,1,[0]); waits(0,2,[0,2]); dependants(0,0,1,more="&a=b"); dependants(0,0,None,1); dependants(0,2); dependants(0,1,None,2)
+    raw(0,"GET %s%s/dependents?continuationToken="%(t,I[0]),"",400,dict(code="InputError",details=dict(name="continuationToken",rule=22),message="the request breaks a rule"))
+# tasks that wait in a queue, and one of them as it was made
+def of_queue():
+    waiting(0,"wt"); task(0,0); waits(0,0); waits(0,1); waits(0,2,[0]); waiting(0,"wt",True); waiting(0,"x"); claim(0,"w"); waiting(0,"wt"); task(S,2); task(S,3)
+    raw(S,"GET /api/queue/v1/pending/prov","",400,dict(code="InputError",details=dict(name="queue",rule=22),message="the request breaks a rule"))
+{"group":of_group,"dependants":of_task,"pending":of_queue,"pair":pair,"itself":itself,"full":full,"refused":refused,"canceled":canceled,"diamond":diamond,"tick":tick,"workers":workers,"again":again,"lapse":lapse,"last":last,"deadline":deadline,"retry":retry}[sys.argv[1]]()
 for ms, req, body, st, rep in rows:
+    if sys.argv[1] in ("group","dependants","pending"): print("%d|%s|%s|%s|%s"%(ms,req,body,st,rep)); continue
     print('    (\n        %s,\n        "%s",\n        r#"%s"#,\n        "%s",\n        r#"%s"#,\n    ),' % (format(ms, '_'), req, body, st, rep))

@@ -1,40 +1,32 @@
--- The call of a message, case by case.
-use Rattle.std.proofs.Common.{◌≡◌, ℕ, true, false, List, None, Result, Ok, Err, IfOk, codes, refl, subst}
+-- The call of a message, by its route or without one.
+use Rattle.std.proofs.Common.{◌≡◌, ℕ, List, map, Result, Ok, Err, IfOk, inl, inr, refl, ap, ◌∙◌, subst}
 use Rattle.std.specs.declared.alloc.AllocError.{AllocError}
-use Rattle.std.specs.Str.{bytes_eq}
+use Rattle.percent_encoding.specs.Percent.{percent_decode}
 use Rattle.http_wire.specs.declared.message.Message.{Message}
+use Rattle.route_table.specs.declared.route.Route.{Route}
+use Rattle.route_table.specs.Fits.{Fits}
 use Rattle.farm_machine.specs.declared.question.Call.{Call}
 use Rattle.farm_machine.specs.declared.question.Call.TheVariants.{NoRoute}
-use Rattle.api_routes.specs.Routes.{path_of, status_route, get_call, IsPutCall, IsCallOf}
-use Rattle.api_routes.specs.Posts.{IsPostCall}
-use Rattle.api_routes.specs.Segments.{parameters_in, parts_of, route_name}
-use Rattle.api_routes.proofs.PathLemmas.{ping, no_ping}
+use Rattle.api_routes.specs.Calls.{Request, Calls}
+use Rattle.api_routes.specs.Names.{route_name}
+use Rattle.api_routes.specs.Routes.{path_of, query_of, request_of, IsCallOf}
 
--- a result that may be one call may be an equal one
-pub IfOk-same : (r : Result Call AllocError) (a b : Call) → a ≡ b → IfOk r (λ c. c ≡ a) → IfOk r (λ c. c ≡ b)
-IfOk-same r a b same ok = let P : Call → Type 0 = λ k. IfOk r (λ c. c ≡ k) in subst P same ok
+-- what a call of a path, a query and a body is read from
+abbrev pub request_for : List ℕ → List ℕ → List ℕ → List (List ℕ) → Request
+request_for path query body parameters =
+    record { path = path; parts = map percent_decode parameters; query = query; body = body }
 
--- a path of GET that is neither that of a ping nor of a status
-pub get_call-nowhere : (path : List ℕ) → bytes_eq path ping ≡ false → parameters_in status_route (parts_of path) ≡ None → NoRoute (route_name path) ≡ get_call path
-get_call-nowhere path other found = rw (no_ping path other, found) refl
-
--- a message of GET, of PUT, of POST, and of any other method
-pub routed-get : (message : Message) (path : List ℕ) (r : Result Call AllocError) → path ≡ path_of message.target → bytes_eq message.method (codes "GET") ≡ true → IfOk r (λ c. c ≡ get_call path) → IfOk r (IsCallOf message)
+pub routed-some : (message : Message) (route : Route) (parameters : List (List ℕ)) (path query body : List ℕ) (r : Result Call AllocError) → path ≡ path_of message.target → query ≡ query_of message.target → body ≡ message.body
+    → Fits route message.method path parameters → IfOk r (Calls route (request_for path query body parameters)) → IfOk r (IsCallOf message)
 unfolding IsCallOf
-routed-get message path (Ok call) is get ok = rw (get, ← is) ok
-routed-get message path (Err e) is get ok = tt
+routed-some message route parameters path query body (Ok call) at asks says fits calls =
+    let request : request_for path query body parameters ≡ request_of message parameters = rw (at, asks, says) refl in
+    inl (route, parameters, subst (λ (p : List ℕ). Fits route message.method p parameters) at fits, subst (λ (r : Request). Calls route r call) request calls)
+routed-some message route parameters path query body (Err e) at asks says fits calls = tt
 
-pub routed-put : (message : Message) (path : List ℕ) (r : Result Call AllocError) → path ≡ path_of message.target → bytes_eq message.method (codes "GET") ≡ false → bytes_eq message.method (codes "PUT") ≡ true → IfOk r (IsPutCall path message.body) → IfOk r (IsCallOf message)
+pub routed-none : (message : Message) (path : List ℕ) (r : Result Call AllocError) → path ≡ path_of message.target → ((route : Route) (parameters : List (List ℕ)) → ¬ Fits route message.method path parameters)
+    → IfOk r (λ call. call ≡ NoRoute (route_name path)) → IfOk r (IsCallOf message)
 unfolding IsCallOf
-routed-put message path (Ok call) is get put ok = rw (get, put, ← is) ok
-routed-put message path (Err e) is get put ok = tt
-
-pub routed-post : (message : Message) (path : List ℕ) (r : Result Call AllocError) → path ≡ path_of message.target → bytes_eq message.method (codes "GET") ≡ false → bytes_eq message.method (codes "PUT") ≡ false → bytes_eq message.method (codes "POST") ≡ true → IfOk r (IsPostCall path message.body) → IfOk r (IsCallOf message)
-unfolding IsCallOf
-routed-post message path (Ok call) is get put post ok = rw (get, put, post, ← is) ok
-routed-post message path (Err e) is get put post ok = tt
-
-pub routed-nowhere : (message : Message) (path : List ℕ) (r : Result Call AllocError) → path ≡ path_of message.target → bytes_eq message.method (codes "GET") ≡ false → bytes_eq message.method (codes "PUT") ≡ false → bytes_eq message.method (codes "POST") ≡ false → IfOk r (λ c. c ≡ NoRoute (route_name path)) → IfOk r (IsCallOf message)
-unfolding IsCallOf
-routed-nowhere message path (Ok call) is get put post ok = rw (get, put, post, ← is) ok
-routed-nowhere message path (Err e) is get put post ok = tt
+routed-none message path (Ok call) at none is =
+    inr (subst (λ (p : List ℕ). (route : Route) (parameters : List (List ℕ)) → ¬ Fits route message.method p parameters) at none, is ∙ ap (λ (p : List ℕ). NoRoute (route_name p)) at)
+routed-none message path (Err e) at none is = tt

@@ -1,45 +1,43 @@
--- Whether the parts of a path fit a route, part by part.
-use Rattle.std.proofs.Common.{◌≡◌, ℕ, ◌+◌, ◌<◌, Bool, true, false, cond, List, [], ◌∷◌, ◌++◌, map, length, drop, get_or, Option, Some, None, refl, sym, ap, ◌∙◌, arith, append_assoc, add-one, drop-cons, Bor}
+-- A path that fits a route gives as many parts as the route has parameters.
+use Rattle.std.proofs.Common.{◌≡◌, ℕ, ◌+◌, Bool, true, false, cond, List, [], ◌∷◌, length, Option, Some, None, refl, sym, ◌∙◌, arith}
+use Rattle.std.specs.List.{count_by}
 use Rattle.std.specs.Option.{option_map}
-use Rattle.api_routes.specs.declared.paths.Piece.{Piece}
-use Rattle.api_routes.specs.Pieces.{segment_of, fits, is_parameter}
-use Rattle.api_routes.specs.Segments.{Segment, word, parameter, parameters_in}
+use Rattle.std.specs.Str.{bytes_eq}
+use Rattle.std.proofs.lemmas.List.Sums.{sum_by-cons}
+use Rattle.route_table.specs.declared.route.Route.{Route}
+use Rattle.route_table.specs.Fits.{Fits}
+use Rattle.route_table.specs.Routes.{path_of, segments_of}
+use Rattle.route_table.specs.Segments.{Segment, word, parameter, parameters_in, parts_of}
+use Rattle.api_routes.specs.Arity.{is_parameter, arity}
+
+-- a part of a path fits that of a route
+abbrev fits : Segment → List ℕ → Bool
+fits (word w) part = bytes_eq part w
+fits parameter [] = false
+fits parameter (b ∷ bs) = true
 
 -- one part more
-pub fit_step : (s : Segment) (ss : List Segment) (part : List ℕ) (parts : List (List ℕ)) → parameters_in (s ∷ ss) (part ∷ parts) ≡ cond (fits s part) (cond (is_parameter s) (option_map (λ more. part ∷ more) (parameters_in ss parts)) (parameters_in ss parts)) None
+fit_step : (s : Segment) (ss : List Segment) (part : List ℕ) (parts : List (List ℕ)) → parameters_in (s ∷ ss) (part ∷ parts) ≡ cond (fits s part) (cond (is_parameter s) (option_map (λ more. part ∷ more) (parameters_in ss parts)) (parameters_in ss parts)) None
 fit_step (word w) ss part parts = refl
 fit_step parameter ss [] parts = refl
 fit_step parameter ss (b ∷ bs) parts = refl
 
-neither : (A : Type 0) (a b : Bool) (n : A) → cond a (cond b n n) n ≡ n
-neither A true true n = refl
-neither A true false n = refl
-neither A false b n = refl
+count_step : (fit takes : Bool) (part : List ℕ) (rest : Option (List (List ℕ))) (n : ℕ) (found : List (List ℕ)) → ((more : List (List ℕ)) → rest ≡ Some more → length more ≡ n) → cond fit (cond takes (option_map (λ more. part ∷ more) rest) rest) None ≡ Some found → length found ≡ cond takes 1 0 + n
+count_step true true part None n found next e = cc
+count_step true true part (Some more) n found next e =
+    let is : found ≡ part ∷ more = cc in
+    rw is (omega (arith, next more refl))
+count_step true false part rest n found next e = omega (arith, next found e)
+count_step false takes part rest n found next e = cc
 
--- a route and a path that fit have as many parts
-pub fit_length : (ss : List Segment) (parts : List (List ℕ)) → (length ss ≡ length parts → ⊥) → parameters_in ss parts ≡ None
-fit_length [] [] differ = absurd (differ refl)
-fit_length [] (part ∷ parts) differ = refl
-fit_length (word w ∷ ss) [] differ = refl
-fit_length (parameter ∷ ss) [] differ = refl
-fit_length (s ∷ ss) (part ∷ parts) differ =
-    let rest : parameters_in ss parts ≡ None = fit_length ss parts (λ same. differ (omega (arith, same))) in
-    fit_step s ss part parts ∙ rw rest (neither _ (fits s part) (is_parameter s) None)
+fit_count : (ss : List Segment) (parts found : List (List ℕ)) → parameters_in ss parts ≡ Some found → length found ≡ count_by is_parameter ss
+fit_count [] [] found e = let is : found ≡ [] = cc in rw is refl
+fit_count [] (part ∷ parts) found e = cc
+fit_count (word w ∷ ss) [] found e = cc
+fit_count (parameter ∷ ss) [] found e = cc
+fit_count (s ∷ ss) (part ∷ parts) found e =
+    let step : cond (fits s part) (cond (is_parameter s) (option_map (λ more. part ∷ more) (parameters_in ss parts)) (parameters_in ss parts)) None ≡ Some found = sym (fit_step s ss part parts) ∙ e in
+    count_step (fits s part) (is_parameter s) part (parameters_in ss parts) (count_by is_parameter ss) found (λ more is. fit_count ss parts more is) step ∙ sym (sum_by-cons (λ x. cond (is_parameter x) 1 0) s ss)
 
--- a part that stands for a parameter is put behind those that are found
-pub fit_found : (ss : List Segment) (part : List ℕ) (parts found : List (List ℕ)) (s : Segment) → fits s part ≡ true → is_parameter s ≡ true → option_map (λ more. found ++ more) (parameters_in (s ∷ ss) (part ∷ parts)) ≡ option_map (λ more. (found ++ part ∷ []) ++ more) (parameters_in ss parts)
-fit_found ss part parts found s here takes = rw (fit_step s ss part parts, here, takes) (more_found (parameters_in ss parts))
-  where
-    more_found : (rest : Option (List (List ℕ))) → option_map (λ more. found ++ more) (option_map (λ more. part ∷ more) rest) ≡ option_map (λ more. (found ++ part ∷ []) ++ more) rest
-    more_found None = refl
-    more_found (Some more) = ap Some (sym (append_assoc found (part ∷ []) more))
-
--- what is left from a place on, where an element stands
-rest_at : {A B : Type 0} (f : A → B) (xs : List A) (n : ℕ) (x : A) → n < length xs → x ≡ get_or xs n x → map f (drop n xs) ≡ f x ∷ map f (drop (n + 1) xs)
-rest_at f xs n x within is = rw (drop-cons xs n x within, ← is, add-one) refl
-
-pub fit_turn : (pieces : List Piece) (parts : List (Bor (List ℕ))) (n : ℕ) (p : Piece) (q : Bor (List ℕ)) (found : List (List ℕ)) (all : Option (List (List ℕ))) → n < length pieces → n < length parts → p ≡ get_or pieces n p → q ≡ get_or parts n q → fits (segment_of p) q.now ≡ true → is_parameter (segment_of p) ≡ true → all ≡ option_map (λ more. found ++ more) (parameters_in (map segment_of (drop n pieces)) (map (λ (part : Bor (List ℕ)). part.now) (drop n parts))) → all ≡ option_map (λ more. (found ++ q.now ∷ []) ++ more) (parameters_in (map segment_of (drop (n + 1) pieces)) (map (λ (part : Bor (List ℕ)). part.now) (drop (n + 1) parts)))
-fit_turn pieces parts n p q found all a b pa qb here takes is =
-    let ps = rest_at segment_of pieces n p a pa in
-    let qs = rest_at (λ (part : Bor (List ℕ)). part.now) parts n q b qb in
-    (rw (ps, qs) at is) ∙ fit_found _ q.now _ found (segment_of p) here takes
+pub fits-arity : (route : Route) (method path : List ℕ) (parameters : List (List ℕ)) → Fits route method path parameters → length parameters ≡ arity route
+fits-arity route method path parameters fit = fit_count (segments_of (path_of route)) (parts_of path) parameters fit.path_is

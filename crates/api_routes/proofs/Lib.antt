@@ -1,9 +1,9 @@
-pub mod ApartLemmas
 pub mod CallLemmas
+pub mod CutLemmas
 pub mod FitLemmas
 pub mod HeadLemmas
+pub mod NameLemmas
 pub mod NumberLemmas
-pub mod PathLemmas
 pub mod PhraseLemmas
-pub mod PostLemmas
+pub mod QueryLemmas
 pub mod QueueLemmas

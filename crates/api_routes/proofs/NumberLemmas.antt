@@ -17,8 +17,8 @@ find_first p a zero i low high is before = absurd (omega arith)
 find_first p a (suc n) i low high is before =
     find_by p a n i (ltb a i) refl low high is before (λ low high before. find_first p (a + 1) n i low high is before)
 
-pub find_none : (p : ℕ → Bool) (a n : ℕ) → ((k : ℕ) → k < a + n → p k ≡ false) → find p (range_with_len a n) ≡ None
+pub find_none : (p : ℕ → Bool) (a n : ℕ) → ((k : ℕ) → a ≤ k → k < a + n → p k ≡ false) → find p (range_with_len a n) ≡ None
 find_none p a zero before = refl
 find_none p a (suc n) before =
-    let here : p a ≡ false = before a (omega arith) in
-    rw here (find_none p (a + 1) n (λ k to. before k (omega arith)))
+    let here : p a ≡ false = before a (omega arith) (omega arith) in
+    rw here (find_none p (a + 1) n (λ k from to. before k (omega arith) (omega arith)))

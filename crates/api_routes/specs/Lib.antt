@@ -1,10 +1,10 @@
+pub mod Arity
 pub mod Bodies
-pub mod Fitting
+pub mod Calls
 pub mod Named
-pub mod Parts
-pub mod Pieces
-pub mod Posts
+pub mod Names
+pub mod Queries
 pub mod ReplyText
 pub mod Routes
 pub mod Said
-pub mod Segments
+pub mod Values

@@ -1,8 +1,8 @@
 -- What a path names for a run, as the code has it; for private clauses.
 use Rattle.std.specs.Prelude.{ℕ, List, Option, Some, None}
 use Rattle.farm_machine.specs.declared.question.Parameter.TheVariants.{TaskId, RunId}
-use Rattle.api_routes.specs.declared.posts.Named.{Named}
-use Rattle.api_routes.specs.declared.posts.Named.TheVariants.{Run, Bad}
+use Rattle.api_routes.specs.declared.parts.Named.{Named}
+use Rattle.api_routes.specs.declared.parts.Named.TheVariants.{Run, Bad}
 
 -- the run, by the id of its task and its number
 abbrev pub named_of : Option (List ℕ) → Option ℕ → Named

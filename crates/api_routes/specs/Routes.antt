@@ -1,77 +1,43 @@
--- Which call a message makes (the queue service's routes of the Taskcluster reference).
-use Rattle.std.specs.Prelude.{◌≡◌, ℕ, List, [], ◌∷◌, ◌==◌, codes, bytes_eq, Option, Some, None}
-use Rattle.std.specs.List.{before_first}
+-- Which call a message makes, and who sends it (the queue service's routes of the Taskcluster reference).
+use Rattle.std.specs.Prelude.{◌≡◌, ◌⊎◌, ℕ, List, ◌==◌, map, Option, Some, None}
+use Rattle.std.specs.List.{before_first, after_first}
 use Rattle.percent_encoding.specs.Percent.{percent_decode}
 use Rattle.http_wire.specs.declared.message.Message.{Message}
-use Rattle.farm_text.specs.Slug.{slug_of}
+use Rattle.route_table.specs.Fits.{Fits}
+use Rattle.route_table.specs.declared.route.Route.{Route}
 use Rattle.farm_machine.specs.declared.question.Call.{Call}
-use Rattle.farm_machine.specs.declared.question.Call.TheVariants.{NoRoute, BadParameter, Ping, Status}
-use Rattle.std.specs.Bool.{MatchBool}
-use Rattle.api_routes.specs.Bodies.{IsCreateCall}
-use Rattle.api_routes.specs.Posts.{IsPostCall}
-use Rattle.api_routes.specs.Segments.{Segment, word, parameter, parameters_in, parts_of, queue_route, route_name}
-use Rattle.farm_machine.specs.declared.question.Parameter.TheVariants.{TaskId}
+use Rattle.farm_machine.specs.declared.question.Call.TheVariants.{NoRoute}
 use Rattle.farm_machine.specs.declared.question.Caller.{Caller}
 use Rattle.farm_machine.specs.declared.question.Caller.TheVariants.{Anonymous, Signed}
 use Rattle.farm_machine.specs.declared.question.Credentials.{Credentials}
 use Rattle.farm_machine.specs.Entry.{Asking}
+use Rattle.api_routes.specs.Calls.{Request, Calls}
+use Rattle.api_routes.specs.Names.{route_name}
 
 -- the target before its query (RFC 3986, section 3.4)
 abbrev pub path_of : List ℕ → List ℕ
 path_of target = before_first (λ b. b == 63) target
 
--- `/ping`
-abbrev pub ping_route : List Segment
-ping_route = queue_route (word (codes "ping") ∷ [])
+-- what stands behind it (nothing, where there is no `?`)
+abbrev pub query_of : List ℕ → List ℕ
+query_of target = after_first (λ b. b == 63) target
 
--- `/task/{taskId}/status`
-abbrev pub status_route : List Segment
-status_route = queue_route (word (codes "task") ∷ parameter ∷ word (codes "status") ∷ [])
+-- what a call of a message is read from, where these parts of its path stand for the parameters of its route
+abbrev pub request_of : Message → List (List ℕ) → Request
+request_of message parameters = record {
+  path = path_of message.target;
+  parts = map percent_decode parameters;
+  query = query_of message.target;
+  body = message.body;
+}
 
--- `/task/{taskId}`
-abbrev pub create_route : List Segment
-create_route = queue_route (word (codes "task") ∷ parameter ∷ [])
-
--- the status call of a task, whose id is percent-encoded (RFC 3986, section 2.1)
-abbrev pub status_call : Option (List ℕ) → Call
-status_call None = BadParameter TaskId
-status_call (Some id) = Status id
-
--- the call of a route with these parameters, where the path fits; of the routes that are left, otherwise
-abbrev pub status_or : Option (List (List ℕ)) → List ℕ → Call
-status_or None path = NoRoute (route_name path)
-status_or (Some []) path = NoRoute (route_name path)
-status_or (Some (part ∷ parts)) path = status_call (slug_of (percent_decode part))
-
--- the call of a path that is that of a ping, or of another route
-abbrev pub ping_or : Option (List (List ℕ)) → List ℕ → Call
-ping_or (Some parts) path = Ping
-ping_or None path = status_or (parameters_in status_route (parts_of path)) path
-
--- the call of GET on a path
-abbrev pub get_call : List ℕ → Call
-get_call path = ping_or (parameters_in ping_route (parts_of path)) path
-
--- the call of PUT on a path with these parameters, where it fits the route
-abbrev pub IsPutOr : Option (List (List ℕ)) → List ℕ → List ℕ → Call → Type 0
-IsPutOr None path body call = call ≡ NoRoute (route_name path)
-IsPutOr (Some []) path body call = call ≡ NoRoute (route_name path)
-IsPutOr (Some (part ∷ parts)) path body call = IsCreateCall body (slug_of (percent_decode part)) call
-
--- the call of PUT on a path, with this body
-abbrev pub IsPutCall : List ℕ → List ℕ → Call → Type 0
-IsPutCall path body call = IsPutOr (parameters_in create_route (parts_of path)) path body call
-
--- the call of a method and a path, with this body
-abbrev pub IsRouted : List ℕ → List ℕ → List ℕ → Call → Type 0
-IsRouted method path body call =
-    MatchBool (bytes_eq method (codes "GET")) (call ≡ get_call path)
-    (MatchBool (bytes_eq method (codes "PUT")) (IsPutCall path body call)
-    (MatchBool (bytes_eq method (codes "POST")) (IsPostCall path body call) (call ≡ NoRoute (route_name path))))
-
--- what a message calls
+-- what a message calls: what the route calls that its method and path fit (they fit at most one), and nothing where they fit none
 unfoldable pub IsCallOf : Message → Call → Type 0
-IsCallOf message call = IsRouted message.method (path_of message.target) message.body call
+IsCallOf message call =
+    ((route : Route) × (parameters : List (List ℕ)) × Fits route message.method (path_of message.target) parameters
+    × Calls route (request_of message parameters) call)
+    ⊎ (((route : Route) (parameters : List (List ℕ)) → ¬ Fits route message.method (path_of message.target) parameters)
+    × (call ≡ NoRoute (route_name (path_of message.target))))
 
 -- the credentials of a message whose first Authorization field has this value (RFC 9110, section 11.6.2), and what of it they sign
 abbrev pub credentials_of : Message → List ℕ → Credentials

@@ -33,7 +33,7 @@ fn read(alloc: Global, body: &[u8]) -> Result<Said, AllocError>
 }
 
 /// The call to make the task of this id that the body defines, or the body's fault.
-pub(crate) fn task_call(alloc: Global, id: SlugId, body: &[u8]) -> Result<Call, AllocError>
+pub(crate) fn definition_call(alloc: Global, id: SlugId, body: &[u8]) -> Result<Call, AllocError>
     ensures { IfOk result (IsTaskBody body.now id) }
 {
     let doc = match read(alloc, body)? {

@@ -2,16 +2,16 @@
 #![tactic(auto)]
 
 mod bodies;
+mod calls;
 mod head;
-mod laws;
-mod paths;
-mod posts;
+mod names;
+mod parts;
+mod queries;
 mod requests;
 mod routes;
 mod wire_replies;
 
 pub use head::{Head, reply_head};
-pub use laws::a_path_fits_one_route;
 pub use routes::{call_of, caller_of};
 pub use wire_replies::own_reply;
 

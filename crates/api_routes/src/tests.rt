@@ -1,11 +1,17 @@
 //! Messages and the calls that they make, by the queue service's reference, and a head by HTTP/1.1.
 use super::*;
-use farm_machine::question::{BodyFault, Call, Caller, Parameter};
+use farm_machine::question::{BodyFault, Call, Caller, PageRequest, Parameter};
 use farm_machine::reply::Reply;
-use farm_record::Report;
+use farm_record::{Report, RunName};
+use farm_text::SlugId;
 use http_wire::{Bytes, Message, Wire};
+use route_table::Table;
 use std::alloc::{AllocError, Global};
 use std::test::Fail;
+use task_defs::TaskQueue;
+
+mod bodies;
+mod targets;
 
 /// A message of this method and target, with this body.
 fn message(
@@ -41,7 +47,10 @@ fn parameter_word(parameter: Parameter) -> &'static str {
     match parameter {
         Parameter::TaskId => "taskId",
         Parameter::RunId => "runId",
+        Parameter::TaskGroupId => "taskGroupId",
         Parameter::Queue => "queue",
+        Parameter::Limit => "limit",
+        Parameter::ContinuationToken => "continuationToken",
     }
 }
 
@@ -59,284 +68,83 @@ fn report_word(report: Report) -> &'static str {
     }
 }
 
-/// Whether a call is the one of this word.
-fn is_called(call: &Call, wanted: &str) -> bool {
-    match call {
-        Call::NoRoute(name) => name.as_str() == wanted,
-        Call::BadParameter(parameter) => parameter_word(*parameter) == wanted,
-        Call::BadBody(fault) => fault_of(fault) == wanted,
-        Call::Ping => wanted == "ping",
-        Call::Status(id) => id.text().as_slice() == wanted.as_bytes(),
-        Call::CreateTask(creation) => creation.id.text().as_slice() == wanted.as_bytes(),
-        Call::ClaimWork(work) => work.worker_id.as_str() == wanted,
-        Call::ReclaimTask(_) => wanted == "reclaim",
-        Call::ReportRun(report) => report_word(report.reason) == wanted,
-        Call::ScheduleTask(_) => wanted == "schedule",
-        Call::RerunTask(_) => wanted == "rerun",
-        Call::CancelTask(_) => wanted == "cancel",
-    }
+/// A call of a task, in words.
+fn task_told(alloc: Global, word: &str, id: SlugId) -> Result<String, AllocError> {
+    let name = id.to_text(alloc)?;
+    format!(in alloc; "{word} {}", name.as_str())
 }
 
-/// How many runs a call asks for, or the number of the run of which it is; else 0.
-fn number_of(call: &Call) -> u8 {
-    match call {
-        Call::ClaimWork(work) => work.tasks,
-        Call::ReclaimTask(name) => name.run,
-        Call::ReportRun(report) => report.run,
-        _ => 0,
-    }
-}
-
-/// Whether a message makes the call of this word.
-fn makes(
+/// A call of a list, in words: what it is of, how many tasks a page has, and the token.
+fn list_told(
     alloc: Global,
-    method: &[u8],
-    target: &[u8],
-    body: &[u8],
-    wanted: &str,
-) -> Result<bool, AllocError> {
-    let message = message(alloc, method, target, body)?;
-    let call = call_of(alloc, &message)?;
-    Ok(is_called(&call, wanted))
-}
-
-#[test]
-fn each_route_is_its_own(rt: HostRuntime) -> Result<(), Fail> {
-    let rows: [(&[u8], &[u8], &str); 8] = [
-        (b"GET", b"/api/queue/v1/ping", "ping"),
-        (b"GET", b"/api/queue/v1/ping?a=/b", "ping"),
-        (b"POST", b"/api/queue/v1/ping", "/api/queue/v1/ping"),
-        (
-            b"GET",
-            b"/api/queue/v1/task/AAAAAAAAQACAAAAAAAAAAA/status",
-            "AAAAAAAAQACAAAAAAAAAAA",
-        ),
-        (
-            b"GET",
-            b"/api/queue/v1/task/%41AAAAAAAQACAAAAAAAAAAA/status",
-            "AAAAAAAAQACAAAAAAAAAAA",
-        ),
-        (b"GET", b"/api/queue/v1/task/x/status", "taskId"),
-        (
-            b"GET",
-            b"/api/queue/v1/task//status",
-            "/api/queue/v1/task//status",
-        ),
-        (b"GET", b"/\xc3\xa9", "-"),
-    ];
-    for (method, target, wanted) in rows {
-        assert!(rt; makes(rt.alloc(), method, target, b"", wanted)?);
+    word: &str,
+    id: SlugId,
+    page: &PageRequest,
+) -> Result<String, AllocError> {
+    let name = id.to_text(alloc)?;
+    let limit = page.limit;
+    match page.after {
+        Some(after) => {
+            let token = after.to_text(alloc)?;
+            format!(in alloc; "{word} {} {limit} {}", name.as_str(), token.as_str())
+        }
+        None => format!(in alloc; "{word} {} {limit}", name.as_str()),
     }
-    Ok(())
 }
 
-/// The smallest definition of a task.
-const PLAIN: &[u8] =
-    b"{\"created\":\"2024-01-01T00:00:00.000Z\",\"deadline\":\"2024-01-02T00:00:00.000Z\",\"metadata\":{\"description\":\"d\",\"name\":\"n\",\"owner\":\"o@example.com\",\"source\":\"https://example.com/\"},\"payload\":{},\"taskQueueId\":\"prov/wt\"}";
+/// A call of a queue, in words.
+fn queue_told(alloc: Global, word: &str, queue: &TaskQueue) -> Result<String, AllocError> {
+    let name = queue.name(alloc)?;
+    format!(in alloc; "{word} {}", name.as_str())
+}
 
-#[test]
-fn a_body_is_read_where_its_call_has_one(rt: HostRuntime) -> Result<(), Fail> {
-    let task = b"/api/queue/v1/task/AAAAAAAAQACAAAAAAAAAAA".as_slice();
-    let rows: [(&[u8], &[u8], &[u8], &str); 8] = [
-        (b"PUT", task, PLAIN, "AAAAAAAAQACAAAAAAAAAAA"),
-        (b"PUT", task, b"", "no JSON"),
-        (b"PUT", task, b"{\"payload\":{\"a\":1.5}}", "/payload/a"),
-        (b"PUT", task, b"{}", "created"),
-        (b"PUT", b"/api/queue/v1/task/x", b"", "taskId"),
-        (b"PUT", b"/api/queue/v1/task/", PLAIN, "/api/queue/v1/task/"),
-        (
-            b"GET",
-            task,
-            PLAIN,
-            "/api/queue/v1/task/AAAAAAAAQACAAAAAAAAAAA",
-        ),
-        (b"GET", b"/api/queue/v1/ping", b"{", "ping"),
-    ];
-    for (method, target, body, wanted) in rows {
-        assert!(rt; makes(rt.alloc(), method, target, body, wanted)?);
+/// A call of a run, in words.
+fn run_told(alloc: Global, word: &str, run: u8) -> Result<String, AllocError> {
+    format!(in alloc; "{word} {run}")
+}
+
+/// What a message calls, in words.
+fn told(alloc: Global, call: &Call) -> Result<String, AllocError> {
+    match call {
+        Call::NoRoute(name) => format!(in alloc; "no route {}", name.as_str()),
+        Call::BadParameter(parameter) => format!(in alloc; "bad {}", parameter_word(*parameter)),
+        Call::BadBody(fault) => String::from_str(alloc, fault_of(fault)),
+        Call::Ping => String::from_str(alloc, "ping"),
+        Call::Task(id) => task_told(alloc, "task", *id),
+        Call::Status(id) => task_told(alloc, "status", *id),
+        Call::ListTaskGroup(id, page) => list_told(alloc, "group", *id, page),
+        Call::ListDependentTasks(id, page) => list_told(alloc, "dependents", *id, page),
+        Call::PendingTasks(queue) => queue_told(alloc, "pending", queue),
+        Call::CreateTask(creation) => task_told(alloc, "create", creation.id),
+        Call::ClaimWork(work) => run_told(alloc, work.worker_id.as_str(), work.tasks),
+        Call::ReclaimTask(RunName { run, .. }) => run_told(alloc, "reclaim", *run),
+        Call::ReportRun(report) => run_told(alloc, report_word(report.reason), report.run),
+        Call::ScheduleTask(id) => task_told(alloc, "schedule", *id),
+        Call::RerunTask(id) => task_told(alloc, "rerun", *id),
+        Call::CancelTask(id) => task_told(alloc, "cancel", *id),
     }
-    Ok(())
 }
 
-/// Whether a message of POST makes the call of this word and this number.
-fn posts(alloc: Global, row: &(&[u8], &[u8], &str, u8)) -> Result<bool, AllocError> {
-    let message = message(alloc, b"POST", row.0, row.1)?;
-    let call = call_of(alloc, &message)?;
-    Ok(is_called(&call, row.2) && number_of(&call) == row.3)
+/// Whether the message of a row, a method, a target and a body, calls what the row ends with.
+fn calls(alloc: Global, table: &Table, row: &str) -> Result<bool, Fail> {
+    let (method, rest) = row.split_once(' ').ok_or("a method")?;
+    let (target, rest) = rest.split_once('|').ok_or("a target")?;
+    let (body, wanted) = rest.split_once('|').ok_or("a body")?;
+    let asked = message(alloc, method.as_bytes(), target.as_bytes(), body.as_bytes())?;
+    let call = call_of(alloc, table, &asked)?;
+    let words = told(alloc, &call)?;
+    Ok(words.as_str() == wanted)
 }
 
-/// The place of the first row that a message does not make, or how many there are.
-fn first_other(alloc: Global, rows: &[(&[u8], &[u8], &str, u8)]) -> Result<usize, AllocError> {
-    for (place, row) in rows.iter().enumerate() {
-        if !posts(alloc, row)? {
-            return Ok(place);
+/// The first of these rows whose message calls something else, or `none`.
+fn first_other<'a>(alloc: Global, rows: &'a str) -> Result<&'a str, Fail> {
+    let table = Table::new(alloc)?;
+    for row in rows.split('\n') {
+        if !calls(alloc, &table, row)? {
+            return Ok(row);
         }
     }
-    Ok(rows.len())
-}
-
-/// A worker who does not say how many runs it takes.
-const WORKER: &[u8] = b"{\"workerGroup\":\"g\",\"workerId\":\"w\"}";
-
-const QUEUE: &[u8] = b"/api/queue/v1/claim-work/prov/wt";
-
-const WORK: [(&[u8], &[u8], &str, u8); 14] = [
-    (QUEUE, WORKER, "w", 1),
-    (b"/api/queue/v1/claim-work/prov%2Fwt", WORKER, "w", 1),
-    (b"/api/queue/v1/claim-work/%70rov%2fwt?a", WORKER, "w", 1),
-    (
-        QUEUE,
-        b"{\"tasks\":32,\"workerId\":\"w\",\"workerGroup\":\"g\"}",
-        "w",
-        32,
-    ),
-    (
-        QUEUE,
-        b"{\"tasks\":40,\"tasks\":2,\"workerGroup\":\"g\",\"workerId\":\"w\"}",
-        "w",
-        2,
-    ),
-    (
-        QUEUE,
-        b"{\"tasks\":0,\"workerGroup\":\"g\",\"workerId\":\"w\"}",
-        "no work",
-        0,
-    ),
-    (
-        QUEUE,
-        b"{\"tasks\":33,\"workerGroup\":\"g\",\"workerId\":\"w\"}",
-        "no work",
-        0,
-    ),
-    (
-        QUEUE,
-        b"{\"workerGroup\":\"g\",\"workerId\":\"w\",\"x\":1}",
-        "no work",
-        0,
-    ),
-    (
-        QUEUE,
-        b"{\"workerGroup\":\"g/\",\"workerId\":\"w\"}",
-        "no work",
-        0,
-    ),
-    (QUEUE, b"[]", "no work", 0),
-    (QUEUE, b"{\"tasks\":1.5}", "/tasks", 0),
-    (QUEUE, b"{", "no JSON", 0),
-    (b"/api/queue/v1/claim-work/prov%2Fwt/x", b"{", "queue", 0),
-    (
-        b"/api/queue/v1/claim-work/prov/",
-        WORKER,
-        "/api/queue/v1/claim-work/prov/",
-        0,
-    ),
-];
-
-#[test]
-fn workers_ask_for_work(rt: HostRuntime) -> Result<(), Fail> {
-    assert_eq!(rt; first_other(rt.alloc(), &WORK)?, 14);
-    Ok(())
-}
-
-const RUNS: [(&[u8], &[u8], &str, u8); 17] = [
-    (
-        b"/api/queue/v1/task/AAAAAAAAQACAAAAAAAAAAA/schedule",
-        b"",
-        "schedule",
-        0,
-    ),
-    (
-        b"/api/queue/v1/task/AAAAAAAAQACAAAAAAAAAAA/rerun",
-        b"{",
-        "rerun",
-        0,
-    ),
-    (
-        b"/api/queue/v1/task/AAAAAAAAQACAAAAAAAAAAA/cancel",
-        b"",
-        "cancel",
-        0,
-    ),
-    (b"/api/queue/v1/task/%ff/cancel", b"", "taskId", 0),
-    (
-        b"/api/queue/v1/task//cancel",
-        b"",
-        "/api/queue/v1/task//cancel",
-        0,
-    ),
-    (
-        b"/api/queue/v1/task/AAAAAAAAQACAAAAAAAAAAA/runs/0/reclaim",
-        b"",
-        "reclaim",
-        0,
-    ),
-    (
-        b"/api/queue/v1/task/AAAAAAAAQACAAAAAAAAAAA/runs/%349/completed",
-        b"{",
-        "completed",
-        49,
-    ),
-    (
-        b"/api/queue/v1/task/AAAAAAAAQACAAAAAAAAAAA/runs/7/failed",
-        b"",
-        "failed",
-        7,
-    ),
-    (
-        b"/api/queue/v1/task/AAAAAAAAQACAAAAAAAAAAA/runs/50/failed",
-        b"",
-        "runId",
-        0,
-    ),
-    (
-        b"/api/queue/v1/task/AAAAAAAAQACAAAAAAAAAAA/runs/07/failed",
-        b"",
-        "runId",
-        0,
-    ),
-    (b"/api/queue/v1/task/x/runs/50/failed", b"", "taskId", 0),
-    (
-        b"/api/queue/v1/task/x/runs//failed",
-        b"",
-        "/api/queue/v1/task/x/runs//failed",
-        0,
-    ),
-    (
-        b"/api/queue/v1/task/AAAAAAAAQACAAAAAAAAAAA/runs/1/exception",
-        b"{\"reason\":\"worker-shutdown\"}",
-        "worker-shutdown",
-        1,
-    ),
-    (
-        b"/api/queue/v1/task/AAAAAAAAQACAAAAAAAAAAA/runs/1/exception",
-        b"{\"reason\":\"completed\"}",
-        "no reason",
-        0,
-    ),
-    (
-        b"/api/queue/v1/task/AAAAAAAAQACAAAAAAAAAAA/runs/1/exception",
-        b"{\"reason\":\"superseded\",\"x\":1}",
-        "no reason",
-        0,
-    ),
-    (
-        b"/api/queue/v1/task/AAAAAAAAQACAAAAAAAAAAA/runs/1/exception",
-        b"",
-        "no JSON",
-        0,
-    ),
-    (
-        b"/api/queue/v1/task/AAAAAAAAQACAAAAAAAAAAA/runs/x/exception",
-        b"",
-        "runId",
-        0,
-    ),
-];
-
-#[test]
-fn workers_tell_of_runs(rt: HostRuntime) -> Result<(), Fail> {
-    assert_eq!(rt; first_other(rt.alloc(), &RUNS)?, 17);
-    Ok(())
+    Ok("none")
 }
 
 /// Whether a caller gives credentials.

@@ -10,7 +10,7 @@ use Rattle.task_defs.specs.declared.choices.Priority.TheVariants.{Highest, VeryH
 use Rattle.task_defs.specs.declared.names.TaskQueue.{TaskQueue}
 use Rattle.task_defs.specs.declared.task_def.TaskDef.{TaskDef}
 use Rattle.call_rules.specs.declared.calls.Call.{Call}
-use Rattle.call_rules.specs.declared.calls.Call.TheVariants.{Ping, Status, CreateTask, ClaimWork, ReclaimTask, ResolveRun, ScheduleTask, RerunTask, CancelTask}
+use Rattle.call_rules.specs.declared.calls.Call.TheVariants.{Ping, Task, Status, ListTaskGroup, ListDependentTasks, PendingTasks, CreateTask, ClaimWork, ReclaimTask, ResolveRun, ScheduleTask, RerunTask, CancelTask}
 
 -- the place of a priority, from the highest
 abbrev pub rank : Priority → ℕ
@@ -41,9 +41,26 @@ create_policy def =
     ∷ any_of (members_of (map (λ p. one (create_scope def.queue p)) (from_highest def.priority)))
     ∷ [])))
 
--- what status asks
+-- what asks for one scope, a text with an id behind it
+abbrev pub id_policy : List ℕ → List ℕ → Expression
+id_policy front id = one (front ++ slug_text id)
+
+-- what task, status, listTaskGroup (of the group's id) and listDependentTasks ask
+abbrev pub task_policy : List ℕ → Expression
+task_policy id = id_policy (codes "queue:get-task:") id
+
 abbrev pub status_policy : List ℕ → Expression
-status_policy id = one (codes "queue:status:" ++ slug_text id)
+status_policy id = id_policy (codes "queue:status:") id
+
+abbrev pub group_policy : List ℕ → Expression
+group_policy group = id_policy (codes "queue:list-task-group:") group
+
+abbrev pub dependants_policy : List ℕ → Expression
+dependants_policy id = id_policy (codes "queue:list-dependent-tasks:") id
+
+-- what pendingTasks asks
+abbrev pub pending_policy : TaskQueue → Expression
+pending_policy queue = one (codes "queue:pending-count:" ++ queue_name queue.provisioner_id queue.worker_type)
 
 -- what claimWork asks: to claim work of the queue, as this worker
 abbrev pub claim_policy : TaskQueue → List ℕ → List ℕ → Expression
@@ -87,7 +104,11 @@ cancel_policy id def = manage_policy (codes "queue:cancel-task:") (codes "queue:
 -- the table of calls, a line each
 abbrev pub policy : Call → Expression
 policy Ping = all_of no_members
+policy (Task id) = task_policy id
 policy (Status id) = status_policy id
+policy (ListTaskGroup group) = group_policy group
+policy (ListDependentTasks id) = dependants_policy id
+policy (PendingTasks queue) = pending_policy queue.now
 policy (CreateTask def) = create_policy def.now
 policy (ClaimWork queue group id) = claim_policy queue.now group.now id.now
 policy (ReclaimTask id run) = reclaim_policy id run

@@ -1,11 +1,13 @@
 //! The calls, and what each asks.
 ghost use Rattle.std.specs.Prelude.{◌≡◌, IfOk};
 ghost use Rattle.scope_sets.specs.Expressions.{view, all_of, no_members};
-ghost use Rattle.call_rules.specs.Policy.{policy, status_policy};
+ghost use Rattle.call_rules.specs.Policy.{policy};
 
 use crate::create::create_policy;
 use crate::manage::{cancel_scopes, rerun_scopes, schedule_scopes};
-use crate::scopes::scope_of;
+use crate::reads::{
+    list_dependants_scope, list_group_scope, pending_scope, status_scope, task_scope,
+};
 use crate::work::{claim_scopes, reclaim_scope, resolve_scope};
 use farm_text::SlugId;
 use scope_sets::Expr;
@@ -17,8 +19,16 @@ use task_defs::{Identifier, TaskDef, TaskQueue};
 pub enum Call<'a> {
     /// Whether the farm is there.
     Ping,
+    /// The definition of the task with this id.
+    Task(SlugId),
     /// The status of the task with this id.
     Status(SlugId),
+    /// The tasks of the group with this id.
+    ListTaskGroup(SlugId),
+    /// The tasks that wait for the task with this id.
+    ListDependentTasks(SlugId),
+    /// How many tasks wait in this queue.
+    PendingTasks(&'a TaskQueue),
     /// To make a task of this definition.
     CreateTask(&'a TaskDef),
     /// To take work of this queue, as the worker of this group and id.
@@ -41,7 +51,11 @@ pub fn expression(alloc: Global, call: Call<'_>) -> Result<Expr, AllocError>
 {
     match call {
         Call::Ping => Ok(ping_scopes(alloc)),
+        Call::Task(id) => task_scope(alloc, id),
         Call::Status(id) => status_scope(alloc, id),
+        Call::ListTaskGroup(group) => list_group_scope(alloc, group),
+        Call::ListDependentTasks(id) => list_dependants_scope(alloc, id),
+        Call::PendingTasks(queue) => pending_scope(alloc, queue),
         Call::CreateTask(def) => create_policy(alloc, def),
         Call::ClaimWork(queue, group, id) => claim_scopes(alloc, queue, group, id),
         Call::ReclaimTask(id, run) => reclaim_scope(alloc, id, run),
@@ -57,14 +71,4 @@ pub fn ping_scopes(alloc: Global) -> Expr
     ensures { view result ≡ all_of no_members }
 {
     Expr::AllOf(Vec::new(alloc))
-}
-
-/// The scope of a task's status.
-pub fn status_scope(alloc: Global, id: SlugId) -> Result<Expr, AllocError>
-    ensures { IfOk result (λ e. view e ≡ status_policy id) }
-{
-    // A slugid is printable, since these are the bytes of a version 4 UUID.
-    let _uuid = id.uuid();
-    let name = id.to_text(alloc)?;
-    Ok(Expr::One(scope_of(alloc, "queue:status:", name.as_str())?))
 }

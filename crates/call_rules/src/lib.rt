@@ -8,13 +8,15 @@ mod calls;
 mod create;
 mod laws;
 mod manage;
+mod reads;
 mod scopes;
 mod work;
 
-pub use calls::{Call, expression, ping_scopes, status_scope};
+pub use calls::{Call, expression, ping_scopes};
 pub use create::create_policy;
 pub use laws::a_lower_priority_asks_less;
 pub use manage::{cancel_scopes, rerun_scopes, schedule_scopes};
+pub use reads::{list_dependants_scope, list_group_scope, pending_scope, status_scope, task_scope};
 pub use work::{claim_scopes, reclaim_scope, resolve_scope, run_name};
 
 #[cfg(test)]

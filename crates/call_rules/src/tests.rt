@@ -38,6 +38,10 @@ fn calls_ask(
 ) -> bool {
     matches!(expression(alloc, Call::CreateTask(def)), Ok(asked) if is_creation(&asked))
         && matches!(expression(alloc, Call::Status(id)), Ok(asked) if is_one(&asked, "queue:status:AAAAAAAAQACAAAAAAAAAAA"))
+        && matches!(expression(alloc, Call::Task(id)), Ok(asked) if is_one(&asked, "queue:get-task:AAAAAAAAQACAAAAAAAAAAA"))
+        && matches!(expression(alloc, Call::ListTaskGroup(id)), Ok(asked) if is_one(&asked, "queue:list-task-group:AAAAAAAAQACAAAAAAAAAAA"))
+        && matches!(expression(alloc, Call::ListDependentTasks(id)), Ok(asked) if is_one(&asked, "queue:list-dependent-tasks:AAAAAAAAQACAAAAAAAAAAA"))
+        && matches!(expression(alloc, Call::PendingTasks(queue)), Ok(asked) if is_one(&asked, "queue:pending-count:prov/wt"))
         && matches!(expression(alloc, Call::ClaimWork(queue, worker, worker)), Ok(asked) if are_all(&asked, &["queue:claim-work:prov/wt", "queue:worker-id:w/w"]))
 }
 

@@ -31,7 +31,7 @@ pub fn claim_scopes(
 }
 
 /// The scope that begins so and goes on with two identifiers, with a slash between them.
-fn pair_scope(
+pub(crate) fn pair_scope(
     alloc: Global,
     front: &str,
     a: &Identifier,

@@ -1,5 +1,5 @@
 -- A verdict that changes something is that of a createTask whose id no task had.
-use Rattle.std.proofs.Common.{◌≡◌, ℕ, Bool, true, false, List, [], ◌∷◌, ◌++◌, ◌==◌, map, length, Option, Some, None, bytes_eq, nat_lt, min, ◌+◌, refl, ap, ◌∙◌, subst, inl, inr}
+use Rattle.std.proofs.Common.{◌≡◌, ℕ, Bool, true, false, List, [], ◌∷◌, ◌++◌, map, length, Option, Some, None, nat_lt, min, ◌+◌, refl, ap, ◌∙◌, subst, inl, inr}
 use Rattle.farm_record.specs.declared.change.Change.{Change}
 use Rattle.farm_record.specs.declared.change.Creation.{Creation}
 use Rattle.run_states.specs.Rows.{Row}
@@ -9,11 +9,15 @@ use Rattle.farm_rows.specs.Contents.{row_with}
 use Rattle.farm_rows.specs.Picks.{picks}
 use Rattle.task_defs.specs.declared.task_def.TaskDef.{TaskDef}
 use Rattle.farm_machine.specs.declared.question.Call.{Call}
-use Rattle.farm_machine.specs.declared.question.Call.TheVariants.{NoRoute, BadParameter, BadBody, Ping, Status, CreateTask, ClaimWork, ReclaimTask, ReportRun, ScheduleTask, RerunTask, CancelTask}
+use Rattle.farm_machine.specs.declared.question.Call.TheVariants.{NoRoute, BadParameter, BadBody, Ping, Task, Status, ListTaskGroup, ListDependentTasks, PendingTasks, CreateTask, ClaimWork, ReclaimTask, ReportRun, ScheduleTask, RerunTask, CancelTask}
 use Rattle.farm_machine.specs.declared.question.Caller.{Caller}
 use Rattle.farm_machine.specs.declared.reply.Answer.{Answer}
 use Rattle.farm_machine.specs.Calls.CreateTask.{standing, create_task}
 use Rattle.farm_machine.specs.Calls.CancelTask.{cancel_task}
+use Rattle.farm_machine.specs.Calls.ListDependentTasks.{list_dependent_tasks}
+use Rattle.farm_machine.specs.Calls.ListTaskGroup.{list_task_group}
+use Rattle.farm_machine.specs.Calls.PendingTasks.{pending_tasks}
+use Rattle.farm_machine.specs.Calls.Task.{task}
 use Rattle.farm_machine.specs.Calls.ClaimWork.{taking, claim_work}
 use Rattle.farm_machine.specs.Calls.ReclaimTask.{reclaim_task}
 use Rattle.farm_machine.specs.Calls.ReportRun.{report_run}
@@ -39,7 +43,7 @@ no_refusal (Some a) judgement change is strikes = let none : judgement.change �
 
 after_refusals : (at : Setting) (caller : Caller) (form : Form) (judgement : Judgement) (change : Change) → judgement.change ≡ Some change → IsFirst (in_order at caller form) judgement → IsFirst (map IsEnded (case_of form at).rules ++ last_parts at (case_of form at).deed) judgement
 after_refusals at caller form judgement change is (inl p) = absurd (no_refusal (route_of form) judgement change is p)
-after_refusals at caller form judgement change is (inr (a, inl p)) = absurd (no_refusal (parameter_of form) judgement change is p)
+after_refusals at caller form judgement change is (inr (a, inl p)) = absurd (no_refusal (parameter_of form at) judgement change is p)
 after_refusals at caller form judgement change is (inr (a, inr (b, inl p))) = absurd (no_refusal (body_of form) judgement change is p)
 after_refusals at caller form judgement change is (inr (a, inr (b, inr (c, inl p)))) = absurd (no_refusal (Some p.0) judgement change is p.2)
 after_refusals at caller form judgement change is (inr (a, inr (b, inr (c, inr (d, inl p))))) = absurd (no_refusal (case_of form at).absent judgement change is p)
@@ -112,6 +116,11 @@ call_creates at (NoRoute name) judgement creation rules is creates = absurd (no_
 call_creates at (BadParameter parameter) judgement creation rules is creates = absurd (no_creation judgement creation (case_of (form_of (BadParameter parameter)) at).deed at refl is creates)
 call_creates at (BadBody fault) judgement creation rules is creates = absurd (no_creation judgement creation (case_of (form_of (BadBody fault)) at).deed at refl is creates)
 call_creates at Ping judgement creation rules is creates = absurd (no_creation judgement creation (case_of (form_of Ping) at).deed at refl is creates)
+call_creates at (Task id) judgement creation rules is creates =
+    absurd (no_creation judgement creation (task id at).deed at (task_makes id (row_with id at.state.contents.rows) _ (λ row. refl)) is creates)
+call_creates at (ListTaskGroup group page) judgement creation rules is creates = absurd (no_creation judgement creation (list_task_group group page at).deed at refl is creates)
+call_creates at (ListDependentTasks id page) judgement creation rules is creates = absurd (no_creation judgement creation (list_dependent_tasks id page at).deed at refl is creates)
+call_creates at (PendingTasks queue) judgement creation rules is creates = absurd (no_creation judgement creation (pending_tasks queue at).deed at refl is creates)
 call_creates at (Status id) judgement creation rules is creates =
     absurd (no_creation judgement creation (status id at).deed at (task_makes id (row_with id at.state.contents.rows) _ (λ row. refl)) is creates)
 call_creates at (ClaimWork work) judgement creation rules is creates =

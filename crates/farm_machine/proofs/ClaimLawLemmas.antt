@@ -32,7 +32,7 @@ use Rattle.farm_rows.proofs.IdLemmas.{created-ids, claimed-ids, after-holds}
 use Rattle.farm_rows.proofs.ReadyLemmas.{settled-stays, settled-ids}
 use Rattle.farm_rows.proofs.ShownLemmas.{pick-one}
 use Rattle.farm_machine.specs.declared.question.Call.{Call}
-use Rattle.farm_machine.specs.declared.question.Call.TheVariants.{NoRoute, BadParameter, BadBody, Ping, Status, CreateTask, ClaimWork, ReclaimTask, ReportRun, ScheduleTask, RerunTask, CancelTask}
+use Rattle.farm_machine.specs.declared.question.Call.TheVariants.{NoRoute, BadParameter, BadBody, Ping, Task, Status, ListTaskGroup, ListDependentTasks, PendingTasks, CreateTask, ClaimWork, ReclaimTask, ReportRun, ScheduleTask, RerunTask, CancelTask}
 use Rattle.farm_machine.specs.declared.question.WorkRequest.{WorkRequest}
 use Rattle.farm_machine.specs.Calls.ClaimWork.{taking}
 use Rattle.farm_machine.specs.Case.{Setting}
@@ -272,6 +272,12 @@ call-claims name at (NoRoute route) own = claims-none name at.state.contents at.
 call-claims name at (BadParameter parameter) own = claims-none name at.state.contents at.moment
 call-claims name at (BadBody fault) own = claims-none name at.state.contents at.moment
 call-claims name at Ping own = claims-none name at.state.contents at.moment
+call-claims name at (Task id) own =
+    let none = claims-none name at.state.contents at.moment in
+    each-task (Claims name at.state.contents at.moment) id (row_with id at.state.contents.rows) _ none (λ row. none)
+call-claims name at (ListTaskGroup group page) own = claims-none name at.state.contents at.moment
+call-claims name at (ListDependentTasks id page) own = claims-none name at.state.contents at.moment
+call-claims name at (PendingTasks queue) own = claims-none name at.state.contents at.moment
 call-claims name at (Status id) own =
     let none = claims-none name at.state.contents at.moment in
     each-task (Claims name at.state.contents at.moment) id (row_with id at.state.contents.rows) _ none (λ row. none)

@@ -9,7 +9,7 @@ use Rattle.farm_record.specs.declared.change.Change.{Change}
 use Rattle.farm_record.specs.declared.change.Creation.{Creation}
 use Rattle.task_defs.specs.declared.task_def.TaskDef.{TaskDef}
 use Rattle.farm_machine.specs.declared.question.Call.{Call}
-use Rattle.farm_machine.specs.declared.question.Call.TheVariants.{NoRoute, BadParameter, BadBody, Ping, Status, CreateTask, ClaimWork, ReclaimTask, ReportRun, ScheduleTask, RerunTask, CancelTask}
+use Rattle.farm_machine.specs.declared.question.Call.TheVariants.{NoRoute, BadParameter, BadBody, Ping, Task, Status, ListTaskGroup, ListDependentTasks, PendingTasks, CreateTask, ClaimWork, ReclaimTask, ReportRun, ScheduleTask, RerunTask, CancelTask}
 use Rattle.farm_machine.specs.declared.question.Caller.{Caller}
 use Rattle.farm_machine.specs.declared.reply.Answer.{Answer}
 use Rattle.farm_machine.specs.Access.{Has, HasAccess}
@@ -67,7 +67,11 @@ call-other at (NoRoute name) = tt
 call-other at (BadParameter parameter) = tt
 call-other at (BadBody fault) = tt
 call-other at Ping = tt
+call-other at (Task id) = status-other id (row_with id at.state.contents.rows) _ (λ row. tt)
 call-other at (Status id) = status-other id (row_with id at.state.contents.rows) _ (λ row. tt)
+call-other at (ListTaskGroup group page) = tt
+call-other at (ListDependentTasks id page) = tt
+call-other at (PendingTasks queue) = tt
 call-other at (CreateTask creation) =
     standing-other creation.definition (row_with creation.id at.state.contents.rows) _ (not_denied 400 refl, joining-other creation at.state.contents.rows)
 call-other at (ClaimWork work) = tt
@@ -104,46 +108,47 @@ rules-other at deed [] judgement others first = last-other at deed judgement fir
 rules-other at deed (rule ∷ rules) judgement others (inl ended) = rw ended.1 others.0
 rules-other at deed (rule ∷ rules) judgement others (inr (a, rest)) = rules-other at deed rules judgement others.1 rest
 
--- what judges a call that is of its form, whose caller has access, that names what is there, and whose policy holds
-held-first : (at : Setting) (caller : Caller) (case : Setting → Case) (scopes : List (List ℕ)) (judgement : Judgement) → HasAccess at.state.config at.moment caller (Has scopes) → (case at).absent ≡ None → missing scopes (case at).policy ≡ None → IsFirst (in_order at caller (asks case)) judgement → IsFirst (map IsEnded (case at).rules ++ last_parts at (case at).deed) judgement
-held-first at caller case scopes judgement has there none (inl p) = absurd p
-held-first at caller case scopes judgement has there none (inr (a, inl p)) = absurd p
-held-first at caller case scopes judgement has there none (inr (a, inr (b, inl p))) = absurd p
-held-first at caller case scopes judgement has there none (inr (a, inr (b, inr (c, inl p)))) = absurd (not_refused at.state.config at.moment caller scopes has judgement p)
-held-first at caller case scopes judgement has there none (inr (a, inr (b, inr (c, inr (d, inl p))))) = absurd (subst (λ (answer : Option Answer). Strikes answer judgement) there p)
-held-first at caller case scopes judgement has there none (inr (a, inr (b, inr (c, inr (d, inr (e, inl p)))))) = absurd (lacks_none at.state.config at.moment caller scopes (case at).policy has none judgement p)
-held-first at caller case scopes judgement has there none (inr (a, inr (b, inr (c, inr (d, inr (e, inr (f, rest))))))) = rest
+-- what judges a call that is of its form, whose parameters name what they may, whose caller has access, that names what is there, and whose policy holds
+held-first : (at : Setting) (caller : Caller) (case : Setting → Case) (scopes : List (List ℕ)) (judgement : Judgement) → HasAccess at.state.config at.moment caller (Has scopes) → (case at).parameter ≡ None → (case at).absent ≡ None → missing scopes (case at).policy ≡ None → IsFirst (in_order at caller (asks case)) judgement → IsFirst (map IsEnded (case at).rules ++ last_parts at (case at).deed) judgement
+held-first at caller case scopes judgement has named there none (inl p) = absurd p
+held-first at caller case scopes judgement has named there none (inr (a, inl p)) = absurd (subst (λ (answer : Option Answer). Strikes answer judgement) named p)
+held-first at caller case scopes judgement has named there none (inr (a, inr (b, inl p))) = absurd p
+held-first at caller case scopes judgement has named there none (inr (a, inr (b, inr (c, inl p)))) = absurd (not_refused at.state.config at.moment caller scopes has judgement p)
+held-first at caller case scopes judgement has named there none (inr (a, inr (b, inr (c, inr (d, inl p))))) = absurd (subst (λ (answer : Option Answer). Strikes answer judgement) there p)
+held-first at caller case scopes judgement has named there none (inr (a, inr (b, inr (c, inr (d, inr (e, inl p)))))) = absurd (lacks_none at.state.config at.moment caller scopes (case at).policy has none judgement p)
+held-first at caller case scopes judgement has named there none (inr (a, inr (b, inr (c, inr (d, inr (e, inr (f, rest))))))) = rest
 
 -- ---- denied exactly
 
-exactly : (at : Setting) (caller : Caller) (case : Setting → Case) (scopes : List (List ℕ)) (judgement : Judgement) → AreOther (case at).rules → HasAccess at.state.config at.moment caller (Has scopes) → (case at).absent ≡ None → IsFirst (in_order at caller (asks case)) judgement → DeniesExactly scopes (case at).policy judgement.answer
-exactly at caller case scopes judgement others has there first = by (holds scopes (case at).policy) refl where
+exactly : (at : Setting) (caller : Caller) (case : Setting → Case) (scopes : List (List ℕ)) (judgement : Judgement) → AreOther (case at).rules → HasAccess at.state.config at.moment caller (Has scopes) → (case at).parameter ≡ None → (case at).absent ≡ None → IsFirst (in_order at caller (asks case)) judgement → DeniesExactly scopes (case at).policy judgement.answer
+exactly at caller case scopes judgement others has named there first = by (holds scopes (case at).policy) refl where
   by : (test : Bool) → holds scopes (case at).policy ≡ test → DeniesExactly scopes (case at).policy judgement.answer
   by true is = record {
-    held = λ held. rules-other at (case at).deed (case at).rules judgement others (held-first at caller case scopes judgement has there (rw is refl) first);
+    held = λ held. rules-other at (case at).deed (case at).rules judgement others (held-first at caller case scopes judgement has named there (rw is refl) first);
     lacked = λ not_held. absurd (not_held is);
   }
   by false is =
       let lack = reduced scopes (case at).policy in
       let lacks : missing scopes (case at).policy ≡ Some lack = rw is refl in
-      let denied = asks-lacking at caller case scopes lack has there lacks in
+      let denied = asks-lacking at caller case scopes lack has named there lacks in
       let same = in_order-one at caller (asks case) judgement (only_answer (insufficient_scopes lack)) first denied in
       record {
         held = λ held. let no_ : false ≡ true = sym is ∙ held in cc;
         lacked = λ not_held. (lack, lacks, missing_full scopes (case at).policy lack lacks, ap (λ (j : Judgement). j.answer) same);
       }
 
-there-is : (absent : Option Answer) (policy asked : Expression) → where_there absent policy ≡ Some asked → (absent ≡ None) × (policy ≡ asked)
-there-is None policy asked is = (refl, cc)
-there-is (Some a) policy asked is = cc
+there-is : (parameter absent : Option Answer) (policy asked : Expression) → where_there parameter absent policy ≡ Some asked → (parameter ≡ None) × (absent ≡ None) × (policy ≡ asked)
+there-is None None policy asked is = (refl, refl, cc)
+there-is None (Some a) policy asked is = cc
+there-is (Some a) absent policy asked is = cc
 
 form-exactly : (at : Setting) (caller : Caller) (form : Form) (scopes : List (List ℕ)) (policy : Expression) (judgement : Judgement) → AreOther (case_of form at).rules → asked_policy form at ≡ Some policy → HasAccess at.state.config at.moment caller (Has scopes) → IsFirst (in_order at caller form) judgement → DeniesExactly scopes policy judgement.answer
 form-exactly at caller (has_no_route a) scopes policy judgement others is has first = cc
 form-exactly at caller (has_bad_parameter a) scopes policy judgement others is has first = cc
 form-exactly at caller (has_bad_body a) scopes policy judgement others is has first = cc
 form-exactly at caller (asks case) scopes policy judgement others is has first =
-    let there = there-is (case at).absent (case at).policy policy is in
-    subst (λ (e : Expression). DeniesExactly scopes e judgement.answer) there.1 (exactly at caller case scopes judgement others has there.0 first)
+    let there = there-is (case at).parameter (case at).absent (case at).policy policy is in
+    subst (λ (e : Expression). DeniesExactly scopes e judgement.answer) there.2 (exactly at caller case scopes judgement others has there.0 there.1 first)
 
 pub denies-exactly : (opening : State) (before later : List Entry) (asking : Asking) (judgement : Judgement) (scopes : List (List ℕ)) (policy : Expression) → Finished opening before later asking judgement → asked_policy (form_of asking.call) (setting_behind opening before asking) ≡ Some policy → HasAccess opening.config (setting_behind opening before asking).moment asking.caller (Has scopes) → DeniesExactly scopes policy judgement.answer
 unfolding IsVerdict

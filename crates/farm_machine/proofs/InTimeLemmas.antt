@@ -1,5 +1,5 @@
 -- A report ends a run only before the end of its claim.
-use Rattle.std.proofs.Common.{◌≡◌, ℕ, ◌<◌, Bool, true, false, not, ◌&&◌, ◌||◌, ◌==◌, cond, List, [], ◌∷◌, length, find, Option, Some, None, is_some, is_none, option_map, option_and_then, slice_get, bytes_eq, nat_lt, nat_le, min, ◌+◌, refl, sym, ap, ◌∙◌, subst}
+use Rattle.std.proofs.Common.{◌≡◌, ℕ, ◌<◌, Bool, true, false, not, ◌&&◌, ◌||◌, cond, List, [], ◌∷◌, length, find, Option, Some, None, is_some, is_none, option_map, option_and_then, slice_get, bytes_eq, nat_lt, nat_le, min, ◌+◌, refl, sym, ap, ◌∙◌, subst}
 use Rattle.std.specs.List.{last_or, list_any}
 use Rattle.std.specs.Option.{option_to_list}
 use Rattle.std.proofs.lemmas.Bool.{and_parts, leb-false}
@@ -23,8 +23,12 @@ use Rattle.farm_rows.specs.Picks.{picks}
 use Rattle.farm_rows.proofs.DueLemmas.{any_none}
 use Rattle.farm_machine.specs.declared.config.Config.{Config}
 use Rattle.farm_machine.specs.declared.question.Call.{Call}
-use Rattle.farm_machine.specs.declared.question.Call.TheVariants.{NoRoute, BadParameter, BadBody, Ping, Status, CreateTask, ClaimWork, ReclaimTask, ReportRun, ScheduleTask, RerunTask, CancelTask}
+use Rattle.farm_machine.specs.declared.question.Call.TheVariants.{NoRoute, BadParameter, BadBody, Ping, Task, Status, ListTaskGroup, ListDependentTasks, PendingTasks, CreateTask, ClaimWork, ReclaimTask, ReportRun, ScheduleTask, RerunTask, CancelTask}
 use Rattle.farm_machine.specs.Calls.CancelTask.{cancel_task}
+use Rattle.farm_machine.specs.Calls.ListDependentTasks.{list_dependent_tasks}
+use Rattle.farm_machine.specs.Calls.ListTaskGroup.{list_task_group}
+use Rattle.farm_machine.specs.Calls.PendingTasks.{pending_tasks}
+use Rattle.farm_machine.specs.Calls.Task.{task}
 use Rattle.farm_machine.specs.Calls.ClaimWork.{claim_work}
 use Rattle.farm_machine.specs.Calls.CreateTask.{create_task}
 use Rattle.farm_machine.specs.Calls.ReclaimTask.{reclaim_task}
@@ -99,6 +103,11 @@ call-reports at (NoRoute name) judgement report rules is reports = absurd (no-re
 call-reports at (BadParameter parameter) judgement report rules is reports = absurd (no-report judgement report (case_of (form_of (BadParameter parameter)) at).deed at refl is reports)
 call-reports at (BadBody fault) judgement report rules is reports = absurd (no-report judgement report (case_of (form_of (BadBody fault)) at).deed at refl is reports)
 call-reports at Ping judgement report rules is reports = absurd (no-report judgement report (case_of (form_of Ping) at).deed at refl is reports)
+call-reports at (Task id) judgement report rules is reports =
+    absurd (no-report judgement report (task id at).deed at (each-task Quiet id (row_with id at.state.contents.rows) _ refl (λ row. refl)) is reports)
+call-reports at (ListTaskGroup group page) judgement report rules is reports = absurd (no-report judgement report (list_task_group group page at).deed at refl is reports)
+call-reports at (ListDependentTasks id page) judgement report rules is reports = absurd (no-report judgement report (list_dependent_tasks id page at).deed at refl is reports)
+call-reports at (PendingTasks queue) judgement report rules is reports = absurd (no-report judgement report (pending_tasks queue at).deed at refl is reports)
 call-reports at (Status id) judgement report rules is reports =
     absurd (no-report judgement report (status id at).deed at (each-task Quiet id (row_with id at.state.contents.rows) _ refl (λ row. refl)) is reports)
 call-reports at (CreateTask creation) judgement report rules is reports = absurd (no-report judgement report (create_task creation at).deed at refl is reports)

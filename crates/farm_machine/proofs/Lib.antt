@@ -5,6 +5,7 @@ pub mod ExpressionLemmas
 pub mod FaultLemmas
 pub mod OnceLemmas
 pub mod OrderLemmas
+pub mod PageLemmas
 pub mod PlanLemmas
 pub mod RunLawLemmas
 pub mod StepLemmas

@@ -22,7 +22,7 @@ use Rattle.farm_machine.specs.declared.question.Call.{Call}
 use Rattle.farm_machine.specs.declared.question.Call.TheVariants.{CreateTask}
 use Rattle.farm_machine.specs.Access.{Has, HasAccess}
 use Rattle.farm_machine.specs.Calls.CreateTask.{standing, create_task}
-use Rattle.farm_machine.specs.Case.{Setting, Rule, IsFirstRule}
+use Rattle.farm_machine.specs.Case.{Rule, IsFirstRule}
 use Rattle.farm_machine.specs.Changes.{changed, moment_of}
 use Rattle.farm_machine.specs.Entry.{Asking, Entry, tick, call, finished, out_of_memory}
 use Rattle.farm_machine.specs.Judgement.{Judgement, only_answer}
@@ -192,7 +192,7 @@ unfolding IsVerdict
 again-first state asking creation judgement scopes row called has held found same verdict =
     let at = setting_of state asking in
     let answer = ok (document_text (status_body row)) in
-    let ruled = asks-ruled at asking.caller (create_task creation) scopes answer has refl (missing-none scopes (create_policy creation.definition) held) (again-ruled (row_with creation.id state.contents.rows) row creation _ found same) in
+    let ruled = asks-ruled at asking.caller (create_task creation) scopes answer has refl refl (missing-none scopes (create_policy creation.definition) held) (again-ruled (row_with creation.id state.contents.rows) row creation _ found same) in
     let judged : IsFirst (in_order at asking.caller (form_of (CreateTask creation))) judgement = subst (λ (c : Call). IsFirst (in_order at asking.caller (form_of c)) judgement) called verdict in
     in_order-one at asking.caller (form_of (CreateTask creation)) judgement (only_answer answer) judged ruled
 

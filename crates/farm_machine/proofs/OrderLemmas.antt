@@ -63,50 +63,54 @@ rule_ends (rule ∷ rules) Ps a (inr (goes_on, rest)) = inr (λ other ended. goe
 abbrev pub last_parts : Setting → Deed → List (Judgement → Type 0)
 last_parts at deed = Strikes (full at.state deed.change) ∷ IsDone at deed ∷ []
 
--- a call that asks something has no fault of form
-asks-first : (at : Setting) (caller : Caller) (case : Setting → Case) (judgement : Judgement) → IsFirst (HasNoAccess at.state.config at.moment caller ∷ Strikes (case at).absent ∷ LacksScopes at.state.config at.moment caller (case at).policy ∷ (map IsEnded (case at).rules ++ last_parts at (case at).deed)) judgement → IsFirst (in_order at caller (asks case)) judgement
-asks-first at caller case judgement first =
-    inr (λ other strikes. strikes, inr (λ other strikes. strikes, inr (λ other strikes. strikes, first)))
+-- a call that asks something has no fault of form, where its parameters name what they may
+asks-first : (at : Setting) (caller : Caller) (case : Setting → Case) (judgement : Judgement) → (case at).parameter ≡ None → IsFirst (HasNoAccess at.state.config at.moment caller ∷ Strikes (case at).absent ∷ LacksScopes at.state.config at.moment caller (case at).policy ∷ (map IsEnded (case at).rules ++ last_parts at (case at).deed)) judgement → IsFirst (in_order at caller (asks case)) judgement
+asks-first at caller case judgement named first =
+    inr (λ other strikes. strikes, inr (idle (case at).parameter named, inr (λ other strikes. strikes, first)))
+
+-- a parameter names nothing that it may name
+pub asks-misnamed : (at : Setting) (caller : Caller) (case : Setting → Case) (a : Answer) → (case at).parameter ≡ Some a → IsFirst (in_order at caller (asks case)) (only_answer a)
+asks-misnamed at caller case a misnamed = inr (λ other strikes. strikes, inl (struck (case at).parameter a misnamed))
 
 -- the caller is refused
-pub asks-refused : (at : Setting) (caller : Caller) (case : Setting → Case) (a : Answer) → HasAccess at.state.config at.moment caller (Refused a) → IsFirst (in_order at caller (asks case)) (only_answer a)
-asks-refused at caller case a refused = asks-first at caller case (only_answer a) (inl (a, refused, refl))
+pub asks-refused : (at : Setting) (caller : Caller) (case : Setting → Case) (a : Answer) → (case at).parameter ≡ None → HasAccess at.state.config at.moment caller (Refused a) → IsFirst (in_order at caller (asks case)) (only_answer a)
+asks-refused at caller case a named refused = asks-first at caller case (only_answer a) named (inl (a, refused, refl))
 
 -- what is named is not there
-pub asks-absent : (at : Setting) (caller : Caller) (case : Setting → Case) (scopes : List (List ℕ)) (a : Answer) → HasAccess at.state.config at.moment caller (Has scopes) → (case at).absent ≡ Some a → IsFirst (in_order at caller (asks case)) (only_answer a)
-asks-absent at caller case scopes a has absent =
+pub asks-absent : (at : Setting) (caller : Caller) (case : Setting → Case) (scopes : List (List ℕ)) (a : Answer) → HasAccess at.state.config at.moment caller (Has scopes) → (case at).parameter ≡ None → (case at).absent ≡ Some a → IsFirst (in_order at caller (asks case)) (only_answer a)
+asks-absent at caller case scopes a has named absent =
     let free = not_refused at.state.config at.moment caller scopes has in
-    asks-first at caller case (only_answer a) (inr (free, inl (struck (case at).absent a absent)))
+    asks-first at caller case (only_answer a) named (inr (free, inl (struck (case at).absent a absent)))
 
 -- scopes are missing
-pub asks-lacking : (at : Setting) (caller : Caller) (case : Setting → Case) (scopes : List (List ℕ)) (lack : Expression) → HasAccess at.state.config at.moment caller (Has scopes) → (case at).absent ≡ None → missing scopes (case at).policy ≡ Some lack → IsFirst (in_order at caller (asks case)) (only_answer (insufficient_scopes lack))
-asks-lacking at caller case scopes lack has there lacks =
+pub asks-lacking : (at : Setting) (caller : Caller) (case : Setting → Case) (scopes : List (List ℕ)) (lack : Expression) → HasAccess at.state.config at.moment caller (Has scopes) → (case at).parameter ≡ None → (case at).absent ≡ None → missing scopes (case at).policy ≡ Some lack → IsFirst (in_order at caller (asks case)) (only_answer (insufficient_scopes lack))
+asks-lacking at caller case scopes lack has named there lacks =
     let free = not_refused at.state.config at.moment caller scopes has in
     let answer : option_map insufficient_scopes (missing scopes (case at).policy) ≡ Some (insufficient_scopes lack) = rw lacks refl in
     let strikes = struck (option_map insufficient_scopes (missing scopes (case at).policy)) (insufficient_scopes lack) answer in
-    asks-first at caller case (only_answer (insufficient_scopes lack)) (inr (free, inr (idle (case at).absent there, inl (scopes, has, strikes))))
+    asks-first at caller case (only_answer (insufficient_scopes lack)) named (inr (free, inr (idle (case at).absent there, inl (scopes, has, strikes))))
 
 -- what comes after the policy, for a caller whose scopes hold it
-asks-held : (at : Setting) (caller : Caller) (case : Setting → Case) (scopes : List (List ℕ)) (judgement : Judgement) → HasAccess at.state.config at.moment caller (Has scopes) → (case at).absent ≡ None → missing scopes (case at).policy ≡ None → IsFirst (map IsEnded (case at).rules ++ last_parts at (case at).deed) judgement → IsFirst (in_order at caller (asks case)) judgement
-asks-held at caller case scopes judgement has there none first =
+asks-held : (at : Setting) (caller : Caller) (case : Setting → Case) (scopes : List (List ℕ)) (judgement : Judgement) → HasAccess at.state.config at.moment caller (Has scopes) → (case at).parameter ≡ None → (case at).absent ≡ None → missing scopes (case at).policy ≡ None → IsFirst (map IsEnded (case at).rules ++ last_parts at (case at).deed) judgement → IsFirst (in_order at caller (asks case)) judgement
+asks-held at caller case scopes judgement has named there none first =
     let free = not_refused at.state.config at.moment caller scopes has in
     let holds = lacks_none at.state.config at.moment caller scopes (case at).policy has none in
-    asks-first at caller case judgement (inr (free, inr (idle (case at).absent there, inr (holds, first))))
+    asks-first at caller case judgement named (inr (free, inr (idle (case at).absent there, inr (holds, first))))
 
 -- a rule of the call ends it
-pub asks-ruled : (at : Setting) (caller : Caller) (case : Setting → Case) (scopes : List (List ℕ)) (a : Answer) → HasAccess at.state.config at.moment caller (Has scopes) → (case at).absent ≡ None → missing scopes (case at).policy ≡ None → IsFirstRule (case at).rules (Some a) → IsFirst (in_order at caller (asks case)) (only_answer a)
-asks-ruled at caller case scopes a has there none rule =
-    asks-held at caller case scopes (only_answer a) has there none (rule_ends (case at).rules (last_parts at (case at).deed) a rule)
+pub asks-ruled : (at : Setting) (caller : Caller) (case : Setting → Case) (scopes : List (List ℕ)) (a : Answer) → HasAccess at.state.config at.moment caller (Has scopes) → (case at).parameter ≡ None → (case at).absent ≡ None → missing scopes (case at).policy ≡ None → IsFirstRule (case at).rules (Some a) → IsFirst (in_order at caller (asks case)) (only_answer a)
+asks-ruled at caller case scopes a has named there none rule =
+    asks-held at caller case scopes (only_answer a) has named there none (rule_ends (case at).rules (last_parts at (case at).deed) a rule)
 
 -- nothing refuses the call before what it does is judged
 pub asks-passed : (at : Setting) (caller : Caller) (case : Setting → Case) (judgement : Judgement) → Passes at caller (case at) → IsFirst (last_parts at (case at).deed) judgement → IsFirst (in_order at caller (asks case)) judgement
 asks-passed at caller case judgement passes first =
-    asks-held at caller case passes.scopes judgement passes.has passes.there passes.held (rules_pass (case at).rules (last_parts at (case at).deed) judgement passes.unruled first)
+    asks-held at caller case passes.scopes judgement passes.has passes.named passes.there passes.held (rules_pass (case at).rules (last_parts at (case at).deed) judgement passes.unruled first)
 
 -- the first rule that ends the call refuses it, and where none does nothing refuses it
-pub refusal_by_rule : (at : Setting) (caller : Caller) (case : Setting → Case) (scopes : List (List ℕ)) (a : Option Answer) → HasAccess at.state.config at.moment caller (Has scopes) → (case at).absent ≡ None → missing scopes (case at).policy ≡ None → IsFirstRule (case at).rules a → IsRefusal at caller case a
-refusal_by_rule at caller case scopes None has there none rule = record { scopes = scopes; has = has; there = there; held = none; unruled = rule }
-refusal_by_rule at caller case scopes (Some a) has there none rule = asks-ruled at caller case scopes a has there none rule
+pub refusal_by_rule : (at : Setting) (caller : Caller) (case : Setting → Case) (scopes : List (List ℕ)) (a : Option Answer) → HasAccess at.state.config at.moment caller (Has scopes) → (case at).parameter ≡ None → (case at).absent ≡ None → missing scopes (case at).policy ≡ None → IsFirstRule (case at).rules a → IsRefusal at caller case a
+refusal_by_rule at caller case scopes None has named there none rule = record { named = named; scopes = scopes; has = has; there = there; held = none; unruled = rule }
+refusal_by_rule at caller case scopes (Some a) has named there none rule = asks-ruled at caller case scopes a has named there none rule
 
 -- a farm is not full for what changes nothing
 pub reads-first : (at : Setting) (deed : Deed) (judgement : Judgement) → deed.change ≡ None → judgement ≡ done at deed → IsFirst (last_parts at deed) judgement
@@ -164,25 +168,29 @@ first_rule_some [] decided = (None, refl)
 first_rule_some (rule ∷ rules) (inl ends, rest) = (Some rule.answer, inl (ends, refl))
 first_rule_some (rule ∷ rules) (inr goes_on, rest) = let found = first_rule_some rules rest in (found.0, inr (goes_on, found.1))
 
-ruled_some : (at : Setting) (caller : Caller) (case : Setting → Case) (scopes : List (List ℕ)) (rule : Option Answer) → HasAccess at.state.config at.moment caller (Has scopes) → (case at).absent ≡ None → missing scopes (case at).policy ≡ None → IsFirstRule (case at).rules rule → (judgement : Judgement) × IsFirst (in_order at caller (asks case)) judgement
-ruled_some at caller case scopes (Some a) has there none rule = (only_answer a, asks-ruled at caller case scopes a has there none rule)
-ruled_some at caller case scopes None has there none rule =
+ruled_some : (at : Setting) (caller : Caller) (case : Setting → Case) (scopes : List (List ℕ)) (rule : Option Answer) → HasAccess at.state.config at.moment caller (Has scopes) → (case at).parameter ≡ None → (case at).absent ≡ None → missing scopes (case at).policy ≡ None → IsFirstRule (case at).rules rule → (judgement : Judgement) × IsFirst (in_order at caller (asks case)) judgement
+ruled_some at caller case scopes (Some a) has named there none rule = (only_answer a, asks-ruled at caller case scopes a has named there none rule)
+ruled_some at caller case scopes None has named there none rule =
     let last = last_some at (case at).deed (full at.state (case at).deed.change) refl in
-    (last.0, asks-passed at caller case last.0 (record { scopes = scopes; has = has; there = there; held = none; unruled = rule }) last.1)
+    (last.0, asks-passed at caller case last.0 (record { named = named; scopes = scopes; has = has; there = there; held = none; unruled = rule }) last.1)
 
-lacking_some : (at : Setting) (caller : Caller) (case : Setting → Case) → AreDecided (case at).rules → (scopes : List (List ℕ)) (lack : Option Expression) → HasAccess at.state.config at.moment caller (Has scopes) → (case at).absent ≡ None → missing scopes (case at).policy ≡ lack → (judgement : Judgement) × IsFirst (in_order at caller (asks case)) judgement
-lacking_some at caller case decided scopes (Some e) has there is = (only_answer (insufficient_scopes e), asks-lacking at caller case scopes e has there is)
-lacking_some at caller case decided scopes None has there is =
+lacking_some : (at : Setting) (caller : Caller) (case : Setting → Case) → AreDecided (case at).rules → (scopes : List (List ℕ)) (lack : Option Expression) → HasAccess at.state.config at.moment caller (Has scopes) → (case at).parameter ≡ None → (case at).absent ≡ None → missing scopes (case at).policy ≡ lack → (judgement : Judgement) × IsFirst (in_order at caller (asks case)) judgement
+lacking_some at caller case decided scopes (Some e) has named there is = (only_answer (insufficient_scopes e), asks-lacking at caller case scopes e has named there is)
+lacking_some at caller case decided scopes None has named there is =
     let found = first_rule_some (case at).rules decided in
-    ruled_some at caller case scopes found.0 has there is found.1
+    ruled_some at caller case scopes found.0 has named there is found.1
 
-absent_some : (at : Setting) (caller : Caller) (case : Setting → Case) → AreDecided (case at).rules → (scopes : List (List ℕ)) (absent : Option Answer) → HasAccess at.state.config at.moment caller (Has scopes) → (case at).absent ≡ absent → (judgement : Judgement) × IsFirst (in_order at caller (asks case)) judgement
-absent_some at caller case decided scopes (Some a) has is = (only_answer a, asks-absent at caller case scopes a has is)
-absent_some at caller case decided scopes None has is = lacking_some at caller case decided scopes (missing scopes (case at).policy) has is refl
+absent_some : (at : Setting) (caller : Caller) (case : Setting → Case) → AreDecided (case at).rules → (scopes : List (List ℕ)) (absent : Option Answer) → HasAccess at.state.config at.moment caller (Has scopes) → (case at).parameter ≡ None → (case at).absent ≡ absent → (judgement : Judgement) × IsFirst (in_order at caller (asks case)) judgement
+absent_some at caller case decided scopes (Some a) has named is = (only_answer a, asks-absent at caller case scopes a has named is)
+absent_some at caller case decided scopes None has named is = lacking_some at caller case decided scopes (missing scopes (case at).policy) has named is refl
 
-asks_some : (at : Setting) (caller : Caller) (case : Setting → Case) → AreDecided (case at).rules → (access : Access) → HasAccess at.state.config at.moment caller access → (judgement : Judgement) × IsFirst (in_order at caller (asks case)) judgement
-asks_some at caller case decided (Refused a) has = (only_answer a, asks-refused at caller case a has)
-asks_some at caller case decided (Has scopes) has = absent_some at caller case decided scopes (case at).absent has refl
+access_some : (at : Setting) (caller : Caller) (case : Setting → Case) → AreDecided (case at).rules → (access : Access) → HasAccess at.state.config at.moment caller access → (case at).parameter ≡ None → (judgement : Judgement) × IsFirst (in_order at caller (asks case)) judgement
+access_some at caller case decided (Refused a) has named = (only_answer a, asks-refused at caller case a named has)
+access_some at caller case decided (Has scopes) has named = absent_some at caller case decided scopes (case at).absent has named refl
+
+asks_some : (at : Setting) (caller : Caller) (case : Setting → Case) → AreDecided (case at).rules → (access : Access) → HasAccess at.state.config at.moment caller access → (parameter : Option Answer) → (case at).parameter ≡ parameter → (judgement : Judgement) × IsFirst (in_order at caller (asks case)) judgement
+asks_some at caller case decided access has (Some a) is = (only_answer a, asks-misnamed at caller case a is)
+asks_some at caller case decided access has None is = access_some at caller case decided access has is
 
 -- each rule of what is called ends it or does not
 abbrev pub IsDecided : Form → Setting → Type 0
@@ -194,7 +202,7 @@ pub in_order-some : (at : Setting) (caller : Caller) (form : Form) → IsDecided
 in_order-some at caller (has_no_route a) decided access has = (only_answer a, inl refl)
 in_order-some at caller (has_bad_parameter a) decided access has = (only_answer a, inr (λ other strikes. strikes, inl refl))
 in_order-some at caller (has_bad_body a) decided access has = (only_answer a, inr (λ other strikes. strikes, inr (λ other strikes. strikes, inl refl)))
-in_order-some at caller (asks case) decided access has = asks_some at caller case decided access has
+in_order-some at caller (asks case) decided access has = asks_some at caller case decided access has (case at).parameter refl
 
 -- ---- it is one
 
@@ -242,7 +250,7 @@ in_order-one at caller form a b p q =
     let case = case_of form at in
     let last : AreSingle (last_parts at case.deed) = (single_strikes (full at.state case.deed.change), (λ x y i j. i ∙ sym j, tt)) in
     IsFirst-one (in_order at caller form) a b
-    (single_strikes (route_of form), (single_strikes (parameter_of form), (single_strikes (body_of form), (single_no_access config moment caller, (single_strikes case.absent, (single_lacks config moment caller case.policy, single_rules case.rules (last_parts at case.deed) last))))))
+    (single_strikes (route_of form), (single_strikes (parameter_of form at), (single_strikes (body_of form), (single_no_access config moment caller, (single_strikes case.absent, (single_lacks config moment caller case.policy, single_rules case.rules (last_parts at case.deed) last))))))
     p q
 
 -- what refuses a call of whoever has these scopes refuses it of a caller who has them

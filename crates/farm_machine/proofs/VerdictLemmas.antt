@@ -1,5 +1,5 @@
 -- The verdict is one, and each call has one.
-use Rattle.std.proofs.Common.{◌≡◌, ◌⊎◌, ℕ, Bool, true, false, List, [], ◌∷◌, ◌++◌, length, Option, Some, None, not, ◌&&◌, nat_le, nat_lt, refl, inl, inr}
+use Rattle.std.proofs.Common.{◌≡◌, ◌⊎◌, ℕ, Bool, true, false, List, ◌++◌, length, Option, Some, None, not, ◌&&◌, nat_le, nat_lt, refl, inl, inr}
 use Rattle.hawk_auth.specs.Clients.{IsBook}
 use Rattle.role_expand.specs.Cycles.{IsAccepted}
 use Rattle.farm_record.specs.declared.change.Creation.{Creation}
@@ -10,7 +10,7 @@ use Rattle.farm_rows.specs.Contents.{row_with}
 use Rattle.farm_rows.specs.Waits.{missing_dependency, early_dependency}
 use Rattle.task_defs.specs.declared.task_def.TaskDef.{TaskDef}
 use Rattle.farm_machine.specs.declared.question.Call.{Call}
-use Rattle.farm_machine.specs.declared.question.Call.TheVariants.{NoRoute, BadParameter, BadBody, Ping, Status, CreateTask, ClaimWork, ReclaimTask, ReportRun, ScheduleTask, RerunTask, CancelTask}
+use Rattle.farm_machine.specs.declared.question.Call.TheVariants.{NoRoute, BadParameter, BadBody, Ping, Task, Status, ListTaskGroup, ListDependentTasks, PendingTasks, CreateTask, ClaimWork, ReclaimTask, ReportRun, ScheduleTask, RerunTask, CancelTask}
 use Rattle.farm_machine.specs.declared.reply.Answer.{Answer}
 use Rattle.farm_machine.specs.Calls.CreateTask.{standing, scheduler_besides, where_found, joining}
 use Rattle.farm_machine.specs.Case.{Setting, Case, Rule, when, of_row, of_run}
@@ -64,7 +64,11 @@ form-decided (NoRoute name) at = tt
 form-decided (BadParameter parameter) at = tt
 form-decided (BadBody fault) at = tt
 form-decided Ping at = tt
+form-decided (Task id) at = status-decided id (row_with id at.state.contents.rows) _ (λ row. tt)
 form-decided (Status id) at = status-decided id (row_with id at.state.contents.rows) _ (λ row. tt)
+form-decided (ListTaskGroup group page) at = tt
+form-decided (ListDependentTasks id page) at = tt
+form-decided (PendingTasks queue) at = tt
 form-decided (CreateTask creation) at =
     standing-decided creation.definition (row_with creation.id at.state.contents.rows) _
     (when-decided (nat_le creation.definition.deadline at.moment) too_late, joining-decided creation at.state.contents.rows)

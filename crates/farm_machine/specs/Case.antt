@@ -34,9 +34,10 @@ pub record Rule : Type 1 where
 abbrev pub when : Bool → Answer → Rule
 when test answer = record { Ends = IsTrue test; answer = answer }
 
--- What a call has for the order: the answer where what it names is not there, what its caller's scopes have to hold, its own rules in
--- order, and what it does.
+-- What a call has for the order: the answer where a parameter names nothing that it may name, the answer where what the call is of is not
+-- there, what its caller's scopes have to hold, its own rules in order, and what it does.
 pub record Case : Type 1 where
+  pub parameter : Option Answer
   pub absent : Option Answer
   pub policy : Expression
   pub rules : List Rule
@@ -53,7 +54,7 @@ changing moment kind =
 
 -- nothing refuses it, and it does nothing
 abbrev pub passing : Case
-passing = record { absent = None; policy = all_of no_members; rules = []; deed = reading (λ contents. null) }
+passing = record { parameter = None; absent = None; policy = all_of no_members; rules = []; deed = reading (λ contents. null) }
 
 -- what a call of a task has: the row's case, or that no task has the id
 abbrev pub of_row : List ℕ → (Row → Case) → Option Row → Case

@@ -30,14 +30,14 @@ pub record Finished (opening : State) (before after : List Entry) (asking : Aski
 abbrev pub setting_behind : State → List Entry → Asking → Setting
 setting_behind opening before asking = setting_of (end_state farm_rules opening before) asking
 
--- what a case asks of scopes, where what the call names is there
-abbrev pub where_there : Option Answer → Expression → Option Expression
-where_there None policy = Some policy
-where_there (Some answer) policy = None
+-- what a case asks of scopes, where its parameters name what they may, and what the call is of is there
+abbrev pub where_there : Option Answer → Option Answer → Expression → Option Expression
+where_there None None policy = Some policy
+where_there parameter absent policy = None
 
 -- what a call asks of scopes, where it is of its form and what it names is there
 abbrev pub asked_policy : Form → Setting → Option Expression
-asked_policy (asks case) at = where_there (case at).absent (case at).policy
+asked_policy (asks case) at = where_there (case at).parameter (case at).absent (case at).policy
 asked_policy form at = None
 
 -- The answer is a denial exactly where the scopes do not hold the expression: then it tells what is missing, which is something.

@@ -12,11 +12,13 @@ pub mod Judgement
 pub mod Law
 pub mod Laws
 pub mod Order
+pub mod Pages
 pub mod Planned
 pub mod ReadyLaws
 pub mod Refused
 pub mod Replies
 pub mod RunLaws
+pub mod Shown
 pub mod State
 pub mod Step
 pub mod Tellings

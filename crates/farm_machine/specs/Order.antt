@@ -27,10 +27,11 @@ abbrev pub route_of : Form → Option Answer
 route_of (has_no_route answer) = Some answer
 route_of form = None
 
--- the answer where a parameter is off its form
-abbrev pub parameter_of : Form → Option Answer
-parameter_of (has_bad_parameter answer) = Some answer
-parameter_of form = None
+-- the answer where a parameter is off its form, or names nothing that it may name in this state
+abbrev pub parameter_of : Form → Setting → Option Answer
+parameter_of (has_bad_parameter answer) at = Some answer
+parameter_of (asks case) at = (case at).parameter
+parameter_of form at = None
 
 -- the answer where the body is off its form
 abbrev pub body_of : Form → Option Answer
@@ -94,7 +95,7 @@ IsFirst (P ∷ Ps) judgement = P judgement ⊎ (((other : Judgement) → ¬ P ot
 abbrev pub in_order : Setting → Caller → Form → List (Judgement → Type 0)
 in_order at caller form =
     Strikes (route_of form)
-    ∷ Strikes (parameter_of form)
+    ∷ Strikes (parameter_of form at)
     ∷ Strikes (body_of form)
     ∷ HasNoAccess at.state.config at.moment caller
     ∷ Strikes (case_of form at).absent

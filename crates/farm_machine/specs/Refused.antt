@@ -23,8 +23,10 @@ use Rattle.farm_machine.specs.Works.{told_of}
 abbrev pub setting_at : Config → Contents → ℕ → List ℕ → Setting
 setting_at config contents moment drawn = record { state = working config contents; moment = moment; drawn = drawn }
 
--- nothing refuses the call: its caller has access, what it names is there, its policy holds, and none of its rules ends it
+-- nothing refuses the call: its parameters name what they may, its caller has access, what it is of is there, its policy holds, and none
+-- of its rules ends it
 pub record Passes (at : Setting) (caller : Caller) (case : Case) : Type 0 where
+  pub named : case.parameter ≡ None
   pub scopes : List (List ℕ)
   pub has : HasAccess at.state.config at.moment caller (Has scopes)
   pub there : case.absent ≡ None

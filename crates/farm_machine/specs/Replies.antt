@@ -6,6 +6,8 @@ use Rattle.farm_text.specs.Document.{Document, boolean, whole, text, object, Mem
 use Rattle.farm_machine.specs.Expressions.{document_of}
 use Rattle.run_states.specs.Rows.{Row}
 use Rattle.task_statuses.specs.Statuses.{status_of}
+use Rattle.task_defs.specs.Forms.{queue_name}
+use Rattle.task_defs.specs.declared.names.TaskQueue.{TaskQueue}
 use Rattle.farm_machine.specs.declared.question.BodyFault.{BodyFault}
 use Rattle.farm_machine.specs.declared.question.BodyFault.TheVariants.{NotJson, NotWhole, NoDefinition, NoWork, NoReason}
 use Rattle.farm_machine.specs.declared.reply.Answer.{Answer}
@@ -69,6 +71,16 @@ status_body row = object (members_of ((codes "status", status_of row) ∷ []))
 -- the status of a task is answered
 abbrev pub tells_status : Row → Answer
 tells_status row = ok (document_text (status_body row))
+
+-- how many tasks wait in a queue
+abbrev pub pending_body : TaskQueue → ℕ → Document
+pending_body queue count =
+    object (members_of (
+    (codes "pendingTasks", whole (pos count))
+    ∷ (codes "provisionerId", text queue.provisioner_id)
+    ∷ (codes "taskQueueId", text (queue_name queue.provisioner_id queue.worker_type))
+    ∷ (codes "workerType", text queue.worker_type)
+    ∷ []))
 
 -- the state of this task forbids it
 abbrev pub conflict : ℕ → Row → Answer

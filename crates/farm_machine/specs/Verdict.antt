@@ -1,18 +1,22 @@
 -- What a call is answered and what it changes: the table of calls, and the verdict in the one order of refusals.
 use Rattle.std.specs.Prelude.{ℕ, List, codes}
 use Rattle.farm_machine.specs.declared.question.Call.{Call}
-use Rattle.farm_machine.specs.declared.question.Call.TheVariants.{NoRoute, BadParameter, BadBody, Ping, Status, CreateTask, ClaimWork, ReclaimTask, ReportRun, ScheduleTask, RerunTask, CancelTask}
+use Rattle.farm_machine.specs.declared.question.Call.TheVariants.{NoRoute, BadParameter, BadBody, Ping, Task, Status, ListTaskGroup, ListDependentTasks, PendingTasks, CreateTask, ClaimWork, ReclaimTask, ReportRun, ScheduleTask, RerunTask, CancelTask}
 use Rattle.farm_machine.specs.declared.question.Parameter.{Parameter}
-use Rattle.farm_machine.specs.declared.question.Parameter.TheVariants.{TaskId, RunId, Queue}
+use Rattle.farm_machine.specs.declared.question.Parameter.TheVariants.{TaskId, RunId, TaskGroupId, Queue, Limit, ContinuationToken}
 use Rattle.farm_machine.specs.Calls.CancelTask.{cancel_task}
 use Rattle.farm_machine.specs.Calls.ClaimWork.{claim_work}
 use Rattle.farm_machine.specs.Calls.CreateTask.{create_task}
+use Rattle.farm_machine.specs.Calls.ListDependentTasks.{list_dependent_tasks}
+use Rattle.farm_machine.specs.Calls.ListTaskGroup.{list_task_group}
+use Rattle.farm_machine.specs.Calls.PendingTasks.{pending_tasks}
 use Rattle.farm_machine.specs.Calls.Ping.{ping}
 use Rattle.farm_machine.specs.Calls.ReclaimTask.{reclaim_task}
 use Rattle.farm_machine.specs.Calls.ReportRun.{report_run}
 use Rattle.farm_machine.specs.Calls.RerunTask.{rerun_task}
 use Rattle.farm_machine.specs.Calls.ScheduleTask.{schedule_task}
 use Rattle.farm_machine.specs.Calls.Status.{status}
+use Rattle.farm_machine.specs.Calls.Task.{task}
 use Rattle.farm_machine.specs.Case.{Setting}
 use Rattle.farm_machine.specs.Changes.{moment_of}
 use Rattle.farm_machine.specs.Entry.{Asking}
@@ -25,7 +29,10 @@ use Rattle.farm_machine.specs.State.{State}
 abbrev pub parameter_name : Parameter → List ℕ
 parameter_name TaskId = codes "taskId"
 parameter_name RunId = codes "runId"
+parameter_name TaskGroupId = codes "taskGroupId"
 parameter_name Queue = codes "queue"
+parameter_name Limit = codes "limit"
+parameter_name ContinuationToken = codes "continuationToken"
 
 -- the table of calls
 abbrev pub form_of : Call → Form
@@ -33,7 +40,11 @@ form_of (NoRoute name) = has_no_route (not_found (codes "route") name)
 form_of (BadParameter parameter) = has_bad_parameter (bad_parameter (parameter_name parameter))
 form_of (BadBody fault) = has_bad_body (bad_body fault)
 form_of Ping = asks ping
+form_of (Task id) = asks (task id)
 form_of (Status id) = asks (status id)
+form_of (ListTaskGroup group page) = asks (list_task_group group page)
+form_of (ListDependentTasks id page) = asks (list_dependent_tasks id page)
+form_of (PendingTasks queue) = asks (pending_tasks queue)
 form_of (CreateTask creation) = asks (create_task creation)
 form_of (ClaimWork work) = asks (claim_work work)
 form_of (ReclaimTask name) = asks (reclaim_task name)

@@ -1,7 +1,7 @@
 //! The answers of calls: statuses of HTTP (RFC 9110), and bodies as JSON (RFC 8259).
 
 ghost use Rattle.std.specs.Prelude.{◌≡◌, ◌≢◌, ◌<◌, ◌^◌, codes, Err, IfOk};
-ghost use Rattle.farm_machine.specs.Replies.{ok, not_found, bad_parameter, bad_body, too_late, bad_dependency, conflict, other_scheduler, farm_full, status_body, not_authentic, skewed, overstepping, expansion_limit, insufficient_scopes, error_text};
+ghost use Rattle.farm_machine.specs.Replies.{ok, not_found, bad_parameter, bad_body, too_late, bad_dependency, pending_body, conflict, other_scheduler, farm_full, status_body, not_authentic, skewed, overstepping, expansion_limit, insufficient_scopes, error_text};
 ghost use Rattle.hawk_auth.specs.Access.{UnlessNoMemory};
 ghost use Rattle.farm_machine.specs.Access.{Refused, access_by};
 ghost use Rattle.farm_machine.specs.Told.{HasSeconds};
@@ -23,6 +23,7 @@ use http::StatusCode;
 use run_states::TaskRow;
 use scope_sets::Expr;
 use std::alloc::{AllocError, Global};
+use task_defs::TaskQueue;
 use task_statuses::status_doc;
 
 /// A call is done, with this body.
@@ -62,6 +63,14 @@ pub(crate) fn no_run(alloc: Global, name: RunName) -> Result<Answer, AllocError>
 {
     let text = run_name(alloc, name.id, name.run)?;
     not_found(alloc, "run", text.as_str())
+}
+
+/// No task is of this group.
+pub(crate) fn no_group(alloc: Global, group: SlugId) -> Result<Answer, AllocError>
+    ensures { IfOk result (λ a. a ≡ not_found (codes "group") (slug_text group)) }
+{
+    let name = group.to_text(alloc)?;
+    not_found(alloc, "group", name.as_str())
 }
 
 /// The request breaks a rule, which these details tell.
@@ -144,6 +153,19 @@ pub(crate) fn status(alloc: Global, row: &TaskRow) -> Result<Answer, AllocError>
 {
     let body = status_body(alloc, row)?;
     ok(alloc, &body)
+}
+
+/// How many tasks wait in a queue, as the body of an answer.
+pub(crate) fn pending_body(alloc: Global, queue: &TaskQueue, count: u32) -> Result<Doc, AllocError>
+    ensures { IfOk result (λ d. document d ≡ pending_body queue.now count) }
+{
+    let provisioner = Doc::text(alloc, queue.provisioner_id.as_str())?;
+    let name = queue.name(alloc)?;
+    let worker = Doc::text(alloc, queue.worker_type.as_str())?;
+    let first = Entries::new(alloc).with(alloc, "pendingTasks", Doc::Int(i64::from(count)))?;
+    let second = first.with(alloc, "provisionerId", provisioner)?;
+    let third = second.with(alloc, "taskQueueId", Doc::Text(name))?;
+    Ok(third.with(alloc, "workerType", worker)?.into_doc())
 }
 
 /// The state of this task forbids it, by this rule.

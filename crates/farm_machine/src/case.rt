@@ -69,7 +69,11 @@ pub(crate) trait Called {
     /// What the call has for the order, where it is judged.
     ghost case: { Self → Setting → Case };
 
-    /// The answer where what it names is not there.
+    /// The answer where a parameter names nothing that it may name.
+    fn parameter(&self, alloc: Global, at: &Scene<'_>) -> Result<Option<Answer>, AllocError>
+        ensures { IfOk result (λ a. a ≡ (case self.now at.now).parameter) };
+
+    /// The answer where what it is of is not there.
     fn absent(&self, alloc: Global, at: &Scene<'_>) -> Result<Option<Answer>, AllocError>
         ensures { IfOk result (λ a. a ≡ (case self.now at.now).absent) };
 
@@ -85,6 +89,7 @@ pub(crate) trait Called {
 
     /// What it does.
     fn deed(self, alloc: Global, at: &Scene<'_>) -> Result<Done, AllocError>
+        requires named { (case self at.now).parameter ≡ None }
         requires there { (case self at.now).absent ≡ None }
         requires unruled { IsFirstRule (case self at.now).rules None }
         requires ready { IsReady at.now }

@@ -16,6 +16,7 @@ mod judged;
 pub mod law;
 mod named;
 mod order;
+mod pages;
 pub mod plan;
 pub mod question;
 pub mod reply;

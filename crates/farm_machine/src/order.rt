@@ -63,13 +63,31 @@ pub(crate) fn judge<C: Called + Drop>(
     }
 }
 
-/// The answer that refuses a call, if one does: for its caller, for what it names, for scopes that are missing, by its own rules.
+/// The answer that refuses a call, if one does: for a parameter, for its caller, for what it is of, for scopes that are missing, by its own
+/// rules.
 fn refusal<C: Called>(
     alloc: Global,
     caller: &Caller,
     call: &C,
     at: &Scene<'_>,
 ) -> Result<Option<Answer>, AllocError>
+    ensures { IfOk result (IsRefusal at.now caller.now (C.case call.now)) }
+{
+    if let Some(answer) = call.parameter(alloc, at)? {
+        return Ok(Some(answer));
+    }
+    let answer = refusal_of_caller(alloc, caller, call, at)?;
+    Ok(answer)
+}
+
+/// The answer that refuses a call whose parameters name what they may, if one does.
+fn refusal_of_caller<C: Called>(
+    alloc: Global,
+    caller: &Caller,
+    call: &C,
+    at: &Scene<'_>,
+) -> Result<Option<Answer>, AllocError>
+    requires { (C.case call.now at.now).parameter ≡ None }
     ensures { IfOk result (IsRefusal at.now caller.now (C.case call.now)) }
 {
     match access_of(alloc, at.config, caller, at.moment)? {
@@ -86,6 +104,7 @@ fn refusal_within<C: Called>(
     call: &C,
     at: &Scene<'_>,
 ) -> Result<Option<Answer>, AllocError>
+    requires { (C.case call.now at.now).parameter ≡ None }
     ensures { IfOk result (λ answer. (caller : Caller) → HasAccess at.now.state.config at.now.moment caller (Has scopes.now)
         → IsRefusal at.now caller (C.case call.now) answer) }
 {

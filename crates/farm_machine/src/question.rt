@@ -7,12 +7,17 @@ use http_wire::Bytes;
 use std::marker::Model;
 use task_defs::{DefFault, Identifier, TaskQueue};
 
-/// A parameter of a target, by the name in its route.
+/// A parameter of a target, by its name in the route or the query.
 #[derive(Clone, Copy, Debug, PartialEq, Eq)]
 pub enum Parameter {
     TaskId,
     RunId,
+    TaskGroupId,
     Queue,
+    /// How many tasks a page has at most.
+    Limit,
+    /// The token of a page.
+    ContinuationToken,
 }
 
 impl Parameter {
@@ -25,7 +30,10 @@ impl Parameter {
         match self {
             Parameter::TaskId => "taskId",
             Parameter::RunId => "runId",
+            Parameter::TaskGroupId => "taskGroupId",
             Parameter::Queue => "queue",
+            Parameter::Limit => "limit",
+            Parameter::ContinuationToken => "continuationToken",
         }
     }
 }
@@ -79,6 +87,13 @@ pub struct WorkRequest {
     pub tasks: u8,
 }
 
+/// Which tasks of a list are asked for: those behind one that a token names, or from the first on, so many at most.
+#[derive(Clone, Copy, Debug, PartialEq, Eq)]
+pub struct PageRequest {
+    pub after: Option<SlugId>,
+    pub limit: u16,
+}
+
 /// What is called.
 #[derive(Debug, Drop)]
 pub enum Call {
@@ -90,8 +105,16 @@ pub enum Call {
     BadBody(BodyFault),
     /// Whether the farm is there.
     Ping,
+    /// The definition of a task.
+    Task(SlugId),
     /// The status of a task.
     Status(SlugId),
+    /// A page of the tasks of a group.
+    ListTaskGroup(SlugId, PageRequest),
+    /// A page of the tasks that wait for a task.
+    ListDependentTasks(SlugId, PageRequest),
+    /// How many tasks wait in a queue.
+    PendingTasks(TaskQueue),
     /// A task is made.
     CreateTask(Creation),
     /// A worker takes runs.

@@ -14,12 +14,16 @@ use crate::answers;
 use crate::calls::cancel_task::CancelTask;
 use crate::calls::claim_work::ClaimWork;
 use crate::calls::create_task::CreateTask;
+use crate::calls::list_dependent_tasks::ListDependentTasks;
+use crate::calls::list_task_group::ListTaskGroup;
+use crate::calls::pending_tasks::PendingTasks;
 use crate::calls::ping::Ping;
 use crate::calls::reclaim_task::ReclaimTask;
 use crate::calls::report_run::ReportRun;
 use crate::calls::rerun_task::RerunTask;
 use crate::calls::schedule_task::ScheduleTask;
 use crate::calls::status::Status;
+use crate::calls::task::Task;
 use crate::config::Config;
 use crate::judged::Judged;
 use crate::order::judge;
@@ -80,7 +84,35 @@ fn judgement_of(
         }
         Call::BadBody(fault) => refused_body(alloc, fault),
         Call::Ping => judge(alloc, caller, Ping {}, config, tables, moment, drawn),
+        Call::Task(id) => judge(alloc, caller, Task { id }, config, tables, moment, drawn),
         Call::Status(id) => judge(alloc, caller, Status { id }, config, tables, moment, drawn),
+        Call::ListTaskGroup(group, page) => judge(
+            alloc,
+            caller,
+            ListTaskGroup { group, page },
+            config,
+            tables,
+            moment,
+            drawn,
+        ),
+        Call::ListDependentTasks(id, page) => judge(
+            alloc,
+            caller,
+            ListDependentTasks { id, page },
+            config,
+            tables,
+            moment,
+            drawn,
+        ),
+        Call::PendingTasks(queue) => judge(
+            alloc,
+            caller,
+            PendingTasks { queue },
+            config,
+            tables,
+            moment,
+            drawn,
+        ),
         Call::CreateTask(creation) => {
             judge(
                 alloc,

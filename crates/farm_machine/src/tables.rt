@@ -1,17 +1,19 @@
 //! What a farm keeps.
-ghost use Rattle.std.specs.Prelude.{◌≡◌, ◌≤◌, false, IfOk, MatchOption, length, option_copied};
+ghost use Rattle.std.specs.Prelude.{◌≡◌, ◌≤◌, true, false, IfOk, MatchOption, map, length, count_by, option_copied};
+ghost use Rattle.std.specs.List.{list_any};
 ghost use Rattle.farm_text.specs.declared.moment.TheConstants.{LAST_TOLD_MOMENT};
 ghost use Rattle.farm_rows.specs.Contents.{no_contents, row_with, HaveOwnIds};
-ghost use Rattle.farm_rows.specs.Changes.{may_apply, applied};
+ghost use Rattle.farm_rows.specs.Changes.{on_row, may_apply, applied};
 ghost use Rattle.farm_rows.specs.Due.{is_due, advance};
-ghost use Rattle.farm_rows.specs.Picks.{picks};
+ghost use Rattle.farm_rows.specs.Lists.{is_listed, listed, names_listed, page_rows, has_more};
+ghost use Rattle.farm_rows.specs.Picks.{picks, waits_in};
 ghost use Rattle.farm_rows.specs.Plans.{IsPlanOn};
 ghost use Rattle.farm_rows.specs.Waits.{missing_dependency, early_dependency};
 ghost use Rattle.farm_machine.specs.Calls.CreateTask.{scheduler_besides};
 ghost use Rattle.farm_machine.specs.Changes.{reached};
 
 use farm_record::{Change, Creation, RunName};
-use farm_rows::{TaskPlan, TaskTables};
+use farm_rows::{Page, TaskList, TaskPlan, TaskTables};
 use farm_text::{Moment, SlugId};
 use run_states::TaskRow;
 use std::alloc::{AllocError, Global};
@@ -104,6 +106,44 @@ impl Tables {
         ensures own { HaveOwnIds self.now.rows }
     {
         self.tasks.picks(alloc, queue, most)
+    }
+
+    /// How many tasks wait in a queue.
+    pub(crate) fn pending(&self, queue: &TaskQueue) -> u32
+        ensures { result ≡ count_by (waits_in queue.now) self.now.rows }
+    {
+        self.tasks.pending(queue)
+    }
+
+    /// Whether a task is of this group.
+    pub(crate) fn has_group(&self, group: SlugId) -> bool
+        ensures { result ≡ list_any (is_listed (TaskList.Group group)) self.now.rows }
+    {
+        self.tasks.kept_scheduler(group).is_some()
+    }
+
+    /// Whether the task with this id stands, and is on a list.
+    pub(crate) fn lists(&self, list: &TaskList, id: SlugId) -> bool
+        ensures { result ≡ on_row (is_listed list.now) id self.now.rows }
+    {
+        self.tasks.lists(list, id)
+    }
+
+    /// The page of a list behind the task that a token names, or the first page, with so many tasks at most; or none, where the token
+    /// names no task of the list.
+    pub(crate) fn page(
+        &self,
+        alloc: Global,
+        list: &TaskList,
+        after: Option<SlugId>,
+        limit: u16,
+    ) -> Result<Option<Page<'_>>, AllocError>
+        ensures { IfOk result (λ page. MatchOption page (names_listed list.now after self.now.rows ≡ false)
+            (λ p. (names_listed list.now after self.now.rows ≡ true)
+            × (map (λ row. row.now) p.rows.items ≡ page_rows after limit (listed list.now self.now.rows))
+            × (p.more ≡ has_more after limit (listed list.now self.now.rows)))) }
+    {
+        self.tasks.page(alloc, list, after, limit)
     }
 
     /// The plan of a change, with all the memory that it takes, or none where the change may not be made.

@@ -16,6 +16,7 @@ use farm_machine::question::{Call, Caller, Question};
 use farm_machine::reply::{Asked, Reply};
 use farm_text::{Clock, Draws};
 use http_wire::{Link, Message, Reader, Wire, write_all};
+use route_table::Table;
 use std::alloc::Global;
 
 /// Serves one connection: takes requests from the link (RFC 9112), asks the desk each of them, and writes the replies in
@@ -46,8 +47,22 @@ pub fn serve_connection<
         Ok(reader) => reader,
         Err(_) => return Served::NoMemory,
     };
+    let table = match Table::new(alloc) {
+        Ok(table) => table,
+        Err(_) => return Served::NoMemory,
+    };
     'requests: for place in 0..REQUESTS {
-        let ended = turn(alloc, &mut reader, place, link, desk, clock, draws, gate);
+        let ended = turn(
+            alloc,
+            &table,
+            &mut reader,
+            place,
+            link,
+            desk,
+            clock,
+            draws,
+            gate,
+        );
         if let Some(served) = ended {
             return served;
         }
@@ -64,6 +79,7 @@ fn turn<
     G: Gate,
 >(
     alloc: Global,
+    table: &Table,
     reader: &mut Reader,
     place: u64,
     link: &mut L,
@@ -83,7 +99,7 @@ fn turn<
         (prepend_known reader.new (L.left link.new)) result }
 {
     match reader.next_request(alloc, link) {
-        Ok(message) => answer(alloc, message, place, link, desk, clock, draws, gate),
+        Ok(message) => answer(alloc, table, message, place, link, desk, clock, draws, gate),
         Err(reason) => Some(refuse(link, reason)),
     }
 }
@@ -97,6 +113,7 @@ fn answer<
     G: Gate,
 >(
     alloc: Global,
+    table: &Table,
     message: Message,
     place: u64,
     link: &mut L,
@@ -116,7 +133,7 @@ fn answer<
     ensures left { L.left link.new ≡ L.left link.old }
     ensures read_faults { L.read_faults link.new ≡ L.read_faults link.old }
 {
-    let call = match call_of(alloc, &message) {
+    let call = match call_of(alloc, table, &message) {
         Ok(call) => call,
         Err(_) => return Some(Served::NoMemory),
     };

@@ -23,6 +23,7 @@ use std::test::Fail;
 
 mod chains;
 mod clients;
+mod lists;
 mod rows;
 mod runs;
 mod tasks;

@@ -9,5 +9,4 @@ pub mod Lesser
 pub mod Rules
 pub mod Definitions
 pub mod Parts
-pub mod Alone
 pub mod Lengths

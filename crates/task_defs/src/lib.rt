@@ -1,7 +1,6 @@
 //! Task definitions: what a task is to do, and for whom, read from a document or refused by the first rule that it breaks.
 #![tactic(auto)]
 
-mod alone;
 mod choices;
 mod documents;
 mod fault;
@@ -24,7 +23,6 @@ mod texts;
 mod times;
 mod values;
 
-pub use alone::check_alone;
 pub use choices::{Priority, Requires};
 pub use fault::{DefError, DefFault};
 pub use laws::{

@@ -20,6 +20,10 @@ impl Called for CancelTask {
 
     ghost case = { λ call. cancel_task call.id };
 
+    fn parameter(&self, _alloc: Global, _at: &Scene<'_>) -> Result<Option<Answer>, AllocError> {
+        Ok(None)
+    }
+
     fn absent(&self, alloc: Global, at: &Scene<'_>) -> Result<Option<Answer>, AllocError> {
         if at.tables.row(self.id).is_some() {
             return Ok(None);

@@ -23,6 +23,10 @@ impl Called for CreateTask {
 
     ghost case = { λ call. create_task call.creation };
 
+    fn parameter(&self, _alloc: Global, _at: &Scene<'_>) -> Result<Option<Answer>, AllocError> {
+        Ok(None)
+    }
+
     fn absent(&self, _alloc: Global, _at: &Scene<'_>) -> Result<Option<Answer>, AllocError> {
         Ok(None)
     }

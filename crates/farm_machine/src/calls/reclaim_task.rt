@@ -20,6 +20,10 @@ impl Called for ReclaimTask {
 
     ghost case = { λ call. reclaim_task call.name };
 
+    fn parameter(&self, _alloc: Global, _at: &Scene<'_>) -> Result<Option<Answer>, AllocError> {
+        Ok(None)
+    }
+
     fn absent(&self, alloc: Global, at: &Scene<'_>) -> Result<Option<Answer>, AllocError> {
         absent_run(alloc, at, self.name)
     }

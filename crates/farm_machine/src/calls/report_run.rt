@@ -21,6 +21,10 @@ impl Called for ReportRun {
 
     ghost case = { λ call. report_run call.report };
 
+    fn parameter(&self, _alloc: Global, _at: &Scene<'_>) -> Result<Option<Answer>, AllocError> {
+        Ok(None)
+    }
+
     fn absent(&self, alloc: Global, at: &Scene<'_>) -> Result<Option<Answer>, AllocError> {
         let Resolution { id, run, reason: _ } = self.report;
         absent_run(alloc, at, RunName { id, run })

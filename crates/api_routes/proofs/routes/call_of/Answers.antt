@@ -1,46 +1,39 @@
--- The method decides, and then the path.
-use Rattle.std.proofs.Common.{◌≡◌, true, false, IfOk, codes, sym, ◌∙◌, ap}
-use Rattle.std.specs.Str.{bytes_eq}
-use Rattle.api_routes.specs.Posts.{IsPostCall}
-use Rattle.api_routes.specs.Routes.{path_of, IsPutCall}
-use Rattle.api_routes.proofs.CallLemmas.{routed-get, routed-put, routed-post, routed-nowhere}
+-- The message has the one route that is found, or none.
+use Rattle.std.proofs.Common.{ℕ, List, map, length, Option, None, Bor, sym, ap, ◌∙◌, subst}
+use Rattle.std.proofs.lemmas.List.{length-map}
+use Rattle.route_table.specs.Fits.{Fits, IsRouteOf}
+use Rattle.route_table.specs.declared.table.Found.{Found}
+use Rattle.api_routes.specs.Routes.{path_of, query_of}
+use Rattle.api_routes.proofs.CallLemmas.{routed-some, routed-none}
+use Rattle.api_routes.proofs.FitLemmas.{fits-arity}
 use Rattle.api_routes.proofs.routes.call_of.Goals as goal
 
-pub returns-then-eq : goal.returns-then-eq
-returns-then-eq c =
-    let message = c.args.message.now in
-    let path = c.path_of-path.result.now in
-    let at : path ≡ path_of message.target = c.path_of-path.ensures ∙ ap path_of c.as_slice.ensures in
-    let is : bytes_eq c.as_slice-method.result.now (codes "GET") ≡ true = rw c.as_slice-2.ensures at (sym c.eq.ensures ∙ c.if-eq.true) in
-    routed-get message path c.get_call.result at (rw (← c.as_slice-method.ensures) is) c.get_call.ensures
+-- what references point to
+abbrev seen : List (Bor (List ℕ)) → List (List ℕ)
+seen parts = map (λ part. part.now) parts
 
-pub returns-then-eq-2 : goal.returns-then-eq-2
-returns-then-eq-2 c =
-    let message = c.args.message.now in
-    let path = c.path_of-path.result.now in
-    let at : path ≡ path_of message.target = c.path_of-path.ensures ∙ ap path_of c.as_slice.ensures in
-    let other : bytes_eq c.as_slice-method.result.now (codes "GET") ≡ false = rw c.as_slice-2.ensures at (sym c.eq.ensures ∙ c.if-eq.false) in
-    let put : bytes_eq c.as_slice-method.result.now (codes "PUT") ≡ true = rw c.as_slice-3.ensures at (sym c.eq-2.ensures ∙ c.if-eq-2.true) in
-    let body : IfOk c.put_call.result (IsPutCall path message.body) = rw c.as_slice-then-eq-2.ensures at c.put_call.ensures in
-    routed-put message path c.put_call.result at (rw (← c.as_slice-method.ensures) other) (rw (← c.as_slice-method.ensures) put) body
+pub route_call-requires : goal.route_call-requires
+route_call-requires c =
+    let found = c.in-Some.field-0 in
+    let fits : Fits found.route c.as_slice-2.result.now c.cut.result.0.now (seen found.parameters.items) = subst (IsRouteOf c.as_slice-2.result.now c.cut.result.0.now) c.in-Some.is c.in_ok-route.ensures in
+    ap length c.as_slice-in-Some.ensures.value ∙ (sym (length-map found.parameters.items (λ (part : Bor (List ℕ)). part.now)) ∙ fits-arity found.route c.as_slice-2.result.now c.cut.result.0.now (seen found.parameters.items) fits)
 
-pub returns-then-eq-3 : goal.returns-then-eq-3
-returns-then-eq-3 c =
+pub returns-in-Some : goal.returns-in-Some
+returns-in-Some c =
     let message = c.args.message.now in
-    let path = c.path_of-path.result.now in
-    let at : path ≡ path_of message.target = c.path_of-path.ensures ∙ ap path_of c.as_slice.ensures in
-    let other : bytes_eq c.as_slice-method.result.now (codes "GET") ≡ false = rw c.as_slice-2.ensures at (sym c.eq.ensures ∙ c.if-eq.false) in
-    let neither : bytes_eq c.as_slice-method.result.now (codes "PUT") ≡ false = rw c.as_slice-3.ensures at (sym c.eq-2.ensures ∙ c.if-eq-2.false) in
-    let post : bytes_eq c.as_slice-method.result.now (codes "POST") ≡ true = rw c.as_slice-4.ensures at (sym c.eq-3.ensures ∙ c.if-eq-3.true) in
-    let body : IfOk c.post_call.result (IsPostCall path message.body) = rw c.as_slice-then-eq-3.ensures at c.post_call.ensures in
-    routed-post message path c.post_call.result at (rw (← c.as_slice-method.ensures) other) (rw (← c.as_slice-method.ensures) neither) (rw (← c.as_slice-method.ensures) post) body
+    let found = c.in-Some.field-0 in
+    let path = c.cut.result.0.now in
+    let parts = c.as_slice-in-Some.result.now in
+    let fits : Fits found.route c.as_slice-2.result.now path (seen found.parameters.items) = subst (IsRouteOf c.as_slice-2.result.now path) c.in-Some.is c.in_ok-route.ensures in
+    let so : Fits found.route message.method path (seen found.parameters.items) = subst (λ (m : List ℕ). Fits found.route m path (seen found.parameters.items)) c.as_slice-2.ensures fits in
+    let these : Fits found.route message.method path (seen parts) = subst (λ (ps : List (Bor (List ℕ))). Fits found.route message.method path (seen ps)) (sym c.as_slice-in-Some.ensures.value) so in
+    routed-some message found.route (seen parts) path c.cut.result.1.now c.as_slice-body.result.now c.route_call.result
+    (c.cut.ensures.before ∙ ap path_of c.as_slice.ensures) (c.cut.ensures.behind ∙ ap query_of c.as_slice.ensures) c.as_slice-body.ensures these c.route_call.ensures
 
-pub returns : goal.returns
-returns c =
+pub returns-in-None : goal.returns-in-None
+returns-in-None c =
     let message = c.args.message.now in
-    let path = c.path_of-path.result.now in
-    let at : path ≡ path_of message.target = c.path_of-path.ensures ∙ ap path_of c.as_slice.ensures in
-    let other : bytes_eq c.as_slice-method.result.now (codes "GET") ≡ false = rw c.as_slice-2.ensures at (sym c.eq.ensures ∙ c.if-eq.false) in
-    let neither : bytes_eq c.as_slice-method.result.now (codes "PUT") ≡ false = rw c.as_slice-3.ensures at (sym c.eq-2.ensures ∙ c.if-eq-2.false) in
-    let none : bytes_eq c.as_slice-method.result.now (codes "POST") ≡ false = rw c.as_slice-4.ensures at (sym c.eq-3.ensures ∙ c.if-eq-3.false) in
-    routed-nowhere message path c.no_route.result at (rw (← c.as_slice-method.ensures) other) (rw (← c.as_slice-method.ensures) neither) (rw (← c.as_slice-method.ensures) none) c.no_route.ensures
+    let path = c.cut.result.0.now in
+    let found : IsRouteOf message.method path c.in_ok-route.field-0 = subst (λ (m : List ℕ). IsRouteOf m path c.in_ok-route.field-0) c.as_slice-2.ensures c.in_ok-route.ensures in
+    let none : IsRouteOf message.method path None = subst (λ (o : Option Found). IsRouteOf message.method path o) c.in-None.is found in
+    routed-none message path c.no_route.result (c.cut.ensures.before ∙ ap path_of c.as_slice.ensures) none c.no_route.ensures

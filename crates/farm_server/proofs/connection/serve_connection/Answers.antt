@@ -7,6 +7,9 @@ use Rattle.farm_server.proofs.connection.serve_connection.Goals as goal
 pub returns-in-Err-clause-serves : goal.returns-in-Err-clause-serves
 returns-in-Err-clause-serves g c = ServesWithin-no_memory REQUESTS _ _ (omega arith)
 
+pub returns-in-Err-new-clause-serves : goal.returns-in-Err-new-clause-serves
+returns-in-Err-new-clause-serves g c = ServesWithin-no_memory REQUESTS _ _ (omega arith)
+
 pub requests-preserved : goal.requests-preserved
 requests-preserved g c =
     let so_far = c.requests.invariant in

@@ -1,0 +1,42 @@
+ghost use Rattle.std.specs.Prelude.{None, ◌≡◌, IfOk};
+
+use crate::answers;
+use crate::case::{Called, Done, Scene};
+use crate::reply::Answer;
+use call_rules::pending_scope;
+use scope_sets::Expr;
+use std::alloc::{AllocError, Global};
+use task_defs::TaskQueue;
+
+/// How many tasks wait in a queue.
+#[derive(Drop)]
+pub(crate) struct PendingTasks {
+    pub(crate) queue: TaskQueue,
+}
+
+impl Called for PendingTasks {
+    ghost use Rattle.farm_machine.specs.Calls.PendingTasks.{pending_tasks};
+
+    ghost case = { λ call. pending_tasks call.queue };
+
+    fn parameter(&self, _alloc: Global, _at: &Scene<'_>) -> Result<Option<Answer>, AllocError> {
+        Ok(None)
+    }
+
+    fn absent(&self, _alloc: Global, _at: &Scene<'_>) -> Result<Option<Answer>, AllocError> {
+        Ok(None)
+    }
+
+    fn policy(&self, alloc: Global, _at: &Scene<'_>) -> Result<Expr, AllocError> {
+        pending_scope(alloc, &self.queue)
+    }
+
+    fn rule(&self, _alloc: Global, _at: &Scene<'_>) -> Result<Option<Answer>, AllocError> {
+        Ok(None)
+    }
+
+    fn deed(self, alloc: Global, at: &Scene<'_>) -> Result<Done, AllocError> {
+        let count = at.tables.pending(&self.queue);
+        Ok(Done::Reads(answers::pending_body(alloc, &self.queue, count)?))
+    }
+}
