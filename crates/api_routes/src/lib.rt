@@ -14,6 +14,3 @@ mod wire_replies;
 pub use head::{Head, reply_head};
 pub use routes::{call_of, caller_of};
 pub use wire_replies::own_reply;
-
-#[cfg(test)]
-mod tests;

@@ -18,6 +18,3 @@ pub use laws::a_lower_priority_asks_less;
 pub use manage::{cancel_scopes, rerun_scopes, schedule_scopes};
 pub use reads::{list_dependants_scope, list_group_scope, pending_scope, status_scope, task_scope};
 pub use work::{claim_scopes, reclaim_scope, resolve_scope, run_name};
-
-#[cfg(test)]
-mod tests;

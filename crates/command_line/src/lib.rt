@@ -6,8 +6,6 @@ mod laws;
 mod program;
 mod reading;
 mod signing;
-#[cfg(test)]
-mod tests;
 mod values;
 
 pub use command::{Command, Work};

@@ -46,6 +46,3 @@ pub use reading::{LONGEST_FILE, read_farm, read_farm_with};
 pub use rows::MOST_ROWS;
 pub use settings::LONGEST_HOST;
 pub use telling::tell_fault;
-
-#[cfg(test)]
-mod tests;

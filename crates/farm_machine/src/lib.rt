@@ -22,6 +22,4 @@ pub mod question;
 pub mod reply;
 pub mod step;
 pub mod tables;
-#[cfg(test)]
-mod tests;
 mod works;

@@ -22,6 +22,3 @@ pub use laws::{
 pub use reading::read_record;
 pub use run_names::RunNames;
 pub use writing::{tick_record, write_record};
-
-#[cfg(test)]
-mod tests;

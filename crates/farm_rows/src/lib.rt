@@ -32,6 +32,3 @@ pub use lists::{Page, TaskList};
 pub use moves::reason_of;
 pub use plan::TaskPlan;
 pub use tables::{MOST_TASKS, TaskTables};
-
-#[cfg(test)]
-mod tests;

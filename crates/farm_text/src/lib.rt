@@ -11,8 +11,6 @@ mod pointer;
 mod reading;
 mod same;
 mod slug;
-#[cfg(test)]
-mod tests;
 mod text;
 
 pub use clock::{Clock, HostClock, ListClock};

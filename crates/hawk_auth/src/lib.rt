@@ -25,6 +25,3 @@ pub use hmac::hmac_sha256;
 pub use macs::{Parts, mac};
 pub use payload::payload_hash;
 pub use signing::sign;
-
-#[cfg(test)]
-mod tests;

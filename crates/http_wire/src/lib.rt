@@ -31,6 +31,3 @@ pub use memory::{MemoryLink, MemorySink, MemorySource};
 pub use message::{Bytes, Message, Wire};
 pub use reader::Reader;
 pub use whole::{ReadAllFault, read_all, read_source, write_all, write_sink};
-
-#[cfg(test)]
-mod tests;

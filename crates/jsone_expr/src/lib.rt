@@ -15,6 +15,3 @@ pub mod parser;
 pub mod tokens;
 
 pub use parser::{ParseFault, Tree, parse};
-
-#[cfg(test)]
-mod tests;

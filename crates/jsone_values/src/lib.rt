@@ -18,8 +18,6 @@ pub mod ranges;
 pub mod slices;
 pub mod spans;
 pub mod splits;
-#[cfg(test)]
-mod tests;
 pub mod texts;
 pub mod truth;
 pub mod weights;

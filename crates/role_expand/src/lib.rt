@@ -21,6 +21,3 @@ pub use expansion::{ExpandFault, MOST_SCOPES};
 pub use refusals::{BuildFault, has_role_form};
 pub use role_sets::RoleSet;
 pub use roles::Role;
-
-#[cfg(test)]
-mod tests;

@@ -22,6 +22,3 @@ pub use reasons::{ReasonCreated, ReasonResolved, RunState};
 pub use refusal::Refusal;
 pub use row::{MOST_RETRIES, MOST_RUNS, TaskRow};
 pub use run::{Claim, Outcome, Run};
-
-#[cfg(test)]
-mod tests;

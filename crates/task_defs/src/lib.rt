@@ -17,8 +17,6 @@ mod queue;
 mod reading;
 mod stages;
 mod task_def;
-#[cfg(test)]
-mod tests;
 mod texts;
 mod times;
 mod values;

@@ -1,0 +1,178 @@
+//! Messages and the calls that they make, by the queue service's reference, and a head by HTTP/1.1.
+use api_routes::{call_of, caller_of, own_reply, reply_head};
+use farm_machine::question::{BodyFault, Call, Caller, PageRequest, Parameter};
+use farm_machine::reply::Reply;
+use farm_record::{Report, RunName};
+use farm_text::SlugId;
+use http_wire::{Bytes, Message, Wire};
+use route_table::Table;
+use std::alloc::{AllocError, Global};
+use std::test::Fail;
+use task_defs::TaskQueue;
+
+mod bodies;
+mod targets;
+
+/// A message of this method and target, with this body.
+fn message(
+    alloc: Global,
+    method: &[u8],
+    target: &[u8],
+    body: &[u8],
+) -> Result<Message, AllocError> {
+    Ok(Message {
+        method: Bytes::from(Vec::from_slice(alloc, method)?),
+        target: Bytes::from(Vec::from_slice(alloc, target)?),
+        authorization: None,
+        authorizations: 0,
+        content_type: None,
+        body: Bytes::from(Vec::from_slice(alloc, body)?),
+        closes: false,
+    })
+}
+
+/// A fault of a body, as a word.
+fn fault_of<'a>(fault: &'a BodyFault) -> &'a str {
+    match fault {
+        BodyFault::NotJson => "no JSON",
+        BodyFault::NotWhole(path) => path.as_str(),
+        BodyFault::NoDefinition(fault) => fault.key.as_str(),
+        BodyFault::NoWork => "no work",
+        BodyFault::NoReason => "no reason",
+    }
+}
+
+/// A parameter, as a word.
+fn parameter_word(parameter: Parameter) -> &'static str {
+    match parameter {
+        Parameter::TaskId => "taskId",
+        Parameter::RunId => "runId",
+        Parameter::TaskGroupId => "taskGroupId",
+        Parameter::Queue => "queue",
+        Parameter::Limit => "limit",
+        Parameter::ContinuationToken => "continuationToken",
+    }
+}
+
+/// How a run ended, as a word.
+fn report_word(report: Report) -> &'static str {
+    match report {
+        Report::Completed => "completed",
+        Report::Failed => "failed",
+        Report::Superseded => "superseded",
+        Report::WorkerShutdown => "worker-shutdown",
+        Report::MalformedPayload => "malformed-payload",
+        Report::ResourceUnavailable => "resource-unavailable",
+        Report::InternalError => "internal-error",
+        Report::IntermittentTask => "intermittent-task",
+    }
+}
+
+/// A call of a task, in words.
+fn task_told(alloc: Global, word: &str, id: SlugId) -> Result<String, AllocError> {
+    let name = id.to_text(alloc)?;
+    format!(in alloc; "{word} {}", name.as_str())
+}
+
+/// A call of a list, in words: what it is of, how many tasks a page has, and the token.
+fn list_told(
+    alloc: Global,
+    word: &str,
+    id: SlugId,
+    page: &PageRequest,
+) -> Result<String, AllocError> {
+    let name = id.to_text(alloc)?;
+    let limit = page.limit;
+    match page.after {
+        Some(after) => {
+            let token = after.to_text(alloc)?;
+            format!(in alloc; "{word} {} {limit} {}", name.as_str(), token.as_str())
+        }
+        None => format!(in alloc; "{word} {} {limit}", name.as_str()),
+    }
+}
+
+/// A call of a queue, in words.
+fn queue_told(alloc: Global, word: &str, queue: &TaskQueue) -> Result<String, AllocError> {
+    let name = queue.name(alloc)?;
+    format!(in alloc; "{word} {}", name.as_str())
+}
+
+/// A call of a run, in words.
+fn run_told(alloc: Global, word: &str, run: u8) -> Result<String, AllocError> {
+    format!(in alloc; "{word} {run}")
+}
+
+/// What a message calls, in words.
+fn told(alloc: Global, call: &Call) -> Result<String, AllocError> {
+    match call {
+        Call::NoRoute(name) => format!(in alloc; "no route {}", name.as_str()),
+        Call::BadParameter(parameter) => format!(in alloc; "bad {}", parameter_word(*parameter)),
+        Call::BadBody(fault) => String::from_str(alloc, fault_of(fault)),
+        Call::Ping => String::from_str(alloc, "ping"),
+        Call::Task(id) => task_told(alloc, "task", *id),
+        Call::Status(id) => task_told(alloc, "status", *id),
+        Call::ListTaskGroup(id, page) => list_told(alloc, "group", *id, page),
+        Call::ListDependentTasks(id, page) => list_told(alloc, "dependents", *id, page),
+        Call::PendingTasks(queue) => queue_told(alloc, "pending", queue),
+        Call::CreateTask(creation) => task_told(alloc, "create", creation.id),
+        Call::ClaimWork(work) => run_told(alloc, work.worker_id.as_str(), work.tasks),
+        Call::ReclaimTask(RunName { run, .. }) => run_told(alloc, "reclaim", *run),
+        Call::ReportRun(report) => run_told(alloc, report_word(report.reason), report.run),
+        Call::ScheduleTask(id) => task_told(alloc, "schedule", *id),
+        Call::RerunTask(id) => task_told(alloc, "rerun", *id),
+        Call::CancelTask(id) => task_told(alloc, "cancel", *id),
+    }
+}
+
+/// Whether the message of a row, a method, a target and a body, calls what the row ends with.
+fn calls(alloc: Global, table: &Table, row: &str) -> Result<bool, Fail> {
+    let (method, rest) = row.split_once(' ').ok_or("a method")?;
+    let (target, rest) = rest.split_once('|').ok_or("a target")?;
+    let (body, wanted) = rest.split_once('|').ok_or("a body")?;
+    let asked = message(alloc, method.as_bytes(), target.as_bytes(), body.as_bytes())?;
+    let call = call_of(alloc, table, &asked)?;
+    let words = told(alloc, &call)?;
+    Ok(words.as_str() == wanted)
+}
+
+/// The first of these rows whose message calls something else, or `none`.
+fn first_other<'a>(alloc: Global, rows: &'a str) -> Result<&'a str, Fail> {
+    let table = Table::new(alloc)?;
+    for row in rows.split('\n') {
+        if !calls(alloc, &table, row)? {
+            return Ok(row);
+        }
+    }
+    Ok("none")
+}
+
+/// Whether a caller gives credentials.
+fn is_signed(caller: &Caller) -> bool {
+    match caller {
+        Caller::Anonymous => false,
+        Caller::Signed(_) => true,
+    }
+}
+
+#[test]
+fn a_field_tells_who_calls(rt: HostRuntime) -> Result<(), Fail> {
+    let alloc = rt.alloc();
+    let asked = message(alloc, b"GET", b"/", b"")?;
+    assert!(rt; !is_signed(&caller_of(asked)));
+    let mut asked = message(alloc, b"GET", b"/", b"")?;
+    asked.authorization = Some(Bytes::from(Vec::from_slice(alloc, b"x")?));
+    assert!(rt; is_signed(&caller_of(asked)));
+    Ok(())
+}
+
+#[test]
+fn heads_are_those_of_http(rt: HostRuntime) -> Result<(), Fail> {
+    let head = reply_head(&Reply::OutOfMemory, true);
+    assert_eq!(rt;
+        head.as_slice(),
+        b"HTTP/1.1 503 Service Unavailable\r\nConnection: close\r\nContent-Length: 57\r\nContent-Type: application/json\r\n\r\n".as_slice()
+    );
+    assert_eq!(rt; own_reply(Wire::End), b"".as_slice());
+    Ok(())
+}

@@ -1,0 +1,15 @@
+//! Tests of texts, messages, roles, signatures and words: of `farm_text`, `http_wire`, `role_expand`, `hawk_auth`, `command_line`.
+//!
+//! They stand in a crate of their own since the gate proves a crate's tests together with the crate: here it proves the tests alone.
+#![tactic(auto)]
+
+#[cfg(test)]
+mod roles;
+#[cfg(test)]
+mod signatures;
+#[cfg(test)]
+mod texts;
+#[cfg(test)]
+mod wire;
+#[cfg(test)]
+mod words;

@@ -1,0 +1,200 @@
+use command_line::{Command, WordsFault, Work, read_words};
+use farm_text::Text;
+use std::alloc::{AllocError, Global};
+use std::test::Fail;
+
+fn read(alloc: Global, words: &[&str]) -> Result<Result<Command, WordsFault>, AllocError> {
+    let mut texts = Vec::new(alloc);
+    for word in words {
+        texts.push(String::from_str(alloc, word)?)?;
+    }
+    Ok(read_words(alloc, texts.as_slice()))
+}
+
+fn usage(alloc: Global, words: &[&str]) -> Result<Option<Text>, AllocError> {
+    match read(alloc, words)? {
+        Err(WordsFault::Usage(text)) => Ok(Some(text)),
+        _ => Ok(None),
+    }
+}
+
+/// Whether the words ask for this work over this farm file.
+fn asks_for(alloc: Global, words: &[&str], name: &str, wanted: Work) -> Result<bool, AllocError> {
+    let command = read(alloc, words)?;
+    Ok(
+        matches!(&command, Ok(Command::OverFarm { farm, work }) if farm.as_str() == name && *work == wanted),
+    )
+}
+
+#[test]
+fn commands_are_read(rt: HostRuntime) -> Result<(), Fail> {
+    let alloc = rt.alloc();
+    assert!(rt; asks_for(alloc, &["answer", "a.toml"], "a.toml", Work::Answer)?);
+    assert!(rt; asks_for(alloc, &["expand", "b.toml"], "b.toml", Work::Expand)?);
+    assert!(rt; asks_for(alloc, &["check", "c.toml"], "c.toml", Work::Check)?);
+    Ok(())
+}
+
+/// The options of `sign` that have to be there, of Hawk's own example.
+const SIGN: [&str; 17] = [
+    "sign",
+    "--id",
+    "dh37fgj492je",
+    "--token",
+    "werxhqb98rpaxn39848xrunpaw3489ruxnpa98w4rxn",
+    "--method",
+    "GET",
+    "--target",
+    "/resource/1?b=1&a=2",
+    "--host",
+    "example.com",
+    "--port",
+    "8000",
+    "--ts",
+    "1353832234",
+    "--nonce",
+    "j4h3g2",
+];
+
+/// Whether these words ask for that example, with this ext and content type.
+fn signs(
+    alloc: Global,
+    words: &[&str],
+    ext: Option<&str>,
+    kind: Option<&str>,
+) -> Result<bool, AllocError> {
+    match read(alloc, words)? {
+        Ok(Command::Sign { signing: s }) => Ok(
+            s.id.as_str() == SIGN[2]
+                && s.token.as_str() == SIGN[4]
+                && s.method.as_str() == SIGN[6]
+                && s.target.as_str() == SIGN[8]
+                && s.host.as_str() == SIGN[10]
+                && s.port == 8000
+                && s.ts.as_str() == SIGN[14]
+                && s.nonce.as_str() == SIGN[16]
+                && is_text(&s.ext, ext)
+                && is_text(&s.content_type, kind),
+        ),
+        _ => Ok(false),
+    }
+}
+
+fn is_text(text: &Option<Text>, wanted: Option<&str>) -> bool {
+    match (text, wanted) {
+        (Some(text), Some(wanted)) => text.as_str() == wanted,
+        (None, None) => true,
+        _ => false,
+    }
+}
+
+#[test]
+fn sign_is_read(rt: HostRuntime) -> Result<(), Fail> {
+    let alloc = rt.alloc();
+    let rows: [(&[&str], Option<&str>, Option<&str>); 6] = [
+        (&[], None, None),
+        (
+            &["--ext", "some-app-ext-data"],
+            Some("some-app-ext-data"),
+            None,
+        ),
+        (&["--ext="], None, None),
+        (&["--type", ""], None, Some("")),
+        (
+            &["--type=text/plain", "--ext=-"],
+            Some("-"),
+            Some("text/plain"),
+        ),
+        (&["--"], None, None),
+    ];
+    for (more, ext, kind) in rows {
+        let mut words = Vec::from_slice(alloc, &SIGN)?;
+        words.extend_from_slice(more)?;
+        assert!(rt; signs(alloc, words.as_slice(), ext, kind)?);
+    }
+    Ok(())
+}
+
+#[test]
+fn other_words_get_a_text(rt: HostRuntime) -> Result<(), Fail> {
+    let alloc = rt.alloc();
+    let rows: [&[&str]; 7] = [
+        &[],
+        &["answer"],
+        &["answer", "a", "b"],
+        &["serve", "a"],
+        &["answer", "--disk", "d", "a"],
+        &["help"],
+        &["sign", "--id", "c"],
+    ];
+    for words in rows {
+        assert!(rt; usage(alloc, words)?.is_some());
+    }
+    for more in [
+        ["--ext"].as_slice(),
+        ["--id", "other"].as_slice(),
+        ["farm.toml"].as_slice(),
+    ] {
+        let mut words = Vec::from_slice(alloc, &SIGN)?;
+        words.extend_from_slice(more)?;
+        assert!(rt; usage(alloc, words.as_slice())?.is_some());
+    }
+    Ok(())
+}
+
+/// What is told of that example with another word at a place.
+fn told_of(alloc: Global, place: usize, word: &str) -> Result<Option<Text>, AllocError> {
+    let mut words = SIGN;
+    if place < words.len() {
+        words[place] = word;
+    }
+    usage(alloc, words.as_slice())
+}
+
+#[test]
+fn a_value_off_its_form_is_told(rt: HostRuntime) -> Result<(), Fail> {
+    let alloc = rt.alloc();
+    let rows = [
+        (2, "", "--id"),
+        (2, "a b", "--id"),
+        (4, "werxhqb98rpaxn39848xr", "--token"),
+        (4, "werxhqb98rpaxn39848xru.", "--token"),
+        (6, "", "--method"),
+        (6, "GET1", "--method"),
+        (6, "ABCDEFGHIJKLMNOPQRSTUVWXYZABCDEFG", "--method"),
+        (8, "", "--target"),
+        (8, "/a b", "--target"),
+        (10, "", "--host"),
+        (10, "h\u{e9}", "--host"),
+        (12, "0", "--port"),
+        (12, "65536", "--port"),
+        (12, "+80", "--port"),
+        (12, "00000000000000000080", "--port"),
+        (14, "", "--ts"),
+        (14, "1353832234567", "--ts"),
+        (14, "1.5", "--ts"),
+        (16, "", "--nonce"),
+        (16, "a\"b", "--nonce"),
+        (16, "a\\b", "--nonce"),
+    ];
+    for (place, word, name) in rows {
+        let told = told_of(alloc, place, word)?.ok_or("a text")?;
+        assert!(rt; told.as_str().contains(name));
+    }
+    assert!(rt; told_of(alloc, 12, "0000000000000008000")?.is_none());
+    Ok(())
+}
+
+#[test]
+fn help_names_the_commands(rt: HostRuntime) -> Result<(), Fail> {
+    let alloc = rt.alloc();
+    let help = usage(alloc, ["--help"].as_slice())?.ok_or("a text")?;
+    assert!(rt; help.as_str().contains("A build farm's server."));
+    for name in ["answer", "expand", "check", "sign"] {
+        assert!(rt; help.as_str().contains(name));
+    }
+    let help = usage(alloc, ["check", "--help"].as_slice())?.ok_or("a text")?;
+    assert!(rt; help.as_str().contains("Usage: farm check <FARM>"));
+    assert!(rt; help.as_str().contains("The farm file (TOML)."));
+    Ok(())
+}
