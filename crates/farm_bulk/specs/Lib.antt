@@ -1,0 +1,4 @@
+pub mod Generator
+pub mod Requests
+pub mod Replies
+pub mod Still

@@ -1,0 +1,7 @@
+//! A generated load, run over a farm in memory.
+#![tactic(auto)]
+
+mod generator;
+mod replies;
+mod requests;
+mod still;
