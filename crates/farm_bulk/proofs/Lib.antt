@@ -1,2 +1,4 @@
+mod OccursLemmas
 mod ReplyLemmas
 mod TextLemmas
+mod TurnLemmas

@@ -1,0 +1,1 @@
+use Rattle.farm_bulk.proofs.OccursLemmas.{never_found}
