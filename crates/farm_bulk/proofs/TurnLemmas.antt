@@ -7,7 +7,7 @@ use Rattle.history.proofs.HistoriesLemmas.{end_state-append, calls_of-append, as
 use Rattle.history.proofs.AsksLemmas.{calls_of-ask}
 
 -- turns one by one, from a state to another
-pub Steps : {Q A S E R : Type 0} → Rules Q A S E R → S → List (Q × A) → S → Type 0
+unfoldable pub Steps : {Q A S E R : Type 0} → Rules Q A S E R → S → List (Q × A) → S → Type 0
 Steps r before [] after = after ≡ before
 Steps {S = S} {E = E} r before (turn ∷ turns) after = (call : E) × (between : S) × IsAsk r before turn.0 turn.1 call between × Steps r between turns after
 

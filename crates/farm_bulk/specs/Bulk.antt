@@ -1,31 +1,15 @@
 -- A generated load, and how its tasks stand when no run of it is left to claim. It is this project's own; the farm and its worker go by the rules of the
 -- queue service of the Taskcluster reference.
 use Rattle.std.specs.Prelude.{◌≡◌, ℕ, ◌+◌, ◌/◌, ◌%◌, zero, suc, List, [], ◌∷◌, ◌++◌, replicate, codes, decimal, Some, None}
-use Rattle.role_expand.specs.Roles.{RoleData}
 use Rattle.farm_rows.specs.Summary.{summary_of}
 use Rattle.farm_rows.specs.declared.summary.Summary.{Summary}
 use Rattle.farm_machine.specs.State.{State, empty_state}
-use Rattle.farm_machine.specs.declared.config.Config.{Config}
 use Rattle.farm_bulk.specs.Connections.{Converses}
+use Rattle.farm_bulk.specs.Farm.{open_farm}
 use Rattle.farm_bulk.specs.Generator.{begun, next, drawn}
 use Rattle.farm_bulk.specs.Replies.{IsTold}
 use Rattle.farm_bulk.specs.Requests.{creation_text, claim_text, report_text}
 use Rattle.farm_bulk.specs.declared.replies.ClaimedRun.{ClaimedRun}
-
--- whoever gives no credentials may do all
-abbrev pub open_role : RoleData
-open_role = record { id = codes "anonymous"; scopes = codes "*" ∷ [] }
-
--- the farm of the load: so an empty farm file sets it up, but for that role
-unfoldable pub open_farm : Config
-open_farm = record {
-  host = codes "localhost";
-  port = 8080;
-  claim_timeout = 1200;
-  max_tasks = 1000000;
-  roles = open_role ∷ [];
-  clients = [];
-}
 
 -- the creations of so many tasks, from this one on and after this number of the generator, as they are sent
 abbrev pub creations : ℕ → ℕ → ℕ → List ℕ
@@ -67,9 +51,13 @@ pub record IsBulk (seed tasks : ℕ) (summary : Summary) : Type 0 where
   pub worked : Works made (after_draws tasks (begun seed)) [] done
   pub summary_is : summary ≡ summary_of done.contents.rows
 
+-- how many tasks there are, and how many of them completed and failed
+abbrev pub outcomes_text : Summary → List ℕ
+outcomes_text summary =
+    codes "tasks=" ++ (decimal summary.tasks ++ (codes " completed=" ++ (decimal summary.completed ++ (codes " failed=" ++ decimal summary.failed))))
+
 -- a summary as a line
 abbrev pub summary_text : Summary → List ℕ
 summary_text summary =
-    codes "tasks=" ++ (decimal summary.tasks ++ (codes " completed=" ++ (decimal summary.completed ++ (codes " failed=" ++ (decimal summary.failed
-    ++ (codes " exception=" ++ (decimal summary.exception ++ (codes " unscheduled=" ++ (decimal summary.unscheduled ++ (codes " runs=" ++ (decimal summary.runs
-    ++ codes "\n")))))))))))
+    outcomes_text summary ++ (codes " exception=" ++ (decimal summary.exception ++ (codes " unscheduled=" ++ (decimal summary.unscheduled
+    ++ (codes " runs=" ++ (decimal summary.runs ++ codes "\n"))))))

@@ -2,7 +2,7 @@
 ghost use Rattle.std.specs.Prelude.{◌≡◌, [], ◌∷◌, IfOk};
 ghost use Rattle.role_expand.specs.Roles.{roles_data};
 ghost use Rattle.farm_machine.specs.State.{empty_state};
-ghost use Rattle.farm_bulk.specs.Bulk.{open_role, open_farm};
+ghost use Rattle.farm_bulk.specs.Farm.{open_role, open_farm};
 
 use farm_core::Bare;
 use farm_machine::config::Config;
@@ -28,7 +28,7 @@ fn roles(alloc: Global) -> Result<Vec<Role>, AllocError>
 }
 
 /// How the farm is set up.
-#[tactic(auto, unfolding(crate::specs::Bulk::open_farm))]
+#[tactic(auto, unfolding(crate::specs::Farm::open_farm))]
 fn configuration(alloc: Global) -> Result<Config, AllocError>
     ensures { IfOk result (λ config. config ≡ open_farm) }
 {

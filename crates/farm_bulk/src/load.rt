@@ -1,7 +1,7 @@
 //! The load: its tasks are made, and then a worker runs them.
 ghost use Rattle.std.specs.Prelude.{◌≡◌, ℕ, ◌+◌, ◌*◌, ◌^◌, ◌<◌, ◌≤◌, List, [], ◌++◌, string_bytes, IfOk, OnOk};
 ghost use Rattle.farm_server.specs.declared.served.TheConstants.{REQUESTS};
-ghost use Rattle.farm_bulk.specs.Bulk.{creations, after_draws, parts_of, AreCreated, Works, IsBulk, summary_text};
+ghost use Rattle.farm_bulk.specs.Bulk.{creations, after_draws, parts_of, AreCreated, Works, IsBulk, outcomes_text, summary_text};
 ghost use Rattle.farm_bulk.specs.Connections.{Converses};
 ghost use Rattle.farm_bulk.specs.Replies.{IsTold};
 ghost use Rattle.farm_bulk.specs.Requests.{claim_text};
@@ -108,7 +108,7 @@ fn work(
     ensures { OnOk result (Works desk.old.0 generator.old [] desk.new.0) }
 {
     let mut text = String::new(alloc);
-    'claims: for _claim in 0..most {
+    'claims: for _ in 0..most {
         match claim_after(alloc, table, desk, text.as_str())? {
             Some(run) => text = report(alloc, &run, generator.draw())?,
             None => return Ok(()),
@@ -132,17 +132,24 @@ pub fn bulk(alloc: Global, seed: u64, tasks: u32) -> Result<Summary, AllocError>
     Ok(desk.into_object().summary())
 }
 
+/// How many tasks there are, and how many of them completed and failed.
+fn outcomes(alloc: Global, summary: Summary) -> Result<String, AllocError>
+    ensures { IfOk result (λ text. string_bytes text ≡ outcomes_text summary) }
+{
+    format!(in alloc;
+        "tasks={} completed={} failed={}",
+        summary.tasks, summary.completed, summary.failed
+    )
+}
+
 /// A summary as a line.
 pub fn summary_line(alloc: Global, summary: Summary) -> Result<String, AllocError>
     ensures { IfOk result (λ line. string_bytes line ≡ summary_text summary) }
 {
+    let text = outcomes(alloc, summary)?;
+    let outcomes = text.as_str();
     format!(in alloc;
-        "tasks={} completed={} failed={} exception={} unscheduled={} runs={}\n",
-        summary.tasks,
-        summary.completed,
-        summary.failed,
-        summary.exception,
-        summary.unscheduled,
-        summary.runs
+        "{outcomes} exception={} unscheduled={} runs={}\n",
+        summary.exception, summary.unscheduled, summary.runs
     )
 }

@@ -1,1 +1,0 @@
-use Rattle.farm_bulk.proofs.OccursLemmas.{never_found}
