@@ -1,9 +1,9 @@
 #!/usr/bin/env python3
 """The summaries of generated loads, by a model of the rules that was written apart from the program.
 
-    python3 bench/bulk_model.py SEED TASKS ..
+    python3 bench/bulk_model.py [SEED TASKS ..]
 
-prints a line for each pair, as `farm bulk` does. Only the states of runs are modelled: the clock of a load stands still, so no claim ends by itself and
+prints a line for each pair, as a load of so many tasks is told; without words, the table of crates/farm_bulk/src/tests.rt. Only the states of runs are modelled: the clock of a load stands still, so no claim ends by itself and
 no deadline comes. The draws are those of the C standard's example of `rand`, modulo 2^31.
 """
 import heapq
@@ -83,6 +83,6 @@ def bulk(seed, tasks):
 
 
 if __name__ == "__main__":
-    words = list(map(int, sys.argv[1:]))
+    words = list(map(int, sys.argv[1:])) or [number for seed in range(5) for tasks in (0, 1, 2, 3, 50) for number in (seed, tasks)]
     for seed, tasks in zip(words[::2], words[1::2]):
         print(bulk(seed, tasks))

@@ -1,17 +1,13 @@
 -- A message makes one call.
-use Rattle.std.proofs.Common.{◌≡◌, ◌⊎◌, inl, inr, ℕ, pos, codes, bytes_eq, Bool, true, false, List, [], ◌∷◌, map, Option, Some, None, refl, sym, ◌∙◌, ap, subst, subst₂, if◌then◌else◌}
+use Rattle.std.proofs.Common.{◌≡◌, ◌⊎◌, inl, inr, ℕ, codes, bytes_eq, List, [], ◌∷◌, Option, Some, None, refl, sym, ◌∙◌, ap, subst, subst₂, if◌then◌else◌}
 use Rattle.serde_json.specs.Data.{Data}
-use Rattle.percent_encoding.specs.Percent.{percent_decode}
-use Rattle.farm_text.specs.Document.{Document, whole, text, object, members_of, data_of}
+use Rattle.farm_text.specs.Document.{Document, data_of}
 use Rattle.farm_text.specs.Reading.{IsJson, unwhole}
 use Rattle.farm_text.specs.Slug.{slug_of}
 use Rattle.task_defs.specs.Definitions.{Says, rules}
-use Rattle.task_defs.specs.Faults.{IsFault}
-use Rattle.task_defs.specs.Forms.{IsIdentifier, queue_name}
-use Rattle.task_defs.specs.Values.{IsQueue}
+use Rattle.task_defs.specs.Forms.{queue_name}
 use Rattle.task_defs.specs.declared.fault.DefFault.{DefFault}
 use Rattle.task_defs.specs.declared.names.TaskQueue.{TaskQueue}
-use Rattle.task_defs.specs.declared.task_def.TaskDef.{TaskDef}
 use Rattle.task_defs.proofs.OneLemmas.{fault_one, no_fault}
 use Rattle.task_defs.proofs.QueueLemmas.{queue_name_same}
 use Rattle.run_states.specs.Reasons.{resolved_name}
@@ -24,18 +20,18 @@ use Rattle.farm_record.specs.declared.change.RunName.{RunName}
 use Rattle.farm_machine.specs.declared.question.BodyFault.{BodyFault}
 use Rattle.farm_machine.specs.declared.question.BodyFault.TheVariants.{NotJson, NotWhole, NoDefinition, NoWork, NoReason}
 use Rattle.farm_machine.specs.declared.question.Call.{Call}
-use Rattle.farm_machine.specs.declared.question.Call.TheVariants.{NoRoute, BadParameter, BadBody, Ping, Task, Status, ListTaskGroup, ListDependentTasks, PendingTasks, CreateTask, ClaimWork, ReclaimTask, ReportRun, ScheduleTask, RerunTask, CancelTask}
+use Rattle.farm_machine.specs.declared.question.Call.TheVariants.{BadBody, Task, Status, ListTaskGroup, ListDependentTasks, CreateTask, ClaimWork, ReportRun, ScheduleTask, RerunTask, CancelTask}
 use Rattle.farm_machine.specs.declared.question.WorkRequest.{WorkRequest}
 use Rattle.farm_machine.specs.declared.question.Parameter.{Parameter}
 use Rattle.farm_machine.specs.declared.question.PageRequest.{PageRequest}
-use Rattle.farm_machine.specs.declared.question.Parameter.TheVariants.{TaskId, RunId, TaskGroupId, Queue}
-use Rattle.route_table.specs.Fits.{Fits, NoTwoFit}
+use Rattle.farm_machine.specs.declared.question.Parameter.TheVariants.{TaskId, TaskGroupId}
+use Rattle.route_table.specs.Fits.{NoTwoFit}
 use Rattle.route_table.specs.Routes.{path_of as path_form, segments_of}
 use Rattle.route_table.specs.Segments.{parameters_in, parts_of}
 use Rattle.route_table.specs.declared.route.Route.{Route}
 use Rattle.route_table.specs.declared.route.Route.TheVariants as routes
 use Rattle.http_wire.specs.declared.message.Message.{Message}
-use Rattle.api_routes.specs.Bodies.{IsDocument, HasFault, IsNoTask, SaysTask, IsTaskBody, IsCreateCall, AsksFor, SaysWork, IsNoWork, IsWorkBody, is_exception, SaysReason, IsNoReason, IsReasonBody}
+use Rattle.api_routes.specs.Bodies.{IsDocument, HasFault, IsNoTask, IsTaskBody, IsCreateCall, AsksFor, SaysWork, IsNoWork, IsWorkBody, SaysReason, IsNoReason, IsReasonBody}
 use Rattle.api_routes.specs.Calls.{Request, Calls, CallsCreate, CallsTask, CallsRunOr, CallsRun, CallsQueue, CallsOfQueue, CallsList, Reclaims, Reports, Counts, run_of}
 use Rattle.api_routes.specs.Routes.{IsCallOf, path_of, request_of}
 use Rattle.farm_bulk.proofs.DefinitionLemmas.{Says-one}

@@ -1,13 +1,13 @@
 -- A connection of the load, from what serving one says.
-use Rattle.std.proofs.Common.{◌≡◌, ◌≢◌, ◌⊎◌, inl, inr, ℕ, ◌+◌, ◌-◌, ◌^◌, ◌<◌, ◌≤◌, ◌||◌, ◌==◌, Bool, true, false, List, [], ◌∷◌, ◌++◌, length, take, drop, map, get_or, codes, decimal, if◌then◌else◌, Option, Some, None, Result, Ok, Err, IfOk, Vec, refl, sym, ◌∙◌, ap, subst, subst₂, arith, length-append, take-append-drop, append_assoc}
+use Rattle.std.proofs.Common.{◌≡◌, ◌≢◌, ◌⊎◌, inl, inr, ℕ, ◌+◌, ◌-◌, ◌^◌, ◌<◌, ◌||◌, ◌==◌, Bool, List, [], ◌∷◌, ◌++◌, length, map, codes, decimal, if◌then◌else◌, Some, Result, Ok, Err, IfOk, Vec, refl, sym, ◌∙◌, ap, subst, subst₂, arith, append_assoc}
 use Rattle.std.proofs.lemmas.Bool.{lt-ltb}
 use Rattle.std.specs.List.{range_with_len}
 use Rattle.std.specs.declared.alloc.Global.{Global}
 use Rattle.std.specs.Io.KnownBytes.{Appends}
 use Rattle.causes.specs.Logs.{LogGrows}
-use Rattle.history.specs.Histories.{asked_at, reply_at, calls_of, end_state}
-use Rattle.history.specs.Asks.{IsAsk, AreEntries, LeadsAlone, AsksInTurn}
-use Rattle.memchr.specs.Find.{OccursAt, FindsNeedle}
+use Rattle.history.specs.Histories.{asked_at, reply_at}
+use Rattle.history.specs.Asks.{IsAsk, LeadsAlone, AsksInTurn}
+use Rattle.memchr.specs.Find.{OccursAt}
 use Rattle.farm_text.specs.Told.{told_by, first_uuid}
 use Rattle.farm_machine.specs.Entry.{Asking, Entry}
 use Rattle.farm_machine.specs.Law.{Opening, opened}

@@ -1,9 +1,8 @@
 -- A document says one definition of a task.
-use Rattle.std.proofs.Common.{◌≡◌, ◌⊎◌, inl, inr, ℕ, List, codes, Option, Some, None, refl, sym, ◌∙◌}
-use Rattle.farm_text.specs.DateTime.{IsDateTime}
+use Rattle.std.proofs.Common.{◌≡◌, inl, inr, ℕ, List, codes, Some, None, refl, sym, ◌∙◌}
 use Rattle.farm_text.specs.Document.{Document, text, get}
 use Rattle.farm_text.proofs.OneMomentLemmas.{IsDateTime-one}
-use Rattle.task_defs.specs.Definitions.{IsDefinition, Says}
+use Rattle.task_defs.specs.Definitions.{Says}
 use Rattle.task_defs.specs.Parts.{IsOnlyAt}
 use Rattle.task_defs.specs.Rules.{MomentAt, IsExpires}
 use Rattle.task_defs.specs.declared.task_def.TaskDef.{TaskDef}

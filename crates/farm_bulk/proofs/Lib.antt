@@ -1,3 +1,4 @@
+mod BodyLemmas
 mod CallLemmas
 mod ConnectionLemmas
 mod DefinitionLemmas

@@ -1,24 +1,23 @@
 -- A load leaves its tasks standing in one way.
-use Rattle.std.proofs.Common.{◌≡◌, ◌≢◌, ◌⊎◌, inl, inr, ℕ, ◌+◌, pos, codes, Bool, true, false, List, [], ◌∷◌, ◌++◌, map, Option, Some, None, option_and_then, refl, sym, ◌∙◌, ap, subst, subst₂, if◌then◌else◌}
+use Rattle.std.proofs.Common.{◌≡◌, ◌≢◌, ◌⊎◌, inl, inr, ℕ, ◌+◌, pos, codes, Bool, true, false, List, [], ◌∷◌, ◌++◌, Option, Some, None, option_and_then, refl, sym, ◌∙◌, ap, subst, subst₂, if◌then◌else◌}
 use Rattle.history.specs.Histories.{end_state, IsLegal}
 use Rattle.history.specs.Asks.{IsAsk}
 use Rattle.http_wire.specs.Stream.{Ending, Messages, stopped, closed, full}
 use Rattle.http_wire.specs.declared.message.Message.{Message}
 use Rattle.http_wire.specs.declared.message.Wire.TheVariants as wire
 use Rattle.route_table.specs.Fits.{NoTwoFit}
-use Rattle.farm_text.specs.Document.{Document, text, whole, array, no_items, get, data_of}
+use Rattle.farm_text.specs.Document.{Document, text, whole, get, data_of}
 use Rattle.farm_text.specs.Reading.{IsJson}
 use Rattle.api_routes.specs.Routes.{IsCallOf}
 use Rattle.farm_rows.specs.Due.{is_due}
 use Rattle.farm_rows.specs.Summary.{summary_of}
 use Rattle.farm_rows.specs.declared.summary.Summary.{Summary}
 use Rattle.farm_machine.specs.Changes.{moment_of}
-use Rattle.farm_machine.specs.Entry.{Asking, Outcome, finished, out_of_memory, Entry, tick, call}
+use Rattle.farm_machine.specs.Entry.{Asking, finished, out_of_memory, Entry, tick, call}
 use Rattle.farm_machine.specs.Judgement.{Judgement}
 use Rattle.farm_machine.specs.State.{State, empty_state}
-use Rattle.farm_machine.specs.Step.{farm_rules, lawful, asked, reply as reply_in, reply_to, ticks_before}
+use Rattle.farm_machine.specs.Step.{farm_rules, lawful, asked, reply as reply_in}
 use Rattle.farm_machine.specs.Verdict.{IsVerdict}
-use Rattle.farm_machine.specs.declared.reply.Asked.{Asked}
 use Rattle.farm_machine.specs.declared.reply.Reply.{Reply}
 use Rattle.farm_machine.specs.declared.reply.Reply.TheVariants.{Answered, OutOfMemory}
 use Rattle.farm_server.specs.Served.{Ask, messages_of, questions_of, AreRouted, reply_texts, EndsAs}
@@ -28,10 +27,10 @@ use Rattle.farm_bulk.specs.Bulk.{creations, after_draws, parts_of, AreCreated, W
 use Rattle.farm_bulk.specs.Connections.{AreAtMidnight, AreAnswered, Converses}
 use Rattle.farm_bulk.specs.Farm.{open_farm}
 use Rattle.farm_bulk.specs.Generator.{begun, next, drawn}
-use Rattle.farm_bulk.specs.Replies.{IsLastLine, first_item, TellsRun, Tells, IsTold}
+use Rattle.farm_bulk.specs.Replies.{first_item, Tells, IsTold}
 use Rattle.farm_bulk.specs.Requests.{claim_text, report_text}
 use Rattle.farm_bulk.specs.declared.replies.ClaimedRun.{ClaimedRun}
-use Rattle.farm_bulk.proofs.CallLemmas.{OneDocument, IsOne, call_one}
+use Rattle.farm_bulk.proofs.CallLemmas.{OneDocument, call_one}
 use Rattle.farm_bulk.proofs.LineLemmas.{IsLastLine-one}
 
 -- the laws of what a load goes through

@@ -1,5 +1,5 @@
 -- The last line of a text.
-use Rattle.std.proofs.Common.{Result, Ok, Err, Option, IfOk, ◌≡◌, ℕ, suc, ◌+◌, ◌-◌, ◌<◌, ◌≤◌, true, List, [], ◌∷◌, ◌++◌, Some, length, take, drop, get_or, refl, sym, ap, ◌∙◌, arith, take-append-drop, take_all, length-drop, get_or-drop, add-one, subst}
+use Rattle.std.proofs.Common.{Result, Ok, Err, Option, IfOk, ◌≡◌, ℕ, ◌+◌, ◌-◌, ◌<◌, List, ◌∷◌, Some, length, take, drop, get_or, sym, ◌∙◌, arith, take-append-drop, take_all, length-drop, get_or-drop, add-one, subst}
 use Rattle.std.proofs.lemmas.Bool.{eq-eqb}
 use Rattle.std.specs.List.{Contains}
 use Rattle.std.proofs.Math.Seq.{drop-cons}

@@ -1,5 +1,5 @@
 -- What turns were asked and told, of whose entries a history is made: the machine goes through them one by one.
-use Rattle.std.proofs.Common.{◌≡◌, ℕ, ◌+◌, List, [], ◌∷◌, ◌++◌, length, length-append, map, Option, Some, refl, sym, ◌∙◌, ap, subst, append_assoc, append-nil, arith}
+use Rattle.std.proofs.Common.{◌≡◌, ℕ, ◌+◌, List, [], ◌∷◌, ◌++◌, length, length-append, map, Option, Some, refl, sym, ◌∙◌, ap, subst, append_assoc}
 use Rattle.history.specs.Rules.{Rules}
 use Rattle.history.specs.Histories.{entries, end_state, reply_at, asked_at, calls_of}
 use Rattle.history.specs.Asks.{IsAsk, AreEntries}
@@ -25,8 +25,8 @@ map-cons f x xs y ys first rest = ap (λ v. v ∷ map f xs) first ∙ ap (λ vs.
 
 -- What is found at the places of the calls: what is said of one entry, where it stands behind others.
 module _ {Q A S E R X : Type 0} (r : Rules Q A S E R) (opening : S) (found : List E → ℕ → Option X) (value : List E → E → Option X) (wanted : Q × A → Option X)
-  (seam : (seen : List E) (entry : E) (since : List E) → found (seen ++ entry ∷ since) (length seen) ≡ value seen entry)
-  (tells : (front : List E) (state : S) (turn : Q × A) (call : E) (new : S) → state ≡ end_state r opening front → IsAsk r state turn.0 turn.1 call new → value (front ++ r.ticks state turn.0 turn.1) call ≡ wanted turn) where
+    (seam : (seen : List E) (entry : E) (since : List E) → found (seen ++ entry ∷ since) (length seen) ≡ value seen entry)
+    (tells : (front : List E) (state : S) (turn : Q × A) (call : E) (new : S) → state ≡ end_state r opening front → IsAsk r state turn.0 turn.1 call new → value (front ++ r.ticks state turn.0 turn.1) call ≡ wanted turn) where
   found_at_calls : (state : S) (turns : List (Q × A)) (made front : List E) → state ≡ end_state r opening front → AreEntries r state turns made → map (found (front ++ made)) (calls_of r (length front) made) ≡ map wanted turns
   found_at_calls state [] made front leads are = rw are refl
   found_at_calls state (turn ∷ turns) made front leads are =

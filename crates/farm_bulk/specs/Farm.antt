@@ -1,5 +1,5 @@
 -- The farm of a load.
-use Rattle.std.specs.Prelude.{List, [], ◌∷◌, codes}
+use Rattle.std.specs.Prelude.{[], ◌∷◌, codes}
 use Rattle.role_expand.specs.Roles.{RoleData}
 use Rattle.farm_machine.specs.declared.config.Config.{Config}
 

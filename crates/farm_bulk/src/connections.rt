@@ -77,7 +77,15 @@ pub(crate) fn converse(
     let mut link = link(alloc, sent)?;
     let mut clock = StillClock::new();
     let mut draws = StillDraws::new();
-    let served = serve_routed(alloc, table, &mut link, desk, &mut clock, &mut draws, &mut NoGate);
+    let served = serve_routed(
+        alloc,
+        table,
+        &mut link,
+        desk,
+        &mut clock,
+        &mut draws,
+        &mut NoGate,
+    );
     let written = link.sink.written();
     if !is_complete(served, &clock, &draws, written) {
         return Err(AllocError);

@@ -13,7 +13,10 @@ mod replies;
 mod requests;
 mod still;
 
-pub use laws::{a_connection_has_one_outcome, a_load_has_one_summary, a_message_makes_one_call};
+pub use laws::{
+    a_body_is_the_last_line, a_connection_has_one_outcome, a_load_has_one_summary,
+    a_message_makes_one_call,
+};
 pub use load::{bulk, summary_line};
 
 #[cfg(test)]

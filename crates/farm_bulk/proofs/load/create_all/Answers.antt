@@ -1,4 +1,4 @@
-use Rattle.std.proofs.Common.{◌≡◌, ◌/◌, ◌%◌, ◌≤◌, refl, arith}
+use Rattle.std.proofs.Common.{◌≡◌, ◌/◌, ◌%◌, refl, arith}
 use Rattle.farm_bulk.proofs.LoadLemmas.{AreCreated-start, AreCreated-next, AreCreated-last, OnOk-map, draws_more, draws_last, room_left, spare_left, spare_more}
 use Rattle.farm_bulk.proofs.load.create_all.Goals as goal
 

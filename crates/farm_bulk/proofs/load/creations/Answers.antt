@@ -13,7 +13,7 @@ tasks-preserved c =
     let finish = c.args.first + c.args.count in
     let text : string_bytes c.push_str.new.self ≡ string_bytes c.tasks.text ++ c.as_str.result.now = c.in_ok-push_str.ensures.bytes in
     let request : c.as_str.result.now ≡ creation_text c.tasks.number (drawn (next c.tasks.generator)) =
-        c.as_str.ensures.value ∙ (c.in_ok-request.ensures ∙ ap (creation_text c.tasks.number) (c.draw.ensures.drawn ∙ ap drawn c.draw.ensures.number)) in (
+    c.as_str.ensures.value ∙ (c.in_ok-request.ensures ∙ ap (creation_text c.tasks.number) (c.draw.ensures.drawn ∙ ap drawn c.draw.ensures.number)) in (
       rw (text, c.draw.ensures.number) (creations-next (string_bytes c.tasks.text) c.as_str.result.now c.tasks.number finish c.tasks.generator c.tasks-test.true request ∙ c.tasks.invariant.0),
       rw c.draw.ensures.number (after_draws-next c.tasks.number finish c.tasks.generator c.tasks-test.true ∙ c.tasks.invariant.1),
     )

@@ -1,4 +1,4 @@
-use Rattle.std.proofs.Common.{◌≡◌, ◌+◌, ◌-◌, ◌*◌, ◌≤◌, [], string_bytes}
+use Rattle.std.proofs.Common.{◌-◌, ◌*◌, ◌≤◌, [], string_bytes}
 use Rattle.farm_machine.specs.State.{State}
 use Rattle.farm_server.specs.declared.served.TheConstants.{REQUESTS}
 use Rattle.farm_bulk.specs.Bulk.{Works}

@@ -1,4 +1,3 @@
-use Rattle.farm_bulk.specs.Replies.{IsTold, Tells}
 use Rattle.farm_bulk.proofs.ReplyLemmas.{IfOk-told}
 use Rattle.farm_bulk.proofs.replies.read_claim.Goals as goal
 
