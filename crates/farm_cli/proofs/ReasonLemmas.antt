@@ -22,7 +22,7 @@ use Rattle.farm_cli.specs.Expanding.{IsExpansion, Expands}
 use Rattle.farm_cli.specs.FarmFile.{SetsUp, FileRefused}
 use Rattle.farm_cli.specs.House.{WasLent, WasOpened, Lendings}
 use Rattle.farm_cli.specs.Inputs.{longest_input}
-use Rattle.farm_cli.specs.Reasons.{FileLent, FileTaken, SigningTaken, LoadTaken, ConsoleFailed, ConsoleHeld, EndsWith, IsDone, IsRefused, IsCut, IsSigningDone, IsSigningRefused, IsSigningUnread, HasReason}
+use Rattle.farm_cli.specs.Reasons.{FileLent, FileTaken, SigningTaken, LoadTaken, ConsoleFailed, EndsWith, IsDone, IsRefused, IsCut, IsSigningDone, IsSigningRefused, IsSigningUnread, HasReason}
 use Rattle.farm_cli.specs.Loading.{Loads}
 use Rattle.farm_cli.specs.Run.{Obeyed, RanOverFile, RanCommand, Ran}
 use Rattle.farm_cli.specs.Serving.{status_of, Conversed}
