@@ -197,3 +197,55 @@ fn the_last_of_fifty_runs_is_told_of_again(rt: HostRuntime) -> Result<(), Fail> 
     assert_eq!(rt; told.as_slice(), wanted.as_str().as_bytes());
     Ok(())
 }
+
+/// The task in full form.
+const FULL: &str =
+    r#"{"created":"2024-01-01T00:00:00.000Z","deadline":"2024-01-02T00:00:00.000Z","dependencies":[],"expires":"2025-01-01T00:00:00.000Z","extra":{},"metadata":{"description":"d","name":"n","owner":"o@example.com","source":"https://example.com/"},"payload":{},"priority":"lowest","projectId":"none","provisionerId":"prov","requires":"all-completed","retries":0,"routes":[],"schedulerId":"-","scopes":[],"tags":{},"taskGroupId":"AAAAAAAAQACAAAAAAAAAAA","taskQueueId":"prov/wt","workerType":"wt"}"#;
+
+#[test]
+fn fifty_runs_are_listed(rt: HostRuntime) -> Result<(), Fail> {
+    let alloc = rt.alloc();
+    let listed = after_fifty(
+        alloc,
+        "GET /api/queue/v1/task-group/AAAAAAAAQACAAAAAAAAAAA/list",
+    )?;
+    let back = format!(in alloc; r#","task":{FULL}}}]}}"#)?;
+    let wanted = fifty_told(
+        alloc,
+        "200 OK",
+        r#"{"taskGroupId":"AAAAAAAAQACAAAAAAAAAAA","tasks":[{"status":"#,
+        back.as_str(),
+    )?;
+    assert_eq!(rt; listed.as_slice(), wanted.as_str().as_bytes());
+    Ok(())
+}
+
+/// A reply with success and this body.
+fn success(alloc: Global, body: &str) -> Result<String, AllocError> {
+    let length = body.len();
+    format!(in alloc;
+        "HTTP/1.1 200 OK\r\nContent-Length: {length}\r\nContent-Type: application/json\r\n\r\n{body}"
+    )
+}
+
+#[test]
+fn who_ran_fifty_times_is_told(rt: HostRuntime) -> Result<(), Fail> {
+    let alloc = rt.alloc();
+    let rows = [
+        (
+            "GET /api/queue/v1/task/AAAAAAAAQACAAAAAAAAAAA/dependents",
+            r#"{"taskId":"AAAAAAAAQACAAAAAAAAAAA","tasks":[]}"#,
+        ),
+        ("GET /api/queue/v1/task/AAAAAAAAQACAAAAAAAAAAA", FULL),
+        (
+            "GET /api/queue/v1/pending/prov/wt",
+            r#"{"pendingTasks":0,"provisionerId":"prov","taskQueueId":"prov/wt","workerType":"wt"}"#,
+        ),
+    ];
+    for (request, body) in rows {
+        let told = after_fifty(alloc, request)?;
+        let wanted = success(alloc, body)?;
+        assert_eq!(rt; told.as_slice(), wanted.as_str().as_bytes());
+    }
+    Ok(())
+}
