@@ -1,0 +1,99 @@
+//! Expressions that an operator has beside what it renders.
+ghost use Rattle.std.specs.Prelude.{◌≡◌, [], ◌∷◌, ◌++◌, IfOk, OnOk};
+ghost use Rattle.farm_text.specs.Document.{members_of};
+ghost use Rattle.farm_text.specs.Doc.{document, entries_of};
+ghost use Rattle.jsone_eval.specs.Scopes.{scopes_of};
+ghost use Rattle.jsone_render.specs.Answers.{Answers, Kept, strings_in};
+ghost use Rattle.jsone_render.specs.Conditions.{branch_of, AreTrue, conditions_of};
+ghost use Rattle.jsone_render.specs.Expressions.{ValueAt};
+ghost use Rattle.jsone_render.specs.Maps.{keys_of};
+
+use crate::faults::RenderFault;
+use crate::paths::here;
+use crate::renderer::Renderer;
+use farm_text::Doc;
+use jsone_values::faults::Fault;
+use jsone_values::truth::is_true;
+use std::alloc::{AllocError, Global};
+use std::collections::BTreeMap;
+
+/// The branch of `$if` that the value of its condition takes.
+pub(crate) fn branch_of(value: &Doc) -> &'static str
+    ensures { result.now ≡ branch_of (document value.now) }
+{
+    if is_true(value) { "then" } else { "else" }
+}
+
+/// The keys of a map, in rising order.
+pub(crate) fn keys_of(
+    alloc: Global,
+    members: &BTreeMap<String, Doc>,
+) -> Result<Vec<String>, AllocError>
+    ensures { IfOk result (λ v. strings_in v.items ≡ keys_of (members_of (entries_of members.now.entries))) }
+{
+    let mut keys = Vec::with_capacity(alloc, members.len())?;
+    for (key, _) in members.iter() {
+        keys.push(key.clone()?)?;
+    }
+    Ok(keys)
+}
+
+/// The same without `$default`.
+pub(crate) fn conditions_of(
+    alloc: Global,
+    members: &BTreeMap<String, Doc>,
+) -> Result<Vec<String>, AllocError>
+    ensures { IfOk result (λ v. strings_in v.items ≡ conditions_of (members_of (entries_of members.now.entries))) }
+{
+    let mut keys = Vec::with_capacity(alloc, members.len())?;
+    for (key, _) in members.iter() {
+        if key.as_str() != "$default" {
+            keys.push(key.clone()?)?;
+        }
+    }
+    Ok(keys)
+}
+
+fn keep_key(found: &mut Vec<String>, key: String) -> Result<(), AllocError>
+    ensures { OnOk result (found.new.items ≡ found.old.items ++ key ∷ []) }
+{
+    found.push(key)?;
+    Ok(())
+}
+
+impl<'a> Renderer<'a> {
+    /// The value of the expression that stands at the key.
+    pub(crate) fn value_at(
+        &mut self,
+        alloc: Global,
+        members: &BTreeMap<String, Doc>,
+        key: &str,
+    ) -> Result<Doc, RenderFault>
+        ensures answers { Answers document (ValueAt key.now (members_of (entries_of members.now.entries)) (scopes_of self.old.context) self.old.cost.spent) result self.new.cost.spent }
+        ensures scopes { Kept result (scopes_of self.old.context) (scopes_of self.new.context) }
+    {
+        match members.get(key) {
+            Some(Doc::Text(source)) => self.evaluate(alloc, source.as_bytes()),
+            _ => Err(here(alloc, Fault::WrongKind)),
+        }
+    }
+
+    /// The conditions that are true.
+    pub(crate) fn true_of(
+        &mut self,
+        alloc: Global,
+        conditions: Vec<String>,
+    ) -> Result<Vec<String>, RenderFault>
+        ensures answers { Answers (λ v. strings_in v.items) (AreTrue [] (strings_in conditions.items) (scopes_of self.old.context) self.old.cost.spent) result self.new.cost.spent }
+        ensures scopes { Kept result (scopes_of self.old.context) (scopes_of self.new.context) }
+    {
+        let mut found = Vec::new(alloc);
+        for condition in conditions {
+            let value = self.evaluate(alloc, condition.as_str().as_bytes())?;
+            if is_true(&value) {
+                keep_key(&mut found, condition)?;
+            }
+        }
+        Ok(found)
+    }
+}

@@ -1,0 +1,131 @@
+//! Texts of a template, in which `${e}` is the value of an expression.
+ghost use Rattle.std.specs.Prelude.{◌≡◌, ◌+◌, ◌++◌, ◌∷◌, [], ℕ, List, length, IfOk, MatchResult, MatchBool, string_bytes, Ok};
+ghost use Rattle.farm_text.specs.Document.{Document};
+ghost use Rattle.farm_text.specs.Doc.{document};
+ghost use Rattle.jsone_eval.specs.Scopes.{scopes_of};
+ghost use Rattle.jsone_render.specs.Answers.{Answers, Kept, found_in, EndsAt, IsStop};
+ghost use Rattle.jsone_render.specs.Expressions.{HasTree};
+ghost use Rattle.jsone_render.specs.Texts.{ends_with_dollar, shown, Valued, Interpolated, Written, TextRenders};
+
+use crate::faults::RenderFault;
+use crate::paths::here;
+use crate::renderer::Renderer;
+use farm_text::{Doc, Text};
+use jsone_expr::{ParseFault, parse};
+use jsone_values::builtins::text_of;
+use jsone_values::faults::{Fault, Stop};
+use std::alloc::{AllocError, Global};
+
+/// Whether the text is an expression, however deep.
+fn has_tree(alloc: Global, source: &[u8]) -> Result<bool, AllocError>
+    ensures { IfOk result (λ is. MatchBool is (HasTree source.now) (¬ HasTree source.now)) }
+{
+    match parse(alloc, source) {
+        Ok(_) => Ok(true),
+        Err(ParseFault::TooDeep) => Ok(true),
+        Err(ParseFault::Syntax(_)) => Ok(false),
+        Err(ParseFault::NoMemory) => Err(AllocError),
+    }
+}
+
+/// The expression that ends before the first `}` before which one can end, and what stands behind that.
+fn cut_expression<'a>(
+    alloc: Global,
+    behind: &'a str,
+) -> Result<Option<(&'a [u8], &'a str)>, AllocError>
+    ensures { IfOk result (EndsAt behind.now) }
+{
+    let bytes = behind.as_bytes();
+    let mut taken = 0usize;
+    let mut rest = behind;
+    while let Some((piece, next)) = rest.split_once("}") {
+        let end = taken + piece.len();
+        if has_tree(alloc, &bytes[..end])? {
+            return Ok(Some((&bytes[..end], next)));
+        }
+        taken = end + 1;
+        rest = next;
+    }
+    Ok(None)
+}
+
+fn ends_with_dollar(text: &[u8]) -> bool
+    ensures { result ≡ ends_with_dollar text.now }
+{
+    match text {
+        [] => false,
+        [.., last] => *last == b'$',
+    }
+}
+
+/// The text that a value gives.
+fn shown(alloc: Global, value: &Doc) -> Result<Text, Stop>
+    ensures { MatchResult result (λ t. shown (document value.now) ≡ Ok t)
+        (λ stop. IsStop (shown (document value.now)) stop) }
+{
+    match value {
+        Doc::Null => Ok(Text::from_string(String::new(alloc))),
+        _ => text_of(alloc, value),
+    }
+}
+
+impl<'a> Renderer<'a> {
+    /// The text of the value of an expression.
+    fn valued(&mut self, alloc: Global, source: &[u8]) -> Result<Text, RenderFault>
+        ensures answers { Answers (λ t. t) (Valued source.now (scopes_of self.old.context) self.old.cost.spent) result self.new.cost.spent }
+        ensures scopes { Kept result (scopes_of self.old.context) (scopes_of self.new.context) }
+    {
+        let value = self.evaluate(alloc, source)?;
+        match shown(alloc, &value) {
+            Ok(text) => Ok(text),
+            Err(Stop::Fault(rule)) => Err(here(alloc, rule)),
+            Err(Stop::NoMemory) => Err(RenderFault::NoMemory),
+        }
+    }
+
+    /// The text with the values of its expressions.
+    fn interpolate(&mut self, alloc: Global, text: &str) -> Result<String, RenderFault>
+        ensures answers { Answers string_bytes (Interpolated text.now (scopes_of self.old.context) self.old.cost.spent) result self.new.cost.spent }
+        ensures scopes { Kept result (scopes_of self.old.context) (scopes_of self.new.context) }
+    {
+        let mut out = String::new(alloc);
+        let mut rest = text;
+        while let Some((front, behind)) = rest.split_once("${") {
+            out.push_str(front)?;
+            if ends_with_dollar(front.as_bytes()) {
+                out.push_str("{")?;
+                rest = behind;
+            } else {
+                match cut_expression(alloc, behind)? {
+                    Some((source, next)) => {
+                        let value = self.valued(alloc, source)?;
+                        out.push_str(value.as_str())?;
+                        rest = next;
+                    }
+                    None => return Err(here(alloc, Fault::Syntax)),
+                }
+            }
+        }
+        out.push_str(rest)?;
+        Ok(out)
+    }
+
+    /// The same, paid for by its bytes.
+    pub(crate) fn written(&mut self, alloc: Global, text: &str) -> Result<String, RenderFault>
+        ensures answers { Answers string_bytes (Written text.now (scopes_of self.old.context) self.old.cost.spent) result self.new.cost.spent }
+        ensures scopes { Kept result (scopes_of self.old.context) (scopes_of self.new.context) }
+    {
+        let out = self.interpolate(alloc, text)?;
+        self.charge((out.len() as u64).saturating_add(1))?;
+        Ok(out)
+    }
+
+    /// A text of the template.
+    pub(crate) fn text(&mut self, alloc: Global, text: &str) -> Result<Option<Doc>, RenderFault>
+        ensures answers { Answers found_in (TextRenders text.now (scopes_of self.old.context) self.old.cost.spent) result self.new.cost.spent }
+        ensures scopes { Kept result (scopes_of self.old.context) (scopes_of self.new.context) }
+    {
+        let out = self.written(alloc, text)?;
+        Ok(Some(Doc::Text(Text::from_string(out))))
+    }
+}
