@@ -102,3 +102,10 @@ pairs_of ps = map (λ p. (document p.0, document p.1)) ps
 -- strings as lists of bytes
 abbrev pub strings_in : List (String Global) → List (List ℕ)
 strings_in ss = map (λ s. string_bytes s) ss
+
+-- the value with some cost, or the fault, or too much work
+abbrev pub IsAnswer : (Outcome Document → Type 0) → Result Doc RenderFault → Type 0
+IsAnswer Is (Ok d) = (spent : ℕ) × Is (given (document d) spent)
+IsAnswer Is (Err (a_fault f)) = Is (faulted f.rule f.path)
+IsAnswer Is (Err TooMuchWork) = Is too_much
+IsAnswer Is (Err NoMemory) = Unit {0}

@@ -1,6 +1,4 @@
 //! Why a template has no value.
-ghost use Rattle.std.specs.Prelude.{◌≡◌};
-
 use farm_text::Text;
 use jsone_values::faults::Fault;
 use std::alloc::AllocError;
@@ -22,6 +20,9 @@ pub enum RenderFault {
 }
 
 impl From<AllocError> for RenderFault {
+    ghost use Rattle.std.specs.Prelude.{◌≡◌};
+    ghost use Rattle.jsone_render.specs.declared.faults.RenderFault.{RenderFault};
+
     ghost from_gives = { λ _ fault. fault ≡ RenderFault.NoMemory };
 
     fn from(_: AllocError) -> RenderFault {

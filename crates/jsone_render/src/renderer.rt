@@ -23,6 +23,7 @@ use std::collections::BTreeMap;
 const LIMIT: u64 = 1_000_000;
 
 /// The maps that bind names, and what was paid.
+#[derive(Drop)]
 pub(crate) struct Renderer<'a> {
     pub context: Context<'a>,
     pub cost: Cost,

@@ -3,7 +3,7 @@ use Rattle.std.specs.Char.{encode_utf8}
 use Rattle.std.proofs.lemmas.Grind.{common_steps}
 use Rattle.farm_text.specs.Reading.{escaped}
 use Rattle.farm_text.proofs.PointerLemmas.{escaped-char}
-use Rattle.farm_text.proofs.pointer.push_char.Goals as goal
+use Rattle.jsone_render.proofs.paths.push_char.Goals as goal
 
 pub returns-in_default : goal.returns-in_default
 returns-in_default c =
