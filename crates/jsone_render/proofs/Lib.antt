@@ -1,2 +1,5 @@
 pub mod KeyLemmas
 pub mod OutcomeLemmas
+pub mod PayLemmas
+pub mod BinderLemmas
+pub mod FormLemmas

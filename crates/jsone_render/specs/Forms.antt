@@ -1,5 +1,5 @@
 -- Which operator a map of a template has, and which keys go with it (JSON-e, "Operators"): this is judged before anything in the map is rendered.
-use Rattle.std.specs.Prelude.{◌≡◌, ℕ, Bool, true, false, not, ◌&&◌, codes, is_some, if◌then◌else◌, List, [], ◌∷◌, map, Option, Some, None, Result, Ok, Err, ◌⊎◌}
+use Rattle.std.specs.Prelude.{◌≡◌, ℕ, Bool, true, false, not, ◌&&◌, ◌||◌, codes, is_some, if◌then◌else◌, List, [], ◌∷◌, map, Option, Some, None, Result, Ok, Err, ◌⊎◌}
 use Rattle.std.specs.List.{filter, list_any}
 use Rattle.std.specs.Map.{lookup}
 use Rattle.std.specs.Str.{bytes_eq}
@@ -70,7 +70,7 @@ has_words _ ms = true
 
 -- the keys that are neither the operator nor its words
 abbrev pub others_of : Operator → List (List ℕ) → List (List ℕ)
-others_of operator keys = filter (λ k. not (is_operator_key k) && not (list_any (bytes_eq k) (words_of operator))) keys
+others_of operator keys = filter (λ k. not (is_operator_key k || list_any (bytes_eq k) (words_of operator))) keys
 
 -- which of them a key has to bind names for
 abbrev pub stands_alone : Operator → Bool

@@ -1,5 +1,5 @@
 //! Keys that bind names: `each(v)`, `each(v,i)` and `by(v)`.
-ghost use Rattle.std.specs.Prelude.{◌≡◌, ◌≢◌, ◌++◌, ◌∷◌, [], ℕ, List, true, MatchOption};
+ghost use Rattle.std.specs.Prelude.{◌≡◌, ◌≢◌, ◌++◌, ◌∷◌, [], ℕ, List, true, ◌&&◌, MatchOption};
 ghost use Rattle.std.specs.List.{list_all};
 ghost use Rattle.jsone_render.specs.Answers.{names_in};
 ghost use Rattle.jsone_render.specs.Names.{is_name, between_commas, are_distinct, IsBinder};
@@ -20,7 +20,13 @@ fn in_brackets<'a>(key: &'a str, word: &str) -> Option<&'a str>
         ((inside : List ℕ) → key.now ≢ word.now ++ 40 ∷ (inside ++ 41 ∷ []))
         (λ inside. key.now ≡ word.now ++ 40 ∷ (inside.now ++ 41 ∷ [])) }
 {
-    key.strip_prefix(word)?.strip_prefix('(')?.strip_suffix(')')
+    match key.strip_prefix(word) {
+        None => None,
+        Some(behind) => match behind.strip_prefix('(') {
+            None => None,
+            Some(within) => within.strip_suffix(')'),
+        },
+    }
 }
 
 /// What stands between the first two commas.
@@ -60,16 +66,23 @@ fn are_distinct(names: Names) -> bool
     }
 }
 
+fn can_bind(names: Names) -> bool
+    ensures { result ≡ (list_all is_name (names_in names.entry) && are_distinct (names_in names.entry)) }
+{
+    are_names(names) && are_distinct(names)
+}
+
 /// The names that the key binds, if it is the word with names in brackets.
 pub(crate) fn names_of<'a>(key: &'a str, word: &str) -> Option<Names<'a>>
     ensures { MatchOption result
         ((names : List (List ℕ)) → ¬ IsBinder word.now key.now names)
         (λ names. IsBinder word.now key.now (names_in names)) }
 {
-    let names = cut(in_brackets(key, word)?);
-    if are_names(names) && are_distinct(names) {
-        Some(names)
-    } else {
-        None
+    match in_brackets(key, word) {
+        None => None,
+        Some(inside) => {
+            let names = cut(inside);
+            if can_bind(names) { Some(names) } else { None }
+        }
     }
 }

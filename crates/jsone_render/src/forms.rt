@@ -1,5 +1,5 @@
 //! What a map of a template is: whether it has an operator, and which keys go with it.
-ghost use Rattle.std.specs.Prelude.{◌≡◌, ℕ, List, MatchOption, codes};
+ghost use Rattle.std.specs.Prelude.{◌≡◌, [], ◌∷◌, ℕ, List, MatchOption};
 ghost use Rattle.farm_text.specs.Document.{members_of};
 ghost use Rattle.farm_text.specs.Doc.{entries_of};
 ghost use Rattle.jsone_render.specs.Answers.{names_in, form_in, AreOthers};
@@ -72,8 +72,43 @@ fn bound_names(operator: Operator, key: &str) -> Option<Names<'_>>
         (λ names. Binds operator key.now (names_in names)) }
 {
     match names_of(key, binding_word(operator)) {
-        Some(names) if takes_names(operator, names) => Some(names),
-        _ => None,
+        None => None,
+        Some(names) => {
+            if takes_names(operator, names) {
+                Some(names)
+            } else {
+                None
+            }
+        }
+    }
+}
+
+fn without_others(operator: Operator, members: &BTreeMap<String, Doc>) -> MapForm<'static>
+    ensures { ByOthers [] operator (members_of (entries_of members.now.entries)) (form_in result) }
+{
+    if stands_alone(operator) && has_words(operator, members) {
+        MapForm::Alone(operator)
+    } else {
+        MapForm::Faulty(Fault::BadOperator)
+    }
+}
+
+fn with_other<'a>(
+    operator: Operator,
+    members: &BTreeMap<String, Doc>,
+    key: &'a str,
+) -> MapForm<'a>
+    ensures { ByOthers (key.now ∷ []) operator (members_of (entries_of members.now.entries)) (form_in result) }
+{
+    match bound_names(operator, key) {
+        None => MapForm::Faulty(Fault::BadOperator),
+        Some(names) => {
+            if has_words(operator, members) {
+                MapForm::Binding(operator, key, names)
+            } else {
+                MapForm::Faulty(Fault::BadOperator)
+            }
+        }
     }
 }
 
@@ -86,17 +121,8 @@ fn with_others<'a>(
         → ByOthers ks operator (members_of (entries_of members.now.entries)) (form_in result) }
 {
     match others {
-        Others::None => {
-            if stands_alone(operator) && has_words(operator, members) {
-                MapForm::Alone(operator)
-            } else {
-                MapForm::Faulty(Fault::BadOperator)
-            }
-        }
-        Others::One(key) => match bound_names(operator, key) {
-            Some(names) if has_words(operator, members) => MapForm::Binding(operator, key, names),
-            _ => MapForm::Faulty(Fault::BadOperator),
-        },
+        Others::None => without_others(operator, members),
+        Others::One(key) => with_other(operator, members, key),
         Others::More => MapForm::Faulty(Fault::BadOperator),
     }
 }

@@ -1,6 +1,6 @@
 //! Which operator a map of a template has, and which keys go with it.
 ghost use Rattle.std.specs.Prelude.{◌≡◌, ◌∷◌, [], ◌++◌, List, ℕ};
-ghost use Rattle.std.specs.List.{list_any};
+ghost use Rattle.std.specs.List.{list_any, filter};
 ghost use Rattle.std.specs.Str.{bytes_eq};
 ghost use Rattle.farm_text.specs.Document.{members_of};
 ghost use Rattle.farm_text.specs.Doc.{entries_of};
@@ -51,25 +51,6 @@ fn known(operator: Option<Operator>) -> Result<Option<Operator>, Fault>
     }
 }
 
-/// The operator of a map, if it has one. It may have no other, and it has to be known.
-pub(crate) fn operator_in(members: &BTreeMap<String, Doc>) -> Result<Option<Operator>, Fault>
-    ensures { result ≡ operator_in (keys_of (members_of (entries_of members.now.entries))) }
-{
-    let mut found: Option<&str> = None;
-    for (key, _) in members.iter() {
-        if is_operator_key(key.as_str().as_bytes()) {
-            if found.is_some() {
-                return Err(Fault::BadOperator);
-            }
-            found = Some(key.as_str());
-        }
-    }
-    match found {
-        Some(key) => known(Operator::from_key(key.as_bytes())),
-        None => Ok(None),
-    }
-}
-
 /// Whether the word may stand beside the operator.
 fn is_word_of(operator: Operator, key: &str) -> bool
     ensures { result ≡ list_any (bytes_eq key.now) (words_of operator) }
@@ -83,7 +64,7 @@ fn is_word_of(operator: Operator, key: &str) -> bool
     }
 }
 
-/// The keys of a map that are neither its operator nor a word that stands beside it.
+/// The keys of a map that pass a test: none, one or more.
 pub(crate) enum Others<'a> {
     None,
     One(&'a str),
@@ -101,15 +82,57 @@ fn with_other<'a>(others: Others<'a>, key: &'a str) -> Others<'a>
     }
 }
 
+fn with_operator<'a>(others: Others<'a>, key: &'a str) -> Others<'a>
+    ensures { (ks : List (List ℕ)) → AreOthers others.entry ks
+        → AreOthers result (ks ++ filter is_operator_key (key.now ∷ [])) }
+{
+    if is_operator_key(key.as_bytes()) {
+        with_other(others, key)
+    } else {
+        others
+    }
+}
+
+/// The keys of a map that are operators.
+fn operators(members: &BTreeMap<String, Doc>) -> Others<'_>
+    ensures { AreOthers result (filter is_operator_key (keys_of (members_of (entries_of members.now.entries)))) }
+{
+    let mut found = Others::None;
+    for (key, _) in members.iter() {
+        found = with_operator(found, key.as_str());
+    }
+    found
+}
+
+/// The operator of a map, if it has one. It may have no other, and it has to be known.
+pub(crate) fn operator_in(members: &BTreeMap<String, Doc>) -> Result<Option<Operator>, Fault>
+    ensures { result ≡ operator_in (keys_of (members_of (entries_of members.now.entries))) }
+{
+    match operators(members) {
+        Others::None => Ok(None),
+        Others::One(key) => known(Operator::from_key(key.as_bytes())),
+        Others::More => Err(Fault::BadOperator),
+    }
+}
+
+fn with_key<'a>(others: Others<'a>, operator: Operator, key: &'a str) -> Others<'a>
+    ensures { (ks : List (List ℕ)) → AreOthers others.entry ks
+        → AreOthers result (ks ++ others_of operator (key.now ∷ [])) }
+{
+    if is_operator_key(key.as_bytes()) || is_word_of(operator, key) {
+        others
+    } else {
+        with_other(others, key)
+    }
+}
+
+/// The keys of a map that are neither its operator nor a word that stands beside it.
 pub(crate) fn others_of(members: &BTreeMap<String, Doc>, operator: Operator) -> Others<'_>
     ensures { AreOthers result (others_of operator (keys_of (members_of (entries_of members.now.entries)))) }
 {
     let mut others = Others::None;
     for (key, _) in members.iter() {
-        let name = key.as_str();
-        if !is_operator_key(name.as_bytes()) && !is_word_of(operator, name) {
-            others = with_other(others, name);
-        }
+        others = with_key(others, operator, key.as_str());
     }
     others
 }

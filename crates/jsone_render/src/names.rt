@@ -24,15 +24,24 @@ fn is_reserved(text: &[u8]) -> bool
     matches!(text, b"in" | b"true" | b"false" | b"null")
 }
 
+fn are_word_bytes(bytes: &[u8]) -> bool
+    ensures { result ≡ list_all is_word_byte bytes.now }
+{
+    for byte in bytes {
+        if !is_word_byte(*byte) {
+            return false;
+        }
+    }
+    true
+}
+
 /// A letter or `_`, and then letters, digits and `_`.
 pub(crate) fn is_name(text: &[u8]) -> bool
     ensures { result ≡ is_name text.now }
 {
     match text {
         [] => false,
-        [first, rest @ ..] => {
-            is_letter(*first) && rest.iter().all(|byte| is_word_byte(*byte)) && !is_reserved(text)
-        }
+        [first, rest @ ..] => is_letter(*first) && are_word_bytes(rest) && !is_reserved(text),
     }
 }
 

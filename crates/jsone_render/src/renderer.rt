@@ -1,5 +1,5 @@
 //! What goes on from node to node: the maps that bind names, and what was paid.
-ghost use Rattle.std.specs.Prelude.{◌≡◌, ◌+◌, ◌++◌, ◌∷◌, [], ℕ, List, length, min, nat_le, Bool, true, false, ◌<◌, OnOk, IfOk, MatchResult, Some};
+ghost use Rattle.std.specs.Prelude.{◌≡◌, ◌+◌, ◌++◌, ◌∷◌, [], ℕ, List, length, min, ◌≤◌, ◌<◌, OnOk, IfOk, MatchResult, Some};
 ghost use Rattle.farm_text.specs.Document.{Document};
 ghost use Rattle.farm_text.specs.Doc.{document, documents};
 ghost use Rattle.jsone_eval.specs.Scopes.{scopes_of};
@@ -50,8 +50,8 @@ impl<'a> Renderer<'a> {
     /// Pays; 2^64 - 1 stands for all that is more.
     pub(crate) fn charge(&mut self, price: u64) -> Result<(), RenderFault>
         ensures paid { (n : ℕ) → price ≡ min n 18446744073709551615 → MatchResult result
-            (λ _. (nat_le (self.old.cost.spent + n) 1000000 ≡ true) × (self.new.cost.spent ≡ self.old.cost.spent + n))
-            (λ fault. (nat_le (self.old.cost.spent + n) 1000000 ≡ false) × (fault ≡ RenderFault.TooMuchWork)) }
+            (λ _. (self.old.cost.spent + n ≤ 1000000) × (self.new.cost.spent ≡ self.old.cost.spent + n))
+            (λ fault. (1000000 < self.old.cost.spent + n) × (fault ≡ RenderFault.TooMuchWork)) }
         ensures scopes { scopes_of self.new.context ≡ scopes_of self.old.context }
     {
         let spent = self.cost.spent.saturating_add(price);

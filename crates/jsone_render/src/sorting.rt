@@ -48,11 +48,33 @@ fn is_text(key: &Doc) -> bool
     matches!(key, Doc::Text(_))
 }
 
+fn are_wholes(pairs: &[(Doc, Doc)]) -> bool
+    ensures { result ≡ list_all (λ p. is_whole p.0) (pairs_of pairs.now) }
+{
+    for pair in pairs {
+        if !is_whole(&pair.0) {
+            return false;
+        }
+    }
+    true
+}
+
+fn are_texts(pairs: &[(Doc, Doc)]) -> bool
+    ensures { result ≡ list_all (λ p. is_text p.0) (pairs_of pairs.now) }
+{
+    for pair in pairs {
+        if !is_text(&pair.0) {
+            return false;
+        }
+    }
+    true
+}
+
 /// Whether all keys are numbers, or all are texts.
 fn are_of_one_kind(pairs: &[(Doc, Doc)]) -> bool
     ensures { result ≡ are_of_one_kind (pairs_of pairs.now) }
 {
-    pairs.iter().all(|pair| is_whole(&pair.0)) || pairs.iter().all(|pair| is_text(&pair.0))
+    are_wholes(pairs) || are_texts(pairs)
 }
 
 fn values_of(alloc: Global, pairs: Vec<(Doc, Doc)>) -> Result<Vec<Doc>, AllocError>

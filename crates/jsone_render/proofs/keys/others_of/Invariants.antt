@@ -1,4 +1,4 @@
-use Rattle.std.proofs.Common.{◌≡◌, ◌++◌, ℕ, List, not, ◌&&◌}
+use Rattle.std.proofs.Common.{◌≡◌, ◌++◌, ℕ, List, not, ◌||◌}
 use Rattle.std.specs.List.{filter, list_any}
 use Rattle.std.specs.Str.{bytes_eq}
 use Rattle.jsone_render.specs.Answers.{AreOthers}
@@ -7,8 +7,6 @@ use Rattle.jsone_render.specs.Maps.{is_operator_key}
 use Rattle.jsone_render.proofs.KeyLemmas.{keys_in}
 use Rattle.jsone_render.proofs.keys.others_of.Given as goal
 
--- the others that were found, and those that are left, are those of all keys
+-- the keys that passed, and those that are left, are those of all
 abbrev pub invariant-loop-key : goal.invariant-loop-key
-invariant-loop-key l =
-    (ks : List (List ℕ)) × AreOthers l.others ks
-    × (ks ++ filter (λ k. not (is_operator_key k) && not (list_any (bytes_eq k) (words_of l.operator))) (keys_in l.key-iterator) ≡ others_of l.operator (keys_in l.members.entries))
+invariant-loop-key l = (ks : List (List ℕ)) × AreOthers l.others ks × (ks ++ filter (λ k. not (is_operator_key k || list_any (bytes_eq k) (words_of l.operator))) (keys_in l.key-iterator) ≡ others_of l.operator (keys_in l.members.entries))
