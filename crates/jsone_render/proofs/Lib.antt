@@ -3,3 +3,6 @@ pub mod OutcomeLemmas
 pub mod PayLemmas
 pub mod BinderLemmas
 pub mod FormLemmas
+pub mod EvaluationLemmas
+pub mod PathLemmas
+pub mod ScopeLemmas

@@ -1,4 +1,5 @@
 //! Expressions that an operator has beside what it renders.
+#![tactic(none)]
 ghost use Rattle.std.specs.Prelude.{◌≡◌, [], ◌∷◌, ◌++◌, IfOk, OnOk};
 ghost use Rattle.farm_text.specs.Document.{members_of};
 ghost use Rattle.farm_text.specs.Doc.{document, entries_of};

@@ -6,6 +6,7 @@ ghost use Rattle.jsone_render.specs.Answers.{names_in, form_in, AreOthers};
 ghost use Rattle.jsone_render.specs.Forms.{stands_alone, has_words, binding_word, takes_names, Binds, IsForm, ByOthers};
 
 use crate::binders::{Names, names_of};
+use crate::maps::has_key;
 use crate::keys::{Others, operator_in, others_of};
 use crate::operators::Operator;
 use farm_text::Doc;
@@ -35,8 +36,8 @@ fn has_words(operator: Operator, members: &BTreeMap<String, Doc>) -> bool
     ensures { result ≡ has_words operator (members_of (entries_of members.now.entries)) }
 {
     match operator {
-        Operator::Let => members.contains_key("in"),
-        Operator::Reduce => members.contains_key("initial"),
+        Operator::Let => has_key(members, "in"),
+        Operator::Reduce => has_key(members, "initial"),
         _ => true,
     }
 }

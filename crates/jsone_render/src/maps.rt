@@ -1,4 +1,5 @@
 //! Maps of a template without an operator.
+#![tactic(none)]
 ghost use Rattle.std.specs.Prelude.{◌≡◌, OnOk, is_some, string_bytes};
 ghost use Rattle.farm_text.specs.Document.{member_at, members_of, no_members, put};
 ghost use Rattle.farm_text.specs.Doc.{document, entries_of};
@@ -16,7 +17,7 @@ use jsone_values::faults::Fault;
 use std::alloc::{AllocError, Global};
 use std::collections::BTreeMap;
 
-fn has_key(map: &BTreeMap<String, Doc>, key: &str) -> bool
+pub(crate) fn has_key(map: &BTreeMap<String, Doc>, key: &str) -> bool
     ensures { result ≡ is_some (member_at key.now (members_of (entries_of map.now.entries))) }
 {
     map.contains_key(key)

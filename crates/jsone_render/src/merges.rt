@@ -1,4 +1,5 @@
 //! What operators give for the value of their operand.
+#![tactic(none)]
 ghost use Rattle.std.specs.Prelude.{◌≡◌, ◌++◌, IfOk, OnOk, MatchResult, Ok, Err};
 ghost use Rattle.farm_text.specs.Document.{members_of, items_of, member_at, put};
 ghost use Rattle.farm_text.specs.Doc.{document, documents, entries_of};
@@ -127,6 +128,15 @@ pub(crate) fn deep_merge_of(alloc: Global, value: &Doc) -> Result<Doc, Stop>
     Ok(Doc::Map(map))
 }
 
+fn push_all(flat: &mut Vec<Doc>, inner: Vec<Doc>) -> Result<(), AllocError>
+    ensures { OnOk result (documents flat.new.items ≡ documents flat.old.items ++ documents inner.items) }
+{
+    for value in inner {
+        flat.push(value)?;
+    }
+    Ok(())
+}
+
 /// The members of the members that are lists, and the other members.
 fn flattened(alloc: Global, items: Vec<Doc>) -> Result<Vec<Doc>, AllocError>
     ensures { IfOk result (λ v. documents v.items ≡ flattened (documents items.items)) }
@@ -134,11 +144,7 @@ fn flattened(alloc: Global, items: Vec<Doc>) -> Result<Vec<Doc>, AllocError>
     let mut flat = Vec::new(alloc);
     for item in items {
         match item {
-            Doc::List(inner) => {
-                for value in inner {
-                    flat.push(value)?;
-                }
-            }
+            Doc::List(inner) => push_all(&mut flat, inner)?,
             value => flat.push(value)?,
         }
     }

@@ -1,4 +1,5 @@
 //! Sorting: members in rising order of their keys.
+#![tactic(none)]
 ghost use Rattle.std.specs.Prelude.{◌≡◌, map, ◌++◌, ◌∷◌, [], IfOk, OnOk};
 ghost use Rattle.std.specs.List.{list_all};
 ghost use Rattle.farm_text.specs.Doc.{document, documents};

@@ -1,4 +1,5 @@
 //! Rendering: what each node of a template comes to.
+#![tactic(none)]
 ghost use Rattle.std.specs.Prelude.{◌≡◌, [], codes, Some};
 ghost use Rattle.farm_text.specs.Document.{items_of, members_of, member_at, object};
 ghost use Rattle.farm_text.specs.Doc.{document, documents, entries_of};
@@ -14,6 +15,7 @@ use crate::conditions::{branch_of, conditions_of, keys_of};
 use crate::faults::RenderFault;
 use crate::forms::{MapForm, form_of};
 use crate::lists::{keep, keep_at, or_null};
+use crate::maps::has_key;
 use crate::names::are_names;
 use crate::operators::Operator;
 use crate::paths::{here, under_index, under_key};
@@ -269,7 +271,7 @@ impl<'a> Renderer<'a> {
         ensures scopes { Kept result (scopes_of self.old.context) (scopes_of self.new.context) }
     {
         let span = self.operand(alloc, members, "$fromNow")?;
-        if members.contains_key("from") {
+        if has_key(members, "from") {
             let from = self.operand(alloc, members, "from")?;
             return self.finish_made(alloc, span_of(alloc, &or_null(span), Some(&or_null(from))));
         }

@@ -1,31 +1,39 @@
 //! Texts of a template, in which `${e}` is the value of an expression.
+#![tactic(none)]
 ghost use Rattle.std.specs.Prelude.{◌≡◌, ◌+◌, ◌++◌, ◌∷◌, [], ℕ, List, length, IfOk, MatchResult, MatchBool, string_bytes, Ok};
 ghost use Rattle.farm_text.specs.Document.{Document};
 ghost use Rattle.farm_text.specs.Doc.{document};
 ghost use Rattle.jsone_eval.specs.Scopes.{scopes_of};
-ghost use Rattle.jsone_render.specs.Answers.{Answers, Kept, found_in, EndsAt, IsStop};
+ghost use Rattle.jsone_render.specs.Answers.{Answers, Kept, found_in, EndsAt, IsParse, IsStop};
 ghost use Rattle.jsone_render.specs.Expressions.{HasTree};
 ghost use Rattle.jsone_render.specs.Texts.{ends_with_dollar, shown, Valued, Interpolated, Written, TextRenders};
 
 use crate::faults::RenderFault;
 use crate::paths::here;
-use crate::renderer::Renderer;
+use crate::renderer::{Renderer, parsed};
 use farm_text::{Doc, Text};
-use jsone_expr::{ParseFault, parse};
+use jsone_expr::{ParseFault, Tree};
 use jsone_values::builtins::text_of;
 use jsone_values::faults::{Fault, Stop};
 use std::alloc::{AllocError, Global};
 
-/// Whether the text is an expression, however deep.
-fn has_tree(alloc: Global, source: &[u8]) -> Result<bool, AllocError>
-    ensures { IfOk result (λ is. MatchBool is (HasTree source.now) (¬ HasTree source.now)) }
+fn is_tree(tree: &Result<Tree, ParseFault>) -> Result<bool, AllocError>
+    ensures { (source : List ℕ) → IsParse source tree.now
+        → IfOk result (λ is. MatchBool is (HasTree source) (¬ HasTree source)) }
 {
-    match parse(alloc, source) {
+    match tree {
         Ok(_) => Ok(true),
         Err(ParseFault::TooDeep) => Ok(true),
         Err(ParseFault::Syntax(_)) => Ok(false),
         Err(ParseFault::NoMemory) => Err(AllocError),
     }
+}
+
+/// Whether the text is an expression, however deep.
+fn has_tree(alloc: Global, source: &[u8]) -> Result<bool, AllocError>
+    ensures { IfOk result (λ is. MatchBool is (HasTree source.now) (¬ HasTree source.now)) }
+{
+    is_tree(&parsed(alloc, source))
 }
 
 /// The expression that ends before the first `}` before which one can end, and what stands behind that.

@@ -1,4 +1,5 @@
 //! The turns of `$map`, `$reduce` and `$find`, and what `$find` and `$sort` come to.
+#![tactic(none)]
 ghost use Rattle.std.specs.Prelude.{◌≡◌, IfOk};
 ghost use Rattle.farm_text.specs.Document.{member_at, members_of};
 ghost use Rattle.farm_text.specs.Doc.{document, documents, entries_of};

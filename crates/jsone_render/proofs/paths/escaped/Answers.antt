@@ -3,7 +3,7 @@ use Rattle.std.specs.Char.{encode_utf8}
 use Rattle.std.specs.Str.Iter.{chars_rest}
 use Rattle.std.proofs.lemmas.Grind.{common_steps}
 use Rattle.farm_text.specs.Reading.{escaped}
-use Rattle.farm_text.proofs.PointerLemmas.{escaped-append}
+use Rattle.jsone_render.proofs.PathLemmas.{escaped-append}
 use Rattle.jsone_render.proofs.paths.escaped.Goals as goal
 
 pub chars-preserved : goal.chars-preserved

@@ -2,7 +2,7 @@ use Rattle.std.proofs.Common.{◌≡◌, arith}
 use Rattle.std.specs.Char.{encode_utf8}
 use Rattle.std.proofs.lemmas.Grind.{common_steps}
 use Rattle.farm_text.specs.Reading.{escaped}
-use Rattle.farm_text.proofs.PointerLemmas.{escaped-char}
+use Rattle.jsone_render.proofs.PathLemmas.{escaped-char}
 use Rattle.jsone_render.proofs.paths.push_char.Goals as goal
 
 pub returns-in_default : goal.returns-in_default
