@@ -6,3 +6,5 @@ pub mod FormLemmas
 pub mod EvaluationLemmas
 pub mod PathLemmas
 pub mod ScopeLemmas
+pub mod CutLemmas
+pub mod TextLemmas

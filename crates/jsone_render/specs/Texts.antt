@@ -35,8 +35,9 @@ pub record IsShortest (behind source : List ℕ) : Type 0 where
 abbrev pub NoneEnds : List ℕ → Type 0
 NoneEnds behind = (i : ℕ) → i < length behind → slice_index behind i ≡ 125 → ¬ HasTree (take i behind)
 
+-- the parts of a text in turn; they need not go past one that is a fault
 abbrev pub AreParts : List ℕ → List Part → Type 0
-AreParts bs [] = ⊥
+AreParts bs [] = Unit {0}
 AreParts bs (last front ∷ parts) = (front ≡ bs) × ((i : ℕ) → i ≤ length bs → LacksTextAt opening bs i) × (parts ≡ [])
 AreParts bs (escaped front ∷ parts) = (rest : List ℕ) × IsFirstCut opening bs front rest × (ends_with_dollar front ≡ true) × AreParts rest parts
 AreParts bs (valued front source ∷ parts) = (rest : List ℕ) × IsFirstCut opening bs front (source ++ 125 ∷ rest) × (ends_with_dollar front ≡ false) × IsShortest (source ++ 125 ∷ rest) source × AreParts rest parts
@@ -56,7 +57,7 @@ as_outcome spent (Err f) = faulted f []
 abbrev pub Valued : List ℕ → List Document → ℕ → Outcome (List ℕ) → Type 0
 Valued source scopes n o = After (Evaluated source scopes n) (λ d m p. p ≡ as_outcome m (shown d)) o
 
--- the parts in turn, behind what they gave so far
+-- the parts in turn, behind what they gave so far, up to the last one or a fault
 abbrev pub PartsRender : List ℕ → List Part → List Document → ℕ → Outcome (List ℕ) → Type 0
 PartsRender done [] scopes n o = ⊥
 PartsRender done (last front ∷ parts) scopes n o = o ≡ given (done ++ front) n

@@ -1,11 +1,12 @@
 //! Expressions that an operator has beside what it renders.
-#![tactic(none)]
-ghost use Rattle.std.specs.Prelude.{◌≡◌, [], ◌∷◌, ◌++◌, IfOk, OnOk};
+ghost use Rattle.std.specs.Prelude.{◌≡◌, [], ◌∷◌, ◌++◌, not, IfOk, OnOk, string_bytes};
+ghost use Rattle.std.specs.List.{filter};
+ghost use Rattle.std.specs.Str.{bytes_eq};
 ghost use Rattle.farm_text.specs.Document.{members_of};
 ghost use Rattle.farm_text.specs.Doc.{document, entries_of};
 ghost use Rattle.jsone_eval.specs.Scopes.{scopes_of};
 ghost use Rattle.jsone_render.specs.Answers.{Answers, Kept, strings_in};
-ghost use Rattle.jsone_render.specs.Conditions.{branch_of, AreTrue, conditions_of};
+ghost use Rattle.jsone_render.specs.Conditions.{branch_of, AreTrue, default_key, conditions_of};
 ghost use Rattle.jsone_render.specs.Expressions.{ValueAt};
 ghost use Rattle.jsone_render.specs.Maps.{keys_of};
 
@@ -25,6 +26,24 @@ pub(crate) fn branch_of(value: &Doc) -> &'static str
     if is_true(value) { "then" } else { "else" }
 }
 
+fn push_key(keys: &mut Vec<String>, key: &String) -> Result<(), AllocError>
+    ensures { OnOk result (strings_in keys.new.items ≡ strings_in keys.old.items ++ string_bytes key.now ∷ []) }
+{
+    keys.push(key.clone()?)?;
+    Ok(())
+}
+
+fn push_condition(keys: &mut Vec<String>, key: &String) -> Result<(), AllocError>
+    ensures { OnOk result (strings_in keys.new.items
+        ≡ strings_in keys.old.items ++ filter (λ k. not (bytes_eq k default_key)) (string_bytes key.now ∷ [])) }
+{
+    if key.as_str() == "$default" {
+        Ok(())
+    } else {
+        push_key(keys, key)
+    }
+}
+
 /// The keys of a map, in rising order.
 pub(crate) fn keys_of(
     alloc: Global,
@@ -34,7 +53,7 @@ pub(crate) fn keys_of(
 {
     let mut keys = Vec::with_capacity(alloc, members.len())?;
     for (key, _) in members.iter() {
-        keys.push(key.clone()?)?;
+        push_key(&mut keys, key)?;
     }
     Ok(keys)
 }
@@ -48,9 +67,7 @@ pub(crate) fn conditions_of(
 {
     let mut keys = Vec::with_capacity(alloc, members.len())?;
     for (key, _) in members.iter() {
-        if key.as_str() != "$default" {
-            keys.push(key.clone()?)?;
-        }
+        push_condition(&mut keys, key)?;
     }
     Ok(keys)
 }
@@ -90,7 +107,10 @@ impl<'a> Renderer<'a> {
     {
         let mut found = Vec::new(alloc);
         for condition in conditions {
-            let value = self.evaluate(alloc, condition.as_str().as_bytes())?;
+            let value = match self.evaluate(alloc, condition.as_str().as_bytes()) {
+                Ok(value) => value,
+                Err(fault) => return Err(fault),
+            };
             if is_true(&value) {
                 keep_key(&mut found, condition)?;
             }

@@ -1,5 +1,4 @@
 //! Maps of a template without an operator.
-#![tactic(none)]
 ghost use Rattle.std.specs.Prelude.{◌≡◌, OnOk, is_some, string_bytes};
 ghost use Rattle.farm_text.specs.Document.{member_at, members_of, no_members, put};
 ghost use Rattle.farm_text.specs.Doc.{document, entries_of};
@@ -59,7 +58,10 @@ impl<'a> Renderer<'a> {
     {
         let mut map = BTreeMap::new(alloc);
         for (key, value) in values {
-            let name = self.key(alloc, key.as_str())?;
+            let name = match self.key(alloc, key.as_str()) {
+                Ok(name) => name,
+                Err(fault) => return Err(fault),
+            };
             if has_key(&map, name.as_str()) {
                 return Err(here(alloc, Fault::KeyTwice));
             }

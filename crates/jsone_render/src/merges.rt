@@ -1,5 +1,4 @@
 //! What operators give for the value of their operand.
-#![tactic(none)]
 ghost use Rattle.std.specs.Prelude.{◌≡◌, ◌++◌, IfOk, OnOk, MatchResult, Ok, Err};
 ghost use Rattle.farm_text.specs.Document.{members_of, items_of, member_at, put};
 ghost use Rattle.farm_text.specs.Doc.{document, documents, entries_of};

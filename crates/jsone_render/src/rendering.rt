@@ -1,5 +1,4 @@
 //! The whole template.
-#![tactic(none)]
 ghost use Rattle.farm_text.specs.Doc.{document};
 ghost use Rattle.jsone_render.specs.Answers.{IsAnswer};
 ghost use Rattle.jsone_render.specs.Templates.{IsRendered};

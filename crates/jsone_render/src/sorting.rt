@@ -1,5 +1,4 @@
 //! Sorting: members in rising order of their keys.
-#![tactic(none)]
 ghost use Rattle.std.specs.Prelude.{◌≡◌, map, ◌++◌, ◌∷◌, [], IfOk, OnOk};
 ghost use Rattle.std.specs.List.{list_all};
 ghost use Rattle.farm_text.specs.Doc.{document, documents};
@@ -155,7 +154,10 @@ impl<'a> Renderer<'a> {
         let mut pairs = Vec::with_capacity(alloc, items.len())?;
         for item in items {
             self.bind_one(alloc, names, item.clone()?)?;
-            let key = self.evaluate_tree(alloc, &tree)?;
+            let key = match self.evaluate_tree(alloc, &tree) {
+                Ok(key) => key,
+                Err(fault) => return Err(fault),
+            };
             self.release(height);
             keep_pair(&mut pairs, key, item)?;
         }

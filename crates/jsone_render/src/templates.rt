@@ -1,5 +1,4 @@
 //! Rendering: what each node of a template comes to.
-#![tactic(none)]
 ghost use Rattle.std.specs.Prelude.{◌≡◌, [], codes, Some};
 ghost use Rattle.farm_text.specs.Document.{items_of, members_of, member_at, object};
 ghost use Rattle.farm_text.specs.Doc.{document, documents, entries_of};
@@ -43,7 +42,10 @@ impl<'a> Renderer<'a> {
             Doc::Int(number) => self.pay(1, Doc::Int(*number)),
             Doc::Text(text) => self.text(alloc, text.as_str()),
             Doc::List(items) => {
-                let done = self.items(alloc, items)?;
+                let done = match self.items(alloc, items) {
+                    Ok(done) => done,
+                    Err(fault) => return Err(fault),
+                };
                 self.pay((items.len() as u64).saturating_add(1), Doc::List(done))
             }
             Doc::Map(members) => self.map(alloc, members),
@@ -98,13 +100,19 @@ impl<'a> Renderer<'a> {
     {
         match form_of(members) {
             MapForm::Plain => {
-                let values = self.values(alloc, members)?;
+                let values = match self.values(alloc, members) {
+                    Ok(values) => values,
+                    Err(fault) => return Err(fault),
+                };
                 self.keyed(alloc, members.len(), values)
             }
             MapForm::Faulty(rule) => Err(here(alloc, rule)),
             MapForm::Alone(operator) => self.alone(alloc, members, operator),
             MapForm::Binding(operator, key, names) => {
-                let value = self.operand(alloc, members, operator.key())?;
+                let value = match self.operand(alloc, members, operator.key()) {
+                    Ok(value) => value,
+                    Err(fault) => return Err(fault),
+                };
                 self.over(alloc, members, operator, key, names, or_null(value))
             }
         }
@@ -165,12 +173,21 @@ impl<'a> Renderer<'a> {
     {
         match operator {
             Operator::Eval => {
-                let value = self.value_at(alloc, members, "$eval")?;
+                let value = match self.value_at(alloc, members, "$eval") {
+                    Ok(value) => value,
+                    Err(fault) => return Err(fault),
+                };
                 self.finish(Some(value))
             }
             Operator::If => {
-                let value = self.value_at(alloc, members, "$if")?;
-                let found = self.operand(alloc, members, branch_of(&value))?;
+                let value = match self.value_at(alloc, members, "$if") {
+                    Ok(value) => value,
+                    Err(fault) => return Err(fault),
+                };
+                let found = match self.operand(alloc, members, branch_of(&value)) {
+                    Ok(found) => found,
+                    Err(fault) => return Err(fault),
+                };
                 self.finish(found)
             }
             Operator::Switch => self.switch(alloc, members),
@@ -178,7 +195,10 @@ impl<'a> Renderer<'a> {
             Operator::Let => self.bind_in(alloc, members),
             Operator::FromNow => self.from_now(alloc, members),
             _ => {
-                let value = self.operand(alloc, members, operator.key())?;
+                let value = match self.operand(alloc, members, operator.key()) {
+                    Ok(value) => value,
+                    Err(fault) => return Err(fault),
+                };
                 self.finish_made(alloc, given_by(alloc, operator, or_null(value)))
             }
         }
@@ -199,7 +219,10 @@ impl<'a> Renderer<'a> {
             return Err(here(alloc, Fault::WrongKind));
         };
         let conditions = conditions_of(alloc, branches)?;
-        let found = self.true_of(alloc, conditions)?;
+        let found = match self.true_of(alloc, conditions) {
+            Ok(found) => found,
+            Err(fault) => return Err(fault),
+        };
         if found.len() > 1 {
             return Err(here(alloc, Fault::TwoBranches));
         }
@@ -207,7 +230,10 @@ impl<'a> Renderer<'a> {
             Some(key) => key.as_str(),
             None => "$default",
         };
-        let taken = self.branch(alloc, members, "$switch", key)?;
+        let taken = match self.branch(alloc, members, "$switch", key) {
+            Ok(taken) => taken,
+            Err(fault) => return Err(fault),
+        };
         self.finish(taken)
     }
 
@@ -226,10 +252,16 @@ impl<'a> Renderer<'a> {
             return Err(here(alloc, Fault::WrongKind));
         };
         let conditions = keys_of(alloc, branches)?;
-        let found = self.true_of(alloc, conditions)?;
+        let found = match self.true_of(alloc, conditions) {
+            Ok(found) => found,
+            Err(fault) => return Err(fault),
+        };
         let mut done = Vec::new(alloc);
         for key in &found {
-            let taken = self.branch(alloc, members, "$match", key.as_str())?;
+            let taken = match self.branch(alloc, members, "$match", key.as_str()) {
+                Ok(taken) => taken,
+                Err(fault) => return Err(fault),
+            };
             keep(&mut done, taken)?;
         }
         self.finish(Some(Doc::List(done)))
@@ -246,7 +278,11 @@ impl<'a> Renderer<'a> {
             Answers found_in (LetRenders (λ key. MemberRenders key ms) (scopes_of self.old.context) self.old.cost.spent) result self.new.cost.spent }
         ensures scopes { Kept result (scopes_of self.old.context) (scopes_of self.new.context) }
     {
-        let Some(Doc::Map(bound)) = self.operand(alloc, members, "$let")? else {
+        let value = match self.operand(alloc, members, "$let") {
+            Ok(value) => or_null(value),
+            Err(fault) => return Err(fault),
+        };
+        let Doc::Map(bound) = value else {
             return Err(here(alloc, Fault::WrongKind));
         };
         if !are_names(&bound) {
@@ -254,7 +290,10 @@ impl<'a> Renderer<'a> {
         }
         let height = self.height();
         self.bind_map(Doc::Map(bound))?;
-        let found = self.operand(alloc, members, "in")?;
+        let found = match self.operand(alloc, members, "in") {
+            Ok(found) => found,
+            Err(fault) => return Err(fault),
+        };
         self.release(height);
         self.finish(found)
     }
@@ -270,9 +309,15 @@ impl<'a> Renderer<'a> {
             Answers found_in (FromNowRenders ms (λ key. MemberRenders key ms) (scopes_of self.old.context) self.old.cost.spent) result self.new.cost.spent }
         ensures scopes { Kept result (scopes_of self.old.context) (scopes_of self.new.context) }
     {
-        let span = self.operand(alloc, members, "$fromNow")?;
+        let span = match self.operand(alloc, members, "$fromNow") {
+            Ok(span) => span,
+            Err(fault) => return Err(fault),
+        };
         if has_key(members, "from") {
-            let from = self.operand(alloc, members, "from")?;
+            let from = match self.operand(alloc, members, "from") {
+                Ok(from) => from,
+                Err(fault) => return Err(fault),
+            };
             return self.finish_made(alloc, span_of(alloc, &or_null(span), Some(&or_null(from))));
         }
         let made = span_of(alloc, &or_null(span), self.context.get("now"));
@@ -297,7 +342,10 @@ impl<'a> Renderer<'a> {
         match operator {
             Operator::Map => self.mapped(alloc, members, key, names, value),
             Operator::Reduce => {
-                let initial = self.operand(alloc, members, "initial")?;
+                let initial = match self.operand(alloc, members, "initial") {
+                    Ok(initial) => initial,
+                    Err(fault) => return Err(fault),
+                };
                 self.reduced(alloc, members, key, names, value, or_null(initial))
             }
             Operator::Find => self.found_in(alloc, members, key, names, value),
@@ -323,12 +371,18 @@ impl<'a> Renderer<'a> {
         match value {
             Doc::List(items) => {
                 let turns = numbered(alloc, items)?;
-                let done = self.each(alloc, members, key, names, turns)?;
+                let done = match self.each(alloc, members, key, names, turns) {
+                    Ok(done) => done,
+                    Err(fault) => return Err(fault),
+                };
                 self.finish(Some(Doc::List(done)))
             }
             Doc::Map(pairs) => {
                 let turns = turns_of(alloc, names, pairs)?;
-                let done = self.each(alloc, members, key, names, turns)?;
+                let done = match self.each(alloc, members, key, names, turns) {
+                    Ok(done) => done,
+                    Err(fault) => return Err(fault),
+                };
                 self.finish_made(alloc, merged(alloc, done))
             }
             _ => Err(here(alloc, Fault::WrongKind)),
@@ -353,7 +407,10 @@ impl<'a> Renderer<'a> {
         let mut done = Vec::new(alloc);
         for (item, index) in turns {
             self.bind_two(alloc, names, item, index)?;
-            let found = self.operand(alloc, members, key)?;
+            let found = match self.operand(alloc, members, key) {
+                Ok(found) => found,
+                Err(fault) => return Err(fault),
+            };
             self.release(height);
             keep(&mut done, found)?;
         }
@@ -383,7 +440,10 @@ impl<'a> Renderer<'a> {
         for (item, index) in turns {
             let height = self.height();
             self.bind_three(alloc, names, before, item, index)?;
-            let found = self.operand(alloc, members, key)?;
+            let found = match self.operand(alloc, members, key) {
+                Ok(found) => found,
+                Err(fault) => return Err(fault),
+            };
             self.release(height + 1);
             let kept = self.take_back();
             before = or_before(kept, found);

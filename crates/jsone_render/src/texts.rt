@@ -1,6 +1,5 @@
 //! Texts of a template, in which `${e}` is the value of an expression.
-#![tactic(none)]
-ghost use Rattle.std.specs.Prelude.{◌≡◌, ◌+◌, ◌++◌, ◌∷◌, [], ℕ, List, length, IfOk, MatchResult, MatchBool, string_bytes, Ok};
+ghost use Rattle.std.specs.Prelude.{◌≡◌, ◌+◌, ◌++◌, ◌∷◌, [], ℕ, List, length, IfOk, MatchResult, MatchBool, string_bytes, Ok, Err};
 ghost use Rattle.farm_text.specs.Document.{Document};
 ghost use Rattle.farm_text.specs.Doc.{document};
 ghost use Rattle.jsone_eval.specs.Scopes.{scopes_of};
@@ -17,15 +16,24 @@ use jsone_values::builtins::text_of;
 use jsone_values::faults::{Fault, Stop};
 use std::alloc::{AllocError, Global};
 
+fn is_deep(fault: ParseFault) -> Result<bool, AllocError>
+    ensures { (source : List ℕ) → IsParse source (Err fault)
+        → IfOk result (λ is. MatchBool is (HasTree source) (¬ HasTree source)) }
+{
+    match fault {
+        ParseFault::TooDeep => Ok(true),
+        ParseFault::Syntax(_) => Ok(false),
+        ParseFault::NoMemory => Err(AllocError),
+    }
+}
+
 fn is_tree(tree: &Result<Tree, ParseFault>) -> Result<bool, AllocError>
     ensures { (source : List ℕ) → IsParse source tree.now
         → IfOk result (λ is. MatchBool is (HasTree source) (¬ HasTree source)) }
 {
     match tree {
         Ok(_) => Ok(true),
-        Err(ParseFault::TooDeep) => Ok(true),
-        Err(ParseFault::Syntax(_)) => Ok(false),
-        Err(ParseFault::NoMemory) => Err(AllocError),
+        Err(fault) => is_deep(*fault),
     }
 }
 
@@ -83,7 +91,10 @@ impl<'a> Renderer<'a> {
         ensures answers { Answers (λ t. t) (Valued source.now (scopes_of self.old.context) self.old.cost.spent) result self.new.cost.spent }
         ensures scopes { Kept result (scopes_of self.old.context) (scopes_of self.new.context) }
     {
-        let value = self.evaluate(alloc, source)?;
+        let value = match self.evaluate(alloc, source) {
+            Ok(value) => value,
+            Err(fault) => return Err(fault),
+        };
         match shown(alloc, &value) {
             Ok(text) => Ok(text),
             Err(Stop::Fault(rule)) => Err(here(alloc, rule)),
@@ -106,7 +117,10 @@ impl<'a> Renderer<'a> {
             } else {
                 match cut_expression(alloc, behind)? {
                     Some((source, next)) => {
-                        let value = self.valued(alloc, source)?;
+                        let value = match self.valued(alloc, source) {
+                            Ok(value) => value,
+                            Err(fault) => return Err(fault),
+                        };
                         out.push_str(value.as_str())?;
                         rest = next;
                     }
@@ -123,9 +137,14 @@ impl<'a> Renderer<'a> {
         ensures answers { Answers string_bytes (Written text.now (scopes_of self.old.context) self.old.cost.spent) result self.new.cost.spent }
         ensures scopes { Kept result (scopes_of self.old.context) (scopes_of self.new.context) }
     {
-        let out = self.interpolate(alloc, text)?;
-        self.charge((out.len() as u64).saturating_add(1))?;
-        Ok(out)
+        let out = match self.interpolate(alloc, text) {
+            Ok(out) => out,
+            Err(fault) => return Err(fault),
+        };
+        match self.charge((out.len() as u64).saturating_add(1)) {
+            Ok(()) => Ok(out),
+            Err(fault) => Err(fault),
+        }
     }
 
     /// A text of the template.
@@ -133,7 +152,10 @@ impl<'a> Renderer<'a> {
         ensures answers { Answers found_in (TextRenders text.now (scopes_of self.old.context) self.old.cost.spent) result self.new.cost.spent }
         ensures scopes { Kept result (scopes_of self.old.context) (scopes_of self.new.context) }
     {
-        let out = self.written(alloc, text)?;
+        let out = match self.written(alloc, text) {
+            Ok(out) => out,
+            Err(fault) => return Err(fault),
+        };
         Ok(Some(Doc::Text(Text::from_string(out))))
     }
 }

@@ -1,5 +1,4 @@
 //! The turns of `$map`, `$reduce` and `$find`, and what `$find` and `$sort` come to.
-#![tactic(none)]
 ghost use Rattle.std.specs.Prelude.{◌≡◌, IfOk};
 ghost use Rattle.farm_text.specs.Document.{member_at, members_of};
 ghost use Rattle.farm_text.specs.Doc.{document, documents, entries_of};
@@ -94,7 +93,10 @@ impl<'a> Renderer<'a> {
         let height = self.height();
         for (item, index) in turns {
             self.bind_two(alloc, names, item.clone()?, index)?;
-            let value = self.evaluate_tree(alloc, &tree)?;
+            let value = match self.evaluate_tree(alloc, &tree) {
+                Ok(value) => value,
+                Err(fault) => return Err(fault),
+            };
             self.release(height);
             if is_true(&value) {
                 return self.finish(Some(item));
@@ -138,7 +140,10 @@ impl<'a> Renderer<'a> {
     {
         match (value, members.get(key)) {
             (Doc::List(items), Some(Doc::Text(source))) => {
-                let pairs = self.sort_keys(alloc, source.as_bytes(), names, items)?;
+                let pairs = match self.sort_keys(alloc, source.as_bytes(), names, items) {
+                    Ok(pairs) => pairs,
+                    Err(fault) => return Err(fault),
+                };
                 self.finish_made(alloc, sort_of(alloc, pairs))
             }
             _ => Err(here(alloc, Fault::WrongKind)),
