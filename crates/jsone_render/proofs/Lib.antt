@@ -8,3 +8,4 @@ pub mod PathLemmas
 pub mod ScopeLemmas
 pub mod CutLemmas
 pub mod TextLemmas
+pub mod TemplateLemmas

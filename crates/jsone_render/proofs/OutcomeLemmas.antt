@@ -41,3 +41,14 @@ fault_under {A} {B} v w step Is NoMemory g n m u h = subst (λ (x : RenderFault)
 
 pub value_under : (step : List ℕ) (Is : Outcome (Option Document) → Type 0) (d : Option Document) (n : ℕ) → Is (given d n) → Under step Is (given d n)
 value_under step Is d n h = (given d n, h, refl)
+
+-- in a loop: what is left begins with a fault
+pub loop_fault : {A B C D X : Type 0} (v : A → B) (w : C → D) (Is : Outcome B → Type 0) (F : B → ℕ → Outcome D → Type 0) (R : X → Outcome D → Type 0) (x y : X) (Whole : Outcome D → Type 0) (f : RenderFault) (n m : ℕ)
+    → x ≡ y → ((o : Outcome D) → After Is F o → R y o) → ((o : Outcome D) → R x o → Whole o) → Answers v Is (Err f) n → Answers w Whole (Err f) m
+loop_fault {A} {B} {C} {D} v w Is F R x y Whole f n m e begins leads h =
+    answer_through w (After Is F) Whole (Err f) m (λ o k. leads o (subst (λ z. R z o) (sym e) (begins o k))) (fault_through v w Is F f n m h)
+
+-- and what is left begins with something that is found
+pub loop_step : {B D X : Type 0} (Is : Outcome B → Type 0) (F : B → ℕ → Outcome D → Type 0) (R : X → Outcome D → Type 0) (x y : X) (Whole : Outcome D → Type 0) (b : B) (n : ℕ)
+    → x ≡ y → ((o : Outcome D) → After Is F o → R y o) → ((o : Outcome D) → R x o → Whole o) → Is (given b n) → (o : Outcome D) → F b n o → Whole o
+loop_step Is F R x y Whole b n e begins leads h o k = leads o (subst (λ z. R z o) (sym e) (begins o (given b n, h, k)))

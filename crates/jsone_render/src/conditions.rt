@@ -1,5 +1,5 @@
 //! Expressions that an operator has beside what it renders.
-ghost use Rattle.std.specs.Prelude.{◌≡◌, [], ◌∷◌, ◌++◌, not, IfOk, OnOk, string_bytes};
+ghost use Rattle.std.specs.Prelude.{◌≡◌, [], ◌∷◌, ◌++◌, not, if◌then◌else◌, IfOk, OnOk, string_bytes};
 ghost use Rattle.std.specs.List.{filter};
 ghost use Rattle.std.specs.Str.{bytes_eq};
 ghost use Rattle.farm_text.specs.Document.{members_of};
@@ -72,10 +72,13 @@ pub(crate) fn conditions_of(
     Ok(keys)
 }
 
-fn keep_key(found: &mut Vec<String>, key: String) -> Result<(), AllocError>
-    ensures { OnOk result (found.new.items ≡ found.old.items ++ key ∷ []) }
+fn keep_if(found: &mut Vec<String>, key: String, is_kept: bool) -> Result<(), AllocError>
+    ensures { OnOk result (strings_in found.new.items
+        ≡ strings_in found.old.items ++ (if is_kept then string_bytes key ∷ [] else [])) }
 {
-    found.push(key)?;
+    if is_kept {
+        found.push(key)?;
+    }
     Ok(())
 }
 
@@ -111,9 +114,7 @@ impl<'a> Renderer<'a> {
                 Ok(value) => value,
                 Err(fault) => return Err(fault),
             };
-            if is_true(&value) {
-                keep_key(&mut found, condition)?;
-            }
+            keep_if(&mut found, condition, is_true(&value))?;
         }
         Ok(found)
     }
