@@ -9,3 +9,8 @@ pub mod ScopeLemmas
 pub mod CutLemmas
 pub mod TextLemmas
 pub mod TemplateLemmas
+pub mod MapLemmas
+pub mod KindLemmas
+pub mod OneParts
+pub mod OneSorting
+pub mod OneRendering

@@ -2,7 +2,7 @@
 use denote.Ref.{Bor}
 use Rattle.std.specs.Prelude.{◌≡◌, ℕ, List, [], ◌∷◌, ◌++◌, Option, Some, None, map, option_map, Result, Ok, Err, String, string_bytes}
 use Rattle.std.specs.declared.alloc.Global.{Global}
-use Rattle.farm_text.specs.Document.{Document}
+use Rattle.farm_text.specs.Document.{Document, text, array, object}
 use Rattle.farm_text.specs.Doc.{document}
 use Rattle.farm_text.specs.declared.doc.Doc.{Doc}
 use Rattle.jsone_values.specs.declared.faults.Fault.{Fault}
@@ -109,3 +109,16 @@ IsAnswer Is (Ok d) = (spent : ℕ) × Is (given (document d) spent)
 IsAnswer Is (Err (a_fault f)) = Is (faulted f.rule f.path)
 IsAnswer Is (Err TooMuchWork) = Is too_much
 IsAnswer Is (Err NoMemory) = Unit {0}
+
+-- values of other kinds
+abbrev pub IsNoMap : Document → Type 0
+IsNoMap (object ms) = ⊥
+IsNoMap _ = Unit {0}
+
+abbrev pub IsNoList : Document → Type 0
+IsNoList (array ds) = ⊥
+IsNoList _ = Unit {0}
+
+abbrev pub IsNoText : Option Document → Type 0
+IsNoText (Some (text bs)) = ⊥
+IsNoText _ = Unit {0}

@@ -11,6 +11,7 @@ ghost use Rattle.jsone_render.specs.Expressions.{ValueAt};
 ghost use Rattle.jsone_render.specs.Maps.{keys_of};
 
 use crate::faults::RenderFault;
+use crate::lists::text_at;
 use crate::paths::here;
 use crate::renderer::Renderer;
 use farm_text::Doc;
@@ -93,9 +94,9 @@ impl<'a> Renderer<'a> {
         ensures answers { Answers document (ValueAt key.now (members_of (entries_of members.now.entries)) (scopes_of self.old.context) self.old.cost.spent) result self.new.cost.spent }
         ensures scopes { Kept result (scopes_of self.old.context) (scopes_of self.new.context) }
     {
-        match members.get(key) {
-            Some(Doc::Text(source)) => self.evaluate(alloc, source.as_bytes()),
-            _ => Err(here(alloc, Fault::WrongKind)),
+        match text_at(members, key) {
+            Some(source) => self.evaluate(alloc, source),
+            None => Err(here(alloc, Fault::WrongKind)),
         }
     }
 

@@ -36,7 +36,7 @@ pub(crate) fn insert(
 
 impl<'a> Renderer<'a> {
     /// A key, rendered as a text; one that begins with two `$` loses one of them.
-    fn key(&mut self, alloc: Global, key: &str) -> Result<String, RenderFault>
+    fn rendered_key(&mut self, alloc: Global, key: &str) -> Result<String, RenderFault>
         ensures answers { Answers string_bytes (Written (key_text key.now) (scopes_of self.old.context) self.old.cost.spent) result self.new.cost.spent }
         ensures scopes { Kept result (scopes_of self.old.context) (scopes_of self.new.context) }
     {
@@ -58,7 +58,7 @@ impl<'a> Renderer<'a> {
     {
         let mut map = BTreeMap::new(alloc);
         for (key, value) in values {
-            let name = match self.key(alloc, key.as_str()) {
+            let name = match self.rendered_key(alloc, key.as_str()) {
                 Ok(name) => name,
                 Err(fault) => return Err(fault),
             };

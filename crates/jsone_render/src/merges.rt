@@ -1,11 +1,12 @@
 //! What operators give for the value of their operand.
-ghost use Rattle.std.specs.Prelude.{◌≡◌, ◌++◌, IfOk, OnOk, MatchResult, Ok, Err};
+ghost use Rattle.std.specs.Prelude.{◌≡◌, [], ◌∷◌, ◌++◌, IfOk, OnOk, MatchResult, Ok, Err};
 ghost use Rattle.farm_text.specs.Document.{members_of, items_of, member_at, put};
 ghost use Rattle.farm_text.specs.Doc.{document, documents, entries_of};
 ghost use Rattle.jsone_values.specs.Meets.{Meets};
 ghost use Rattle.jsone_render.specs.Answers.{found_in};
 ghost use Rattle.jsone_render.specs.Merges.{put_all, merge_of, deep, deep_all, deep_merge_of, flattened, flatten_of, leaves, items_leaves, deep_flatten_of, reverse_of, json_of};
 
+use crate::lists::{into_list, into_map};
 use crate::maps::insert;
 use farm_text::Doc;
 use jsone_values::faults::{Fault, Stop};
@@ -37,8 +38,9 @@ pub(crate) fn merge_of(alloc: Global, value: Doc) -> Result<Doc, Stop>
     };
     let mut map = BTreeMap::new(alloc);
     for item in items {
-        let Doc::Map(more) = item else {
-            return Err(WRONG_KIND);
+        let more = match into_map(item) {
+            Some(more) => more,
+            None => return Err(WRONG_KIND),
         };
         match put_all(&mut map, more) {
             Ok(()) => {}
@@ -136,16 +138,26 @@ fn push_all(flat: &mut Vec<Doc>, inner: Vec<Doc>) -> Result<(), AllocError>
     Ok(())
 }
 
+/// The members of a list, or the value itself.
+fn push_flat(flat: &mut Vec<Doc>, item: Doc) -> Result<(), AllocError>
+    ensures { OnOk result (documents flat.new.items ≡ documents flat.old.items ++ flattened (document item ∷ [])) }
+{
+    match into_list(item) {
+        Ok(inner) => push_all(flat, inner),
+        Err(value) => {
+            flat.push(value)?;
+            Ok(())
+        }
+    }
+}
+
 /// The members of the members that are lists, and the other members.
 fn flattened(alloc: Global, items: Vec<Doc>) -> Result<Vec<Doc>, AllocError>
     ensures { IfOk result (λ v. documents v.items ≡ flattened (documents items.items)) }
 {
     let mut flat = Vec::new(alloc);
     for item in items {
-        match item {
-            Doc::List(inner) => push_all(&mut flat, inner)?,
-            value => flat.push(value)?,
-        }
+        push_flat(&mut flat, item)?;
     }
     Ok(flat)
 }

@@ -130,7 +130,8 @@ fn doubled(alloc: Global, items: Vec<Doc>) -> Result<Vec<(Doc, Doc)>, AllocError
     Ok(pairs)
 }
 
-fn keep_pair(pairs: &mut Vec<(Doc, Doc)>, key: Doc, item: Doc) -> Result<(), AllocError>
+/// One pair more.
+pub(crate) fn keep_pair(pairs: &mut Vec<(Doc, Doc)>, key: Doc, item: Doc) -> Result<(), AllocError>
     ensures { OnOk result (pairs_of pairs.new.items ≡ pairs_of pairs.old.items ++ (document key, document item) ∷ []) }
 {
     pairs.push((key, item))?;

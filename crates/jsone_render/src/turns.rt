@@ -1,6 +1,6 @@
 //! The turns of `$map`, `$reduce` and `$find`, and what `$find` and `$sort` come to.
-ghost use Rattle.std.specs.Prelude.{◌≡◌, IfOk};
-ghost use Rattle.farm_text.specs.Document.{member_at, members_of};
+ghost use Rattle.std.specs.Prelude.{◌≡◌, IfOk, pos};
+ghost use Rattle.farm_text.specs.Document.{member_at, members_of, whole};
 ghost use Rattle.farm_text.specs.Doc.{document, documents, entries_of};
 ghost use Rattle.jsone_eval.specs.Scopes.{scopes_of};
 ghost use Rattle.jsone_values.specs.Meets.{Meets};
@@ -11,28 +11,35 @@ ghost use Rattle.jsone_render.specs.Sorting.{SortedBy};
 
 use crate::binders::Names;
 use crate::faults::RenderFault;
+use crate::lists::{into_list, text_at};
 use crate::merges::merge_of;
 use crate::paths::here;
 use crate::renderer::{Renderer, parsed};
-use crate::sorting::sort_of;
+use crate::sorting::{keep_pair, sort_of};
 use farm_text::Doc;
 use jsone_values::faults::{Fault, Stop};
 use jsone_values::truth::is_true;
 use std::alloc::{AllocError, Global};
 use std::collections::BTreeMap;
 
-/// The members of a list, each with its index; more than can be counted are in no memory.
+/// A number of members, as a value; more than can be counted are in no memory.
+fn count_of(count: usize) -> Result<Doc, AllocError>
+    ensures { IfOk result (λ d. document d ≡ whole (pos count)) }
+{
+    match i64::try_from(count) {
+        Ok(number) => Ok(Doc::Int(number)),
+        Err(_) => Err(AllocError),
+    }
+}
+
+/// The members of a list, each with its index.
 pub(crate) fn numbered(alloc: Global, items: Vec<Doc>) -> Result<Vec<(Doc, Doc)>, AllocError>
     ensures { IfOk result (λ v. pairs_of v.items ≡ numbered 0 (documents items.items)) }
 {
-    let mut turns = Vec::with_capacity(alloc, items.len())?;
-    let mut index = 0i64;
+    let mut turns = Vec::new(alloc);
     for item in items {
-        turns.push((item, Doc::Int(index)))?;
-        index = match index.checked_add(1) {
-            Some(next) => next,
-            None => return Err(AllocError),
-        };
+        let index = count_of(turns.len())?;
+        keep_pair(&mut turns, item, index)?;
     }
     Ok(turns)
 }
@@ -117,12 +124,15 @@ impl<'a> Renderer<'a> {
         ensures answers { Answers found_in (FoundIn (member_at key.now (members_of (entries_of members.now.entries))) (names_in names.entry) (document value) (scopes_of self.old.context) self.old.cost.spent) result self.new.cost.spent }
         ensures scopes { Kept result (scopes_of self.old.context) (scopes_of self.new.context) }
     {
-        match (value, members.get(key)) {
-            (Doc::List(items), Some(Doc::Text(source))) => {
+        let Ok(items) = into_list(value) else {
+            return Err(here(alloc, Fault::WrongKind));
+        };
+        match text_at(members, key) {
+            Some(source) => {
                 let turns = numbered(alloc, items)?;
-                self.first_true(alloc, source.as_bytes(), names, turns)
+                self.first_true(alloc, source, names, turns)
             }
-            _ => Err(here(alloc, Fault::WrongKind)),
+            None => Err(here(alloc, Fault::WrongKind)),
         }
     }
 
@@ -138,15 +148,18 @@ impl<'a> Renderer<'a> {
         ensures answers { Answers found_in (SortedBy (member_at key.now (members_of (entries_of members.now.entries))) (names_in names.entry) (document value) (scopes_of self.old.context) self.old.cost.spent) result self.new.cost.spent }
         ensures scopes { Kept result (scopes_of self.old.context) (scopes_of self.new.context) }
     {
-        match (value, members.get(key)) {
-            (Doc::List(items), Some(Doc::Text(source))) => {
-                let pairs = match self.sort_keys(alloc, source.as_bytes(), names, items) {
+        let Ok(items) = into_list(value) else {
+            return Err(here(alloc, Fault::WrongKind));
+        };
+        match text_at(members, key) {
+            Some(source) => {
+                let pairs = match self.sort_keys(alloc, source, names, items) {
                     Ok(pairs) => pairs,
                     Err(fault) => return Err(fault),
                 };
                 self.finish_made(alloc, sort_of(alloc, pairs))
             }
-            _ => Err(here(alloc, Fault::WrongKind)),
+            None => Err(here(alloc, Fault::WrongKind)),
         }
     }
 }
