@@ -14,3 +14,4 @@ pub mod KindLemmas
 pub mod OneParts
 pub mod OneSorting
 pub mod OneRendering
+pub mod PutLemmas

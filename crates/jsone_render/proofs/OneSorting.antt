@@ -33,6 +33,10 @@ Before d e = is_lt (key_order d e)
 one_way : (d e : Document) → Before d e ≡ true → Before e d ≡ false
 one_way (whole a) (whole b) h = numbers.one_way a b h
 one_way (text s) (text t) h = words.one_way s t h
+one_way null null h = absurd (false≢true h)
+one_way (boolean b) (boolean e) h = absurd (false≢true h)
+one_way (array ds) (array es) h = absurd (false≢true h)
+one_way (object ms) (object ns) h = absurd (false≢true h)
 one_way d e h = kinds.one_way (kind_rank d) (kind_rank e) h
 
 chain : (d e f : Document) → Before d e ≡ false → Before e f ≡ false → Before d f ≡ false
