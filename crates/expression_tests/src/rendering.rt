@@ -21,12 +21,7 @@ fn read(alloc: Global, text: &str) -> Result<Doc, Fail> {
 }
 
 /// Whether the template comes to this value, as compact JSON, or to the fault of this number and path, as `!3 /then`.
-fn gives(
-    alloc: Global,
-    template: &Doc,
-    context: &Doc,
-    wanted: &str,
-) -> Result<bool, AllocError> {
+fn gives(alloc: Global, template: &Doc, context: &Doc, wanted: &str) -> Result<bool, AllocError> {
     match render(alloc, template, context) {
         Ok(value) => Ok(value.write(alloc)?.as_str() == wanted),
         Err(RenderFault::Fault(fault)) => {

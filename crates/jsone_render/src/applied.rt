@@ -7,9 +7,7 @@ ghost use Rattle.jsone_render.specs.Answers.{found_in};
 ghost use Rattle.jsone_render.specs.Bindings.{or_before};
 ghost use Rattle.jsone_render.specs.Templates.{IsGivenBy};
 
-use crate::merges::{
-    deep_flatten_of, deep_merge_of, flatten_of, json_of, merge_of, reverse_of,
-};
+use crate::merges::{deep_flatten_of, deep_merge_of, flatten_of, json_of, merge_of, reverse_of};
 use crate::operators::Operator;
 use crate::sorting::sort_alone;
 use farm_text::Doc;

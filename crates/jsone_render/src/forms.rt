@@ -6,8 +6,8 @@ ghost use Rattle.jsone_render.specs.Answers.{names_in, form_in, AreOthers};
 ghost use Rattle.jsone_render.specs.Forms.{stands_alone, has_words, binding_word, takes_names, Binds, IsForm, ByOthers};
 
 use crate::binders::{Names, names_of};
-use crate::maps::has_key;
 use crate::keys::{Others, operator_in, others_of};
+use crate::maps::has_key;
 use crate::operators::Operator;
 use farm_text::Doc;
 use jsone_values::faults::Fault;
@@ -94,11 +94,7 @@ fn without_others(operator: Operator, members: &BTreeMap<String, Doc>) -> MapFor
     }
 }
 
-fn with_other<'a>(
-    operator: Operator,
-    members: &BTreeMap<String, Doc>,
-    key: &'a str,
-) -> MapForm<'a>
+fn with_other<'a>(operator: Operator, members: &BTreeMap<String, Doc>, key: &'a str) -> MapForm<'a>
     ensures { ByOthers (key.now ∷ []) operator (members_of (entries_of members.now.entries)) (form_in result) }
 {
     match bound_names(operator, key) {

@@ -16,10 +16,7 @@ use std::collections::BTreeMap;
 const WRONG_KIND: Stop = Stop::Fault(Fault::WrongKind);
 
 /// Further members, of which each takes the place of one that has its key.
-fn put_all(
-    map: &mut BTreeMap<String, Doc>,
-    more: BTreeMap<String, Doc>,
-) -> Result<(), AllocError>
+fn put_all(map: &mut BTreeMap<String, Doc>, more: BTreeMap<String, Doc>) -> Result<(), AllocError>
     ensures { OnOk result (members_of (entries_of map.new.entries)
         ≡ put_all (members_of (entries_of map.old.entries)) (members_of (entries_of more.entries))) }
 {

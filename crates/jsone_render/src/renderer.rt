@@ -154,7 +154,12 @@ impl<'a> Renderer<'a> {
     }
 
     /// Binds the first of the names.
-    pub(crate) fn bind_one(&mut self, alloc: Global, names: Names, value: Doc) -> Result<(), AllocError>
+    pub(crate) fn bind_one(
+        &mut self,
+        alloc: Global,
+        names: Names,
+        value: Doc,
+    ) -> Result<(), AllocError>
         ensures scopes { OnOk result (scopes_of self.new.context
             ≡ scopes_of self.old.context ++ bound_to (names_in names.entry) (document value ∷ [])) }
         ensures cost { self.new.cost ≡ self.old.cost }

@@ -54,12 +54,7 @@ fn entry(alloc: Global, key: &str, value: Doc) -> Result<Doc, AllocError>
     Ok(Doc::Map(map))
 }
 
-fn turn_value(
-    alloc: Global,
-    names: Names,
-    key: &str,
-    value: Doc,
-) -> Result<Doc, AllocError>
+fn turn_value(alloc: Global, names: Names, key: &str, value: Doc) -> Result<Doc, AllocError>
     ensures { IfOk result (λ d. document d ≡ turn_value (names_in names.entry) key.now (document value)) }
 {
     match names {
