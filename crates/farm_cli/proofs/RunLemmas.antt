@@ -44,14 +44,18 @@ WereLent-from_calls l0 l1 l2 l3 l4 l5 l6 console console' clock clock' draws dra
   draws_lent = record { could = rw (e2, e1) at g3; returned = rw (e6, e5, e4, e3, e2, e1) refl };
 }
 
+-- the opening of a farm that begins in a state, on no disk
+abbrev pub begun : State → Opening
+begun state = record { state = state; records = []; faults = 0 }
+
 -- the asks of one that stood for nothing, and stands only for what leads alone to a state, are a history of its own
 pub IsHistoryOf-from_turns : (start state : State) (old new : Opening → List Entry → List ℕ → Type 0) (asks : List Ask) (replies : List Reply)
-    → old (record { state = start }) [] []
+    → old (begun start) [] []
     → AsksInTurn farm_rules opened old new (questions_of asks) replies
-    → ((seen : List Entry) (mine : List ℕ) → new (record { state = start }) seen mine → LeadsAlone farm_rules start seen mine state)
+    → ((seen : List Entry) (mine : List ℕ) → new (begun start) seen mine → LeadsAlone farm_rules start seen mine state)
     → IsHistoryOf start asks replies
 IsHistoryOf-from_turns start state old new asks replies fresh turns alone =
-    let gains = turns (record { state = start }) [] [] fresh in
+    let gains = turns (begun start) [] [] fresh in
     let leads = alone gains.since gains.gained gains.stands_now in
     record {
       history = gains.since;

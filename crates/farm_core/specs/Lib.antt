@@ -1,1 +1,6 @@
 pub mod Bare
+pub mod Records
+pub mod Opened
+pub mod Reading
+pub mod Farm
+pub mod Asking

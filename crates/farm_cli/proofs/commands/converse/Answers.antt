@@ -1,6 +1,6 @@
 use Rattle.std.proofs.Common.{sym}
 use Rattle.farm_machine.specs.State.{empty_state}
-use Rattle.farm_cli.proofs.RunLemmas.{WereLent-from_calls, IsHistoryOf-from_turns}
+use Rattle.farm_cli.proofs.RunLemmas.{WereLent-from_calls, begun, IsHistoryOf-from_turns}
 use Rattle.farm_cli.proofs.commands.converse.Goals as goal
 
 pub returns-clause-conversed : goal.returns-clause-conversed
@@ -21,6 +21,6 @@ returns-clause-conversed g c =
       replies = serves.replies;
       served = c.serve_connection-served.result;
       spoke = serves.spoke;
-      history = IsHistoryOf-from_turns (empty_state c.args.config) c.into_object-bare.result _ _ _ _ (c.new-desk.ensures.fresh (record { state = (empty_state c.args.config) }) (sym c.new.ensures) tt) serves.asked (λ seen mine stands. ((c.into_object-bare.ensures.stood (record { state = (empty_state c.args.config) }) seen mine).0 stands).0);
+      history = IsHistoryOf-from_turns (empty_state c.args.config) c.into_object-bare.result _ _ _ _ (c.new-desk.ensures.fresh (begun (empty_state c.args.config)) (sym c.new.ensures) tt) serves.asked (λ seen mine stands. ((c.into_object-bare.ensures.stood (begun (empty_state c.args.config)) seen mine).0 stands).0);
       status_is = c.after_serving.ensures;
     }
