@@ -14,19 +14,21 @@ use Rattle.clap.specs.Walk.{Held, Names, Walk, idle, is_empty, nothing_held, rea
 use Rattle.clap.proofs.OnLiterals.{clap_on_literals}
 use Rattle.clap.specs.declared.error.ErrorKind.TheVariants.{UnknownArgument, InvalidSubcommand}
 use Rattle.command_line.proofs.FlagLemmas.{IsFlag, value_cases, word_kind}
-use Rattle.command_line.proofs.LawLemmas.{answer_stops, check_stops, empty_read, expand_stops, fails_below, help_first, no_reading, other_first, sign_stops}
+use Rattle.command_line.proofs.LawLemmas.{answer_stops, bulk_stops, check_stops, empty_read, expand_stops, fails_below, help_first, no_reading, other_first, sign_stops}
 use Rattle.command_line.specs.Forms.{GivesValue, IsValue, SaysWork}
 use Rattle.command_line.specs.Words.{IsPlain, command_in, farm_app, reading, with_farm}
 use Rattle.command_line.specs.declared.command.Command.{Command}
-use Rattle.command_line.specs.declared.command.Command.TheVariants.{OverFarm, Sign}
+use Rattle.command_line.specs.declared.command.Command.TheVariants.{OverFarm, Sign, Bulk}
 use Rattle.command_line.specs.declared.command.Work.{Work}
 use Rattle.command_line.specs.declared.command.Work.TheVariants.{Answer, Expand, Check}
+use Rattle.command_line.specs.declared.load.Load.{Load}
 use Rattle.command_line.specs.declared.signing.Signing.{Signing}
 
 -- the words say the command, if it is work over a farm
 abbrev SaysCommand : Command → List Text → Type 0
 SaysCommand (OverFarm farm work) words = SaysWork farm work words
 SaysCommand (Sign signing) words = Unit {0}
+SaysCommand (Bulk load) words = Unit {0}
 
 none_some : (command : Command) → None ≡ Some command → ⊥
 none_some command e = cc
@@ -186,23 +188,24 @@ dash_unread rest = refl
 -- the first word of words that have a reading is a command's name
 abbrev IsName : Text → Type 0
 IsName w =
-    (bytes_eq (codes "answer") w ≡ true) ⊎ ((bytes_eq (codes "expand") w ≡ true) ⊎ ((bytes_eq (codes "check") w ≡ true) ⊎ (bytes_eq (codes "sign") w ≡ true)))
+    (bytes_eq (codes "answer") w ≡ true) ⊎ ((bytes_eq (codes "expand") w ≡ true) ⊎ ((bytes_eq (codes "check") w ≡ true) ⊎ ((bytes_eq (codes "sign") w ≡ true) ⊎ (bytes_eq (codes "bulk") w ≡ true))))
 
-value_named : (w : Text) (rest : List Text) (command : Command) → IsPlain w → reading (w ∷ rest) ≡ Some command → (a e c s h : Bool) → bytes_eq (codes "answer") w ≡ a
-    → bytes_eq (codes "expand") w ≡ e → bytes_eq (codes "check") w ≡ c → bytes_eq (codes "sign") w ≡ s → bytes_eq (codes "help") w ≡ h → IsName w
-value_named w rest command plain read true e c s h is_a is_e is_c is_s is_h = inl is_a
-value_named w rest command plain read false true c s h is_a is_e is_c is_s is_h = inr (inl is_e)
-value_named w rest command plain read false false true s h is_a is_e is_c is_s is_h = inr (inr (inl is_c))
-value_named w rest command plain read false false false true h is_a is_e is_c is_s is_h = inr (inr (inr is_s))
-value_named w rest command plain read false false false false true is_a is_e is_c is_s is_h =
+value_named : (w : Text) (rest : List Text) (command : Command) → IsPlain w → reading (w ∷ rest) ≡ Some command → (a e c s b h : Bool) → bytes_eq (codes "answer") w ≡ a
+    → bytes_eq (codes "expand") w ≡ e → bytes_eq (codes "check") w ≡ c → bytes_eq (codes "sign") w ≡ s → bytes_eq (codes "bulk") w ≡ b → bytes_eq (codes "help") w ≡ h → IsName w
+value_named w rest command plain read true e c s b h is_a is_e is_c is_s is_b is_h = inl is_a
+value_named w rest command plain read false true c s b h is_a is_e is_c is_s is_b is_h = inr (inl is_e)
+value_named w rest command plain read false false true s b h is_a is_e is_c is_s is_b is_h = inr (inr (inl is_c))
+value_named w rest command plain read false false false true b h is_a is_e is_c is_s is_b is_h = inr (inr (inr (inl is_s)))
+value_named w rest command plain read false false false false true h is_a is_e is_c is_s is_b is_h = inr (inr (inr (inr is_b)))
+value_named w rest command plain read false false false false false true is_a is_e is_c is_s is_b is_h =
     let none = help_first w rest is_h in absurd (none_some command (sym none ∙ read))
-value_named w rest command plain read false false false false false is_a is_e is_c is_s is_h =
-    let none = other_first w rest plain is_a is_e is_c is_s is_h in absurd (none_some command (sym none ∙ read))
+value_named w rest command plain read false false false false false false is_a is_e is_c is_s is_b is_h =
+    let none = other_first w rest plain is_a is_e is_c is_s is_b is_h in absurd (none_some command (sym none ∙ read))
 
 first_named : (w : Text) (rest : List Text) (command : Command) → IsUtf8 w → reading (w ∷ rest) ≡ Some command → IsName w
 first_named w rest command utf8 read = elim (word_kind w utf8) [
   | inl v ↦ elim v [
-    | inl plain ↦ value_named w rest command plain read _ _ _ _ _ refl refl refl refl refl
+    | inl plain ↦ value_named w rest command plain read _ _ _ _ _ _ refl refl refl refl refl refl
     | inr dash ↦ let none = no_reading ((45 ∷ []) ∷ rest) (ap is_empty (dash_unread rest)) in
         absurd (none_some command (sym none ∙ subst (λ a. reading (a ∷ rest) ≡ Some command) dash read))
   ]
@@ -337,12 +340,27 @@ sign_command : (o : Option Signing) (words : List Text) (command : Command) → 
 sign_command None words command e = absurd (none_some command e)
 sign_command (Some s) words (OverFarm farm work) e = cc
 sign_command (Some s) words (Sign signing) e = tt
+sign_command (Some s) words (Bulk load) e = tt
 
 sign_said : (rest : List Text) (command : Command) → reading (codes "sign" ∷ rest) ≡ Some command → SaysCommand command (codes "sign" ∷ rest)
 unfolding clap_on_literals
 sign_said rest command read =
     let met = taken (is_empty (fault_of farm_app (codes "sign" ∷ rest))) (option_and_then command_in (subcommand_of farm_app (codes "sign" ∷ rest))) command read in
     sign_command _ (codes "sign" ∷ rest) command (sym (ap (λ stop. option_and_then command_in (entered (built farm_app) stop)) (sign_stops rest)) ∙ met)
+
+-- ---- bulk
+
+bulk_command : (o : Option Load) (words : List Text) (command : Command) → option_map (λ l. Bulk l) o ≡ Some command → SaysCommand command words
+bulk_command None words command e = absurd (none_some command e)
+bulk_command (Some l) words (OverFarm farm work) e = cc
+bulk_command (Some l) words (Sign signing) e = tt
+bulk_command (Some l) words (Bulk load) e = tt
+
+bulk_said : (rest : List Text) (command : Command) → reading (codes "bulk" ∷ rest) ≡ Some command → SaysCommand command (codes "bulk" ∷ rest)
+unfolding clap_on_literals
+bulk_said rest command read =
+    let met = taken (is_empty (fault_of farm_app (codes "bulk" ∷ rest))) (option_and_then command_in (subcommand_of farm_app (codes "bulk" ∷ rest))) command read in
+    bulk_command _ (codes "bulk" ∷ rest) command (sym (ap (λ stop. option_and_then command_in (entered (built farm_app) stop)) (bulk_stops rest)) ∙ met)
 
 -- ---- both ways
 
@@ -352,7 +370,8 @@ reading_says (w ∷ rest) command utf8 read = elim (first_named w rest command (
   | inl a ↦ named (codes "answer") a (rest_said (codes "answer") (λ f. OverFarm f Answer) answer_is rest command others)
   | inr (inl e) ↦ named (codes "expand") e (rest_said (codes "expand") (λ f. OverFarm f Expand) expand_is rest command others)
   | inr (inr (inl c)) ↦ named (codes "check") c (rest_said (codes "check") (λ f. OverFarm f Check) check_is rest command others)
-  | inr (inr (inr s)) ↦ named (codes "sign") s (sign_said rest command)
+  | inr (inr (inr (inl s))) ↦ named (codes "sign") s (sign_said rest command)
+  | inr (inr (inr (inr b))) ↦ named (codes "bulk") b (bulk_said rest command)
 ]
   where
     others : All IsUtf8 rest

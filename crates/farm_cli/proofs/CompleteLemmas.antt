@@ -4,9 +4,10 @@ use Rattle.std.specs.Prelude.{IfSome}
 use Rattle.std.specs.Io.KnownBytes.{Appends}
 use Rattle.causes.specs.Causes.{Rose}
 use Rattle.command_line.specs.declared.command.Command.{Command}
-use Rattle.command_line.specs.declared.command.Command.TheVariants.{OverFarm, Sign}
+use Rattle.command_line.specs.declared.command.Command.TheVariants.{OverFarm, Sign, Bulk}
 use Rattle.command_line.specs.declared.command.Work.{Work}
 use Rattle.command_line.specs.declared.command.Work.TheVariants.{Answer, Expand, Check}
+use Rattle.command_line.specs.declared.load.Load.{Load}
 use Rattle.command_line.specs.declared.signing.Signing.{Signing}
 use Rattle.http_wire.specs.declared.message.Message.{Message}
 use Rattle.http_wire.specs.declared.message.Wire.{Wire as Reason}
@@ -24,13 +25,14 @@ use Rattle.farm_cli.specs.declared.lending.Lending.TheVariants.{Ready, Back}
 use Rattle.farm_cli.specs.declared.status.Status.{Status}
 use Rattle.farm_cli.specs.declared.status.Status.TheVariants.{Done, Usage, FarmFile, Input, Opening, Read, Write, NoMemory, Wire}
 use Rattle.farm_cli.specs.Checking.{Checks, check_text}
-use Rattle.farm_cli.specs.Complete.{stop_status, status_for, own_text, HasFile, NoFileFault, NoConsoleFault, AnswersAll, WritesAll, Finishes, FinishesSigning, Completes, CompletesSigning, RefusesFile, MissesFile, TellsUsage}
+use Rattle.farm_cli.specs.Complete.{stop_status, status_for, own_text, HasFile, NoFileFault, NoConsoleFault, AnswersAll, WritesAll, Finishes, FinishesSigning, Completes, CompletesLoad, CompletesSigning, RefusesFile, MissesFile, TellsUsage}
 use Rattle.farm_cli.specs.Expanding.{IsExpansion, IsBadInput, Expands}
 use Rattle.farm_cli.specs.FarmFile.{SetsUp, HasFault, FileRefused}
 use Rattle.farm_cli.specs.House.{holds, back, Lendings}
 use Rattle.farm_cli.specs.Inputs.{Tells, Turns}
 use Rattle.farm_cli.specs.Run.{Obeyed, RanOverFile, RanOver, RanCommand, Ran}
 use Rattle.farm_cli.specs.Serving.{status_of, Conversed}
+use Rattle.farm_cli.specs.Loading.{IsLoadLine, Loads}
 use Rattle.farm_cli.specs.Signing.{IsSigned, IsTooLong, Signs, SignsAs, signed_line}
 use Rattle.farm_cli.specs.Views.{Views, outside_of, talk_of}
 
@@ -181,6 +183,27 @@ finishes_signing views new signing None status console console' some came_back w
 finishes_signing views new signing (Some content_type) status console console' some came_back well did = λ body known.
     turns_all views new (IsSigned signing content_type) IsTooLong status console console' body some came_back known (well.reads console' came_back) (well.writes console' came_back) did
 
+finishes_load : {F C N T I : Type 0} (views : Views F C N T I) (new : Lendings F C N T I) (load : Load) (status : Status) (console console' : C)
+    → status ≢ NoMemory → new.console ≡ Back console' → NoConsoleFault views new console → Loads load (talk_of views console) (talk_of views console') status
+    → (text : List ℕ) × IsLoadLine load text × WritesAll views new console text status
+finishes_load views new load NoMemory console console' some came_back well did = absurd (some refl)
+finishes_load views new load Done console console' some came_back well did =
+    (did.0, did.1, tells_all views new did.0 Done console console' some came_back (well.writes console' came_back) did.2)
+finishes_load views new load Usage console console' some came_back well did =
+    (did.0, did.1, tells_all views new did.0 Usage console console' some came_back (well.writes console' came_back) did.2)
+finishes_load views new load FarmFile console console' some came_back well did =
+    (did.0, did.1, tells_all views new did.0 FarmFile console console' some came_back (well.writes console' came_back) did.2)
+finishes_load views new load Input console console' some came_back well did =
+    (did.0, did.1, tells_all views new did.0 Input console console' some came_back (well.writes console' came_back) did.2)
+finishes_load views new load Opening console console' some came_back well did =
+    (did.0, did.1, tells_all views new did.0 Opening console console' some came_back (well.writes console' came_back) did.2)
+finishes_load views new load Read console console' some came_back well did =
+    (did.0, did.1, tells_all views new did.0 Read console console' some came_back (well.writes console' came_back) did.2)
+finishes_load views new load Write console console' some came_back well did =
+    (did.0, did.1, tells_all views new did.0 Write console console' some came_back (well.writes console' came_back) did.2)
+finishes_load views new load Wire console console' some came_back well did =
+    (did.0, did.1, tells_all views new did.0 Wire console console' some came_back (well.writes console' came_back) did.2)
+
 -- ---- a farm file that is there
 
 is_memory : (status : Status) → (status ≡ NoMemory) ⊎ (status ≢ NoMemory)
@@ -319,6 +342,23 @@ CompletesSigning-from_run {F} {C} views old new before now said status ran = λ 
             let came_back = rw ready at used.console.returned in
             finishes_signing views new signing signing.content_type status console used.back some came_back well
             (subst (λ (x : C). Signs signing (talk_of views x) (talk_of views used.back) status) given used.did)
+            )
+      ]
+    ]
+
+pub CompletesLoad-from_run : {F C N T I : Type 0} (views : Views F C N T I) (old new : Lendings F C N T I) (before now : ℕ) (said : Option Command) (status : Status)
+    → Ran views old new before now said status → CompletesLoad views old new said status
+CompletesLoad-from_run {F} {C} views old new before now said status ran = λ load console asked ready well.
+    elim (run_of views old new before now said (Bulk load) status asked ran) [
+      | inl none ↦ inl none
+      | inr loaded ↦ elim (is_memory status) [
+        | inl none ↦ inl none
+        | inr some ↦ inr (
+            let used = loaded.used in
+            let given = rw ready at used.console.could in
+            let came_back = rw ready at used.console.returned in
+            finishes_load views new load status console used.back some came_back well
+            (subst (λ (x : C). Loads load (talk_of views x) (talk_of views used.back) status) given used.did)
             )
       ]
     ]

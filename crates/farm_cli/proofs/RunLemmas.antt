@@ -2,9 +2,10 @@
 use Rattle.std.proofs.Common.{◌≡◌, ℕ, ◌+◌, List, [], Option, refl, sym, subst, ◌∙◌, inl, inr}
 use Rattle.history.specs.Asks.{AsksInTurn, LeadsAlone}
 use Rattle.command_line.specs.declared.command.Command.{Command}
-use Rattle.command_line.specs.declared.command.Command.TheVariants.{OverFarm, Sign}
+use Rattle.command_line.specs.declared.command.Command.TheVariants.{OverFarm, Sign, Bulk}
 use Rattle.command_line.specs.declared.command.Work.{Work}
 use Rattle.command_line.specs.declared.command.Work.TheVariants.{Answer, Expand, Check}
+use Rattle.command_line.specs.declared.load.Load.{Load}
 use Rattle.command_line.specs.declared.signing.Signing.{Signing}
 use Rattle.farm_files.specs.declared.reading.TheConstants.{LONGEST_FILE}
 use Rattle.http_wire.specs.Whole.{piece_size, LosesWithin}
@@ -16,7 +17,7 @@ use Rattle.farm_machine.specs.Step.{farm_rules}
 use Rattle.farm_machine.specs.declared.reply.Reply.{Reply}
 use Rattle.farm_server.specs.Served.{Ask, questions_of}
 use Rattle.farm_cli.specs.House.{CanGive, after_giving, after_return, WasLent, after_opened, after_closing, CanOpenAmong, Lendings}
-use Rattle.farm_cli.specs.Run.{LeavesConsole, UsedConsole, Obeyed, RanOverFile, RanSigning, RanCommand, Ran}
+use Rattle.farm_cli.specs.Run.{LeavesConsole, UsedConsole, Obeyed, RanOverFile, RanLoad, RanSigning, RanCommand, Ran}
 use Rattle.farm_cli.specs.Serving.{IsHistoryOf, Conversed}
 use Rattle.http_wire.specs.Calls.{LinkState}
 use Rattle.farm_cli.specs.Views.{Views}
@@ -139,6 +140,11 @@ pub RanCommand-signed : {F C N T I : Type 0} (views : Views F C N T I) (old new 
     → command ≡ Sign signing → RanSigning views old new before now signing status → RanCommand views old new before now command status
 RanCommand-signed views old new before now command signing status is ran = subst (λ c. RanCommand views old new before now c status) (sym is) ran
 
+-- a generated load was run
+pub RanCommand-loaded : {F C N T I : Type 0} (views : Views F C N T I) (old new : Lendings F C N T I) (before now : ℕ) (command : Command) (load : Load) (status : Status)
+    → command ≡ Bulk load → RanLoad views old new before now load status → RanCommand views old new before now command status
+RanCommand-loaded views old new before now command load status is ran = subst (λ c. RanCommand views old new before now c status) (sym is) ran
+
 -- ---- a run is the same run where later only what is said of notes changes
 
 RanCommand-notes : {F C N T I : Type 0} (views : Views F C N T I) (old new new' : Lendings F C N T I) (before now : ℕ) (command : Command) (status : Status)
@@ -159,6 +165,11 @@ RanCommand-notes views old new new' before now (OverFarm farm work) status file 
   ran = RanOverFile-same views old old new new' work h.opened h.closed status (LeavesConsole-none old) after h.ran;
 })
 RanCommand-notes views old new new' before now (Sign signing) status file after h = record {
+  openings = h.openings;
+  file = file ∙ h.file;
+  used = UsedConsole-same views old old new new' _ (LeavesConsole-none old) after h.used;
+}
+RanCommand-notes views old new new' before now (Bulk load) status file after h = record {
   openings = h.openings;
   file = file ∙ h.file;
   used = UsedConsole-same views old old new new' _ (LeavesConsole-none old) after h.used;

@@ -3,9 +3,10 @@ use Rattle.std.specs.Prelude.{◌≡◌, ℕ, ◌⊎◌, List, [], ◌++◌, Opt
 use Rattle.std.specs.Io.KnownBytes.{Appends}
 use Rattle.causes.specs.Causes.{Rose}
 use Rattle.command_line.specs.declared.command.Command.{Command}
-use Rattle.command_line.specs.declared.command.Command.TheVariants.{OverFarm, Sign}
+use Rattle.command_line.specs.declared.command.Command.TheVariants.{OverFarm, Sign, Bulk}
 use Rattle.command_line.specs.declared.command.Work.{Work}
 use Rattle.command_line.specs.declared.command.Work.TheVariants.{Answer, Expand, Check}
+use Rattle.command_line.specs.declared.load.Load.{Load}
 use Rattle.command_line.specs.declared.signing.Signing.{Signing}
 use Rattle.http_wire.specs.declared.message.Message.{Message}
 use Rattle.http_wire.specs.declared.message.Wire.{Wire as Reason}
@@ -24,6 +25,7 @@ use Rattle.farm_cli.specs.Checking.{check_text}
 use Rattle.farm_cli.specs.Expanding.{IsExpansion, IsBadInput}
 use Rattle.farm_cli.specs.FarmFile.{SetsUp, HasFault}
 use Rattle.farm_cli.specs.House.{Held, holds, refuses, unopened, back, Lendings}
+use Rattle.farm_cli.specs.Loading.{IsLoadLine}
 use Rattle.farm_cli.specs.Serving.{IsHistoryOf}
 use Rattle.farm_cli.specs.Signing.{signed_line, IsSigned, IsTooLong}
 use Rattle.farm_cli.specs.Views.{Views}
@@ -106,6 +108,12 @@ abbrev pub CompletesSigning : {F C N T I : Type 0} → Views F C N T I → Lendi
 CompletesSigning {F} {C} views old new said status =
     (signing : Signing) (console : C) → said ≡ Some (Sign signing) → old.console ≡ Ready console → NoConsoleFault views new console
     → (status ≡ NoMemory) ⊎ FinishesSigning views new console signing signing.content_type status
+
+-- Over a console that does not fail a run writes the line of the load that its words ask for, or memory runs out.
+abbrev pub CompletesLoad : {F C N T I : Type 0} → Views F C N T I → Lendings F C N T I → Lendings F C N T I → Option Command → Status → Type 0
+CompletesLoad {F} {C} views old new said status =
+    (load : Load) (console : C) → said ≡ Some (Bulk load) → old.console ≡ Ready console → NoConsoleFault views new console
+    → (status ≡ NoMemory) ⊎ ((text : List ℕ) × IsLoadLine load text × WritesAll views new console text status)
 
 -- Over a farm file that breaks no rule and a console that does not fail, a run finishes its work, or memory runs out.
 abbrev pub Completes : {F C N T I : Type 0} → Views F C N T I → Lendings F C N T I → Lendings F C N T I → ℕ → ℕ → Option Command → Status → Type 0
