@@ -20,15 +20,15 @@ returns-in-Ok-restore-clause-later g c = rw c.new.ensures c.in-Ok.ensures.later
 pub returns-in-Ok-restore-clause-kept : goal.returns-in-Ok-restore-clause-kept
 returns-in-Ok-restore-clause-kept g c = rw c.new.ensures c.in-Ok.ensures.kept
 
-pub returns-in-Err-restore-clause-damaged : goal.returns-in-Err-restore-clause-damaged
-returns-in-Err-restore-clause-damaged g c = λ tells place is.
+pub returns-clause-damaged : goal.returns-clause-damaged
+returns-clause-damaged g c = λ tells place is.
     restored-damaged _ (opened_bodies c.in-Ok.bodies) _ place (c.in-Ok.ensures.bodies tells) c.in-Err-restore.ensures is
 
-pub returns-in-Err-restore-clause-any_moment : goal.returns-in-Err-restore-clause-any_moment
-returns-in-Err-restore-clause-any_moment g c = λ tells. rw c.into_disk.ensures (c.in-Ok.ensures.any_moment tells)
+pub returns-clause-any_moment : goal.returns-clause-any_moment
+returns-clause-any_moment g c = λ tells. rw c.into_disk.ensures (c.in-Ok.ensures.any_moment tells)
 
-pub returns-in-Err-restore-clause-cause : goal.returns-in-Err-restore-clause-cause
-returns-in-Err-restore-clause-cause g c = λ is. absurd (restored-no_disk (opened_bodies c.in-Ok.bodies) _ c.in-Err-restore.ensures is)
+pub returns-clause-cause : goal.returns-clause-cause
+returns-clause-cause g c = λ is. absurd (restored-no_disk (opened_bodies c.in-Ok.bodies) _ c.in-Err-restore.ensures is)
 
-pub returns-in-Err-restore-clause-later : goal.returns-in-Err-restore-clause-later
-returns-in-Err-restore-clause-later g c = rw c.into_disk.ensures c.in-Ok.ensures.later
+pub returns-clause-later : goal.returns-clause-later
+returns-clause-later g c = rw c.into_disk.ensures c.in-Ok.ensures.later
