@@ -25,17 +25,17 @@ HaveNoDisk-asked state asking answer outcome none = by answer.ticked
 halted-stays : (state : State) (history : List Entry) → state.halted ≡ true → IsLegal farm_rules state history → (end_state farm_rules state history).halted ≡ true
 unfolding farm_rules
 halted-stays state [] halted legal = halted
-halted-stays state (tick moment ∷ history) halted legal = halted-stays _ history halted legal.1
-halted-stays state (call asking (finished judgement) ∷ history) halted legal = halted-stays _ history halted legal.1
-halted-stays state (call asking out_of_memory ∷ history) halted legal = halted-stays _ history halted legal.1
+halted-stays state (tick moment ∷ history) halted legal = halted-stays (farm_rules.after state (tick moment)) history halted legal.1
+halted-stays state (call asking (finished judgement) ∷ history) halted legal = halted-stays (farm_rules.after state (call asking (finished judgement))) history halted legal.1
+halted-stays state (call asking out_of_memory ∷ history) halted legal = halted-stays (farm_rules.after state (call asking out_of_memory)) history halted legal.1
 halted-stays state (call asking disk_failed ∷ history) halted legal = halted-stays (record state { halted = true }) history refl legal.1
 halted-stays state (call asking was_halted ∷ history) halted legal = halted-stays state history halted legal.1
 
 pub HaveNoDisk-at_work : (state : State) (history : List Entry) → IsLegal farm_rules state history → (end_state farm_rules state history).halted ≡ false → HaveNoDisk history
 unfolding farm_rules
 HaveNoDisk-at_work state [] legal still = tt
-HaveNoDisk-at_work state (tick moment ∷ history) legal still = (tt, HaveNoDisk-at_work _ history legal.1 still)
-HaveNoDisk-at_work state (call asking (finished judgement) ∷ history) legal still = (tt, HaveNoDisk-at_work _ history legal.1 still)
-HaveNoDisk-at_work state (call asking out_of_memory ∷ history) legal still = (tt, HaveNoDisk-at_work _ history legal.1 still)
+HaveNoDisk-at_work state (tick moment ∷ history) legal still = (tt, HaveNoDisk-at_work (farm_rules.after state (tick moment)) history legal.1 still)
+HaveNoDisk-at_work state (call asking (finished judgement) ∷ history) legal still = (tt, HaveNoDisk-at_work (farm_rules.after state (call asking (finished judgement))) history legal.1 still)
+HaveNoDisk-at_work state (call asking out_of_memory ∷ history) legal still = (tt, HaveNoDisk-at_work (farm_rules.after state (call asking out_of_memory)) history legal.1 still)
 HaveNoDisk-at_work state (call asking disk_failed ∷ history) legal still = let fell = halted-stays (record state { halted = true }) history refl legal.1 in cc
 HaveNoDisk-at_work state (call asking was_halted ∷ history) legal still = let fell = halted-stays state history legal.0 legal.1 in cc
