@@ -1,22 +1,20 @@
 -- An ask of a farm over a disk is one lawful step, or a tick and one, and keeps the records of its entries.
-use Rattle.std.proofs.Common.{◌≡◌, ℕ, ◌≤◌, Bool, true, false, List, [], ◌∷◌, ◌++◌, length, Option, Some, None, Result, Ok, Err, refl, sym, ap, ◌∙◌, subst, arith, inl, inr}
+use Rattle.std.proofs.Common.{◌≡◌, ℕ, ◌≤◌, Bool, true, false, List, [], ◌∷◌, ◌++◌, Option, Some, Ok, refl, sym, ap, ◌∙◌, subst, arith, inl, inr}
 use Rattle.std.proofs.lemmas.List.{append-nil}
 use Rattle.std.specs.Option.{option_to_list}
-use Rattle.history.specs.Asks.{IsAsk}
-use Rattle.history.specs.Histories.{entries, end_state}
+use Rattle.history.specs.Histories.{end_state}
 use Rattle.disk_base.specs.Contents.{Contents as Disk}
-use Rattle.disk_journal.specs.Keeping.{IsReady, Keeps}
 use Rattle.farm_text.specs.declared.moment.TheConstants.{LAST_TOLD_MOMENT}
 use Rattle.farm_record.specs.declared.change.Change.{Change}
 use Rattle.farm_record.specs.Records.{tick_at}
 use Rattle.farm_machine.specs.declared.config.Config.{Config}
 use Rattle.farm_machine.specs.declared.reply.Asked.{Asked}
 use Rattle.farm_machine.specs.declared.reply.Reply.{Reply}
-use Rattle.farm_machine.specs.declared.reply.Reply.TheVariants.{Answered, OutOfMemory, DiskFault, Halted}
+use Rattle.farm_machine.specs.declared.reply.Reply.TheVariants.{Answered, OutOfMemory, DiskFault}
 use Rattle.farm_machine.specs.Changes.{moment_of, reached, changed}
-use Rattle.farm_machine.specs.Entry.{Asking, Outcome, finished, out_of_memory, disk_failed, was_halted, call}
+use Rattle.farm_machine.specs.Entry.{Asking, finished, out_of_memory, disk_failed, call}
 use Rattle.farm_machine.specs.Planned.{Planned, IsPlanOf}
-use Rattle.farm_machine.specs.Replay.{records_by, records_of}
+use Rattle.farm_machine.specs.Replay.{records_by}
 use Rattle.farm_machine.specs.State.{State, working}
 use Rattle.farm_machine.specs.Step.{MayTick, MayBecome, IsToKeep, after_call, ticks_before, farm_rules}
 use Rattle.farm_rows.specs.Contents.{Contents}
@@ -24,7 +22,7 @@ use Rattle.farm_rows.specs.Due.{is_due, advance}
 use Rattle.farm_core.specs.Asking.{ticks_kept, Performs}
 use Rattle.farm_core.specs.Bare.{IsResolved}
 use Rattle.farm_core.specs.Farm.{state_of, AsksDisk, AreFailedBy}
-use Rattle.farm_core.specs.Records.{AreRecords, KeepsRecords}
+use Rattle.farm_core.specs.Records.{KeepsRecords}
 use Rattle.farm_core.proofs.BareLemmas.{ask-alone, ask-after_tick, may-tick}
 use Rattle.farm_core.proofs.PlanLemmas.{planned-finishes}
 use Rattle.farm_core.proofs.RecordLemmas.{KeepsRecords-then}

@@ -14,3 +14,7 @@ tells-rose old now halted fell later rose = record { later = later; rose = λ _.
 -- first none, and then perhaps one
 pub tells-then : (old between now : ℕ) (halted : Bool) → between ≡ old → TellsFaults between now halted → TellsFaults old now halted
 tells-then old between now halted same tells = subst (λ (n : ℕ). TellsFaults n now halted) same tells
+
+-- a count that rose from one which is as it was
+pub rose-from : (before between after : ℕ) → between ≡ before → Rose between after → Rose before after
+rose-from before between after same rose = subst (λ (n : ℕ). Rose n after) same rose

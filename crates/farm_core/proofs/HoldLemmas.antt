@@ -7,7 +7,6 @@ use Rattle.history.specs.Histories.{entries, end_state, Leads}
 use Rattle.history.proofs.HistoriesLemmas.{end_state-append}
 use Rattle.disk_base.specs.Contents.{Contents as Disk}
 use Rattle.disk_journal.specs.Images.{IsImage}
-use Rattle.disk_journal.specs.Keeping.{Keeps}
 use Rattle.disk_journal.proofs.AppendLemmas.{ready_image}
 use Rattle.farm_record.specs.declared.change.Change.{Change}
 use Rattle.farm_rows.specs.Contents.{Contents}
@@ -15,11 +14,11 @@ use Rattle.farm_machine.specs.declared.config.Config.{Config}
 use Rattle.farm_machine.specs.declared.reply.Asked.{Asked}
 use Rattle.farm_machine.specs.declared.reply.Reply.TheVariants.{Halted}
 use Rattle.farm_machine.specs.Entry.{Asking, Entry, call, disk_failed, was_halted}
-use Rattle.farm_machine.specs.Law.{Opening, opened}
+use Rattle.farm_machine.specs.Law.{Opening}
 use Rattle.farm_machine.specs.Replay.{records_by, records_of}
 use Rattle.farm_machine.specs.State.{State}
 use Rattle.farm_machine.specs.Step.{IsToKeep, farm_rules, ticks_before}
-use Rattle.farm_core.specs.Farm.{AsksDisk, AreFailedBy, TellsFaults, HoldsHistory, state_of}
+use Rattle.farm_core.specs.Farm.{AsksDisk, TellsFaults, HoldsHistory, state_of}
 use Rattle.farm_core.specs.Opened.{HasOpened}
 use Rattle.farm_core.specs.Records.{AreRecords, KeepsRecords, HasRecords, IsFailed}
 use Rattle.farm_core.proofs.FaultLemmas.{tells-kept, tells-then}

@@ -1,17 +1,17 @@
 -- Whatever legal history a farm holds, its disk's images open.
-use Rattle.std.proofs.Common.{◌≡◌, ◌⊎◌, ℕ, true, false, Bool, List, [], ◌∷◌, ◌++◌, Some, refl, sym, ap, ◌∙◌, subst, append_assoc, inl, inr}
+use Rattle.std.proofs.Common.{◌≡◌, ◌⊎◌, ℕ, true, List, [], ◌∷◌, ◌++◌, refl, sym, ap, ◌∙◌, subst, inl, inr}
 use Rattle.std.proofs.lemmas.List.{append-nil}
 use Rattle.std.proofs.lemmas.Grind.{flat_map-append}
 use Rattle.history.specs.Histories.{IsLegal, end_state, Leads}
 use Rattle.history.proofs.HistoriesLemmas.{IsLegal-front, IsLegal-back}
 use Rattle.disk_base.specs.Contents.{Contents as Disk, LeftNow}
 use Rattle.farm_record.specs.declared.change.Change.{Change}
-use Rattle.farm_rows.specs.Contents.{Contents, no_contents}
+use Rattle.farm_rows.specs.Contents.{Contents}
 use Rattle.farm_machine.specs.Entry.{Asking, Entry, tick, call, finished, out_of_memory, disk_failed, was_halted}
 use Rattle.farm_machine.specs.Law.{Opening}
 use Rattle.farm_machine.specs.Replay.{records_by, records_of, Restores}
 use Rattle.farm_machine.specs.State.{State}
-use Rattle.farm_machine.specs.Step.{IsToKeep, farm_rules, after}
+use Rattle.farm_machine.specs.Step.{farm_rules}
 use Rattle.farm_machine.proofs.ReplayLemmas.{records-restore, kept-follows}
 use Rattle.farm_core.specs.Farm.{HoldsHistory}
 use Rattle.farm_core.specs.Opened.{Replays, IsFarmDamaged}

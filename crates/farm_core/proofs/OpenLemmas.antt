@@ -1,17 +1,17 @@
 -- What replaying bodies leaves, and where one is broken.
-use Rattle.std.proofs.Common.{◌≡◌, ◌↔◌, ℕ, zero, suc, ◌+◌, ◌<◌, ◌≤◌, true, false, Bool, List, [], ◌∷◌, ◌++◌, length, take, drop, cond, slice_index_or, Option, Some, None, Result, Ok, Err, refl, sym, ap, ◌∙◌, subst, arith, append_assoc, inl, inr, add-one}
+use Rattle.std.proofs.Common.{◌≡◌, ◌↔◌, ℕ, zero, suc, ◌+◌, ◌<◌, true, false, Bool, List, [], ◌∷◌, ◌++◌, length, take, drop, cond, slice_index_or, Option, Some, None, Result, Ok, Err, refl, sym, ap, ◌∙◌, subst, arith, append_assoc, inl, inr}
 use Rattle.std.proofs.Math.ListN.{length-append}
 use Rattle.std.proofs.Math.Seq.{drop-cons}
 use Rattle.std.proofs.lemmas.List.{take-append-drop, take_more}
-use Rattle.disk_journal.specs.Records.{sized, records, Opens, IsDamaged, placed}
-use Rattle.disk_journal.specs.Images.{IsImage, IsWithin}
+use Rattle.disk_journal.specs.Records.{sized, records, Opens, placed}
+use Rattle.disk_journal.specs.Images.{IsWithin}
 use Rattle.disk_journal.proofs.LawLemmas.{opens_one, opens_whole, image_opens, within_image}
 use Rattle.disk_journal.proofs.RecordLemmas.{length-sized}
 use Rattle.farm_record.specs.declared.change.Change.{Change}
 use Rattle.farm_record.specs.Records.{IsRecord}
 use Rattle.farm_rows.specs.Contents.{Contents, no_contents}
 use Rattle.farm_machine.specs.Replay.{may_replay, after_replay, replayed, IsTried}
-use Rattle.farm_machine.proofs.ReplayLemmas.{replayed-push, replayed-append, replayed-front}
+use Rattle.farm_machine.proofs.ReplayLemmas.{replayed-push, replayed-append}
 use Rattle.farm_core.specs.Opened.{Replays, IsBroken, IsFarmDamaged}
 use Rattle.farm_core.specs.Reading.{IsRead}
 use Rattle.farm_core.specs.Records.{AreRecords}

@@ -1,5 +1,5 @@
 -- A call that is planned may be finished.
-use Rattle.std.proofs.Common.{◌≡◌, ℕ, ◌≤◌, true, false, Option, Some, None, IfSome, option_map, refl, sym, ◌∙◌, subst, arith}
+use Rattle.std.proofs.Common.{◌≡◌, ◌≤◌, true, Option, Some, None, IfSome, option_map, refl, subst, arith}
 use Rattle.farm_text.specs.declared.moment.TheConstants.{LAST_TOLD_MOMENT}
 use Rattle.farm_record.specs.declared.change.Change.{Change}
 use Rattle.farm_rows.specs.Changes.{may_apply}

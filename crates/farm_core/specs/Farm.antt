@@ -7,8 +7,6 @@ use Rattle.history.specs.Asks.{IsAsk}
 use Rattle.history.specs.Histories.{entries, end_state}
 use Rattle.farm_machine.specs.declared.config.Config.{Config}
 use Rattle.farm_machine.specs.declared.reply.Asked.{Asked}
-use Rattle.farm_machine.specs.declared.reply.Reply.{Reply}
-use Rattle.farm_machine.specs.declared.reply.Reply.TheVariants.{DiskFault}
 use Rattle.farm_machine.specs.Entry.{Asking, Entry, call, disk_failed}
 use Rattle.farm_machine.specs.Law.{Opening}
 use Rattle.farm_machine.specs.Replay.{records_of}

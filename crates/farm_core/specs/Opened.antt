@@ -1,14 +1,12 @@
 -- What an opening of a farm finds on a disk.
-use Rattle.std.specs.Prelude.{◌≡◌, ℕ, false, ◌⊎◌, List, [], ◌∷◌, ◌++◌, length, Option, Some, Result, Ok, Err}
+use Rattle.std.specs.Prelude.{◌≡◌, ℕ, false, ◌⊎◌, List, [], ◌∷◌, ◌++◌, length, Some, Result, Ok, Err}
 use Rattle.disk_base.specs.Contents.{Contents as Disk}
 use Rattle.disk_journal.specs.Keeping.{IsReady}
 use Rattle.disk_journal.specs.Records.{records, Opens, IsDamaged}
-use Rattle.disk_journal.specs.declared.fault.OpenFault.{OpenFault}
-use Rattle.disk_journal.specs.declared.fault.OpenFault.TheVariants as faults
 use Rattle.farm_record.specs.declared.change.Change.{Change}
 use Rattle.farm_record.specs.Records.{IsRecord}
 use Rattle.farm_rows.specs.Contents.{Contents, no_contents}
-use Rattle.farm_machine.specs.Replay.{may_replay, after_replay, replayed}
+use Rattle.farm_machine.specs.Replay.{may_replay, replayed}
 use Rattle.farm_core.specs.Records.{AreRecords}
 
 -- the bodies are records of changes whose replay leaves these contents

@@ -1,5 +1,5 @@
 -- A planned call whose record is kept is finished; where memory runs out only its moment is reached.
-use Rattle.std.proofs.Common.{refl, sym, subst, arith, ◌≤◌}
+use Rattle.std.proofs.Common.{refl, subst, ◌≤◌}
 use Rattle.farm_text.specs.declared.moment.TheConstants.{LAST_TOLD_MOMENT}
 use Rattle.farm_core.proofs.AskLemmas.{performs-halted, performs-done, performs-lost, performs-planned_out}
 use Rattle.farm_core.proofs.asking.finish.Goals as goal

@@ -1,5 +1,5 @@
 -- Where there is no change, nothing is kept.
-use Rattle.std.proofs.Common.{◌≡◌, List, [], Option, None, sym, subst}
+use Rattle.std.proofs.Common.{◌≡◌, [], Option, None, sym, subst}
 use Rattle.std.specs.Option.{option_to_list}
 use Rattle.farm_record.specs.declared.change.Change.{Change}
 use Rattle.farm_core.specs.Records.{KeepsRecords}

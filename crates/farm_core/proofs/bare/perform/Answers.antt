@@ -1,5 +1,5 @@
 -- A call that is planned is finished with its judgement; where memory ran out, only its moment is reached.
-use Rattle.std.proofs.Common.{refl, sym, subst, arith, rules, ◌≤◌, ℕ}
+use Rattle.std.proofs.Common.{refl, arith, rules, ◌≤◌}
 use Rattle.farm_text.specs.declared.moment.TheConstants.{LAST_TOLD_MOMENT}
 use Rattle.farm_machine.specs.Entry.{finished, out_of_memory}
 use Rattle.farm_core.proofs.PlanLemmas.{planned-finishes}

@@ -1,9 +1,8 @@
 -- What is due is kept and resolved, and the call is performed behind it.
-use Rattle.std.proofs.Common.{ℕ, refl, subst}
-use Rattle.causes.specs.Causes.{Rose}
+use Rattle.std.proofs.Common.{refl, arith}
 use Rattle.farm_core.proofs.AskLemmas.{asked-so, asked-failed, asks-from, asks-to}
 use Rattle.farm_core.proofs.BareLemmas.{IsResolved-nothing_due}
-use Rattle.farm_core.proofs.FaultLemmas.{tells-rose, tells-then}
+use Rattle.farm_core.proofs.FaultLemmas.{rose-from, tells-rose, tells-then}
 use Rattle.farm_core.proofs.farm.Farm.answer.Goals as goal
 
 pub perform-reply-requires-clause-idle : goal.perform-reply-requires-clause-idle
@@ -44,7 +43,7 @@ pub returns-in-Ok-clause-halted : goal.returns-in-Ok-clause-halted
 returns-in-Ok-clause-halted g c = λ halted. let is = c.if-halted.false in let same = c.halted.ensures in cc
 
 pub returns-in-Ok-clause-cause : goal.returns-in-Ok-clause-cause
-returns-in-Ok-clause-cause g c = λ fault. subst (λ (n : ℕ). Rose n _) c.in-Ok.ensures.cause.kept (c.perform-reply.ensures.faults.rose (c.perform-reply.ensures.halts fault))
+returns-in-Ok-clause-cause g c = λ fault. rose-from _ _ _ c.in-Ok.ensures.cause.kept (c.perform-reply.ensures.faults.rose (c.perform-reply.ensures.halts fault))
 
 pub returns-in-Ok-clause-faults : goal.returns-in-Ok-clause-faults
 returns-in-Ok-clause-faults g c = λ working. tells-then _ _ _ _ c.in-Ok.ensures.cause.kept c.perform-reply.ensures.faults
@@ -63,3 +62,18 @@ returns-in-Err-clause-faults g c = λ working. tells-rose _ _ _ c.in-Err.ensures
 
 pub returns-in-Err-clause-later : goal.returns-in-Err-clause-later
 returns-in-Err-clause-later g c = c.in-Err.ensures.cause.later
+
+pub returns-then-halted-clause-later : goal.returns-then-halted-clause-later
+returns-then-halted-clause-later g c = omega arith
+
+pub keep_due-requires-clause-told : goal.keep_due-requires-clause-told
+keep_due-requires-clause-told g c = c.moment_of-moment.ensures.told
+
+pub keep_due-requires-clause-works : goal.keep_due-requires-clause-works
+keep_due-requires-clause-works g c = let is = c.if-halted.false in let same = c.halted.ensures in cc
+
+pub same-question : goal.same-question
+same-question g c = refl
+
+pub perform-reply-requires-clause-works : goal.perform-reply-requires-clause-works
+perform-reply-requires-clause-works g c = c.in-Ok.ensures.works

@@ -1,6 +1,5 @@
 -- A farm at work makes one step, or a tick and one; and one that has halted answers so.
-use Rattle.std.proofs.Common.{List, ◌++◌, ap, sym, subst, inl, inr}
-use Rattle.farm_core.specs.declared.farm.Farm.{Farm}
+use Rattle.std.proofs.Common.{[], ◌∷◌, List, ◌++◌, ap, sym, subst, inl, inr}
 use Rattle.farm_core.specs.Farm.{state_of, HoldsHistory}
 use Rattle.farm_core.proofs.HoldLemmas.{decided, halted-asked, entries-halted, holds-halted, holds-asked}
 use Rattle.farm_machine.specs.Entry.{Entry, call, was_halted}
