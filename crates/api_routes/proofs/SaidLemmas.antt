@@ -16,7 +16,6 @@ use Rattle.route_table.specs.declared.route.Route.{Route}
 use Rattle.route_table.specs.declared.route.Route.TheVariants as routes
 use Rattle.api_routes.specs.Bodies.{IsTaskBody, IsCreateCall, IsWorkBody, IsReasonBody}
 use Rattle.api_routes.specs.Calls.{Request, Calls, task_or, CallsTask, CallsCreate, run_of, CallsRunOr, CallsRun, Reclaims, Reports, CallsQueue, CallsOfQueue, Counts, list_or, CallsList}
-use Rattle.api_routes.specs.Queries.{values_of, limit_of, token_of}
 use Rattle.api_routes.specs.Routes.{IsCallOf}
 
 -- a call that is this one
