@@ -6,3 +6,4 @@ mod OptionLemmas
 mod ReadingLemmas
 mod SigningLemmas
 mod ValueLemmas
+pub mod DiskFormLemmas

@@ -1,8 +1,9 @@
 -- The lists of words that say a command, by the usual reading of `-` and `--`
 -- (https://pubs.opengroup.org/onlinepubs/9799919799/basedefs/V1_chap12.html).
-use Rattle.std.specs.Prelude.{◌≡◌, ◌⊎◌, ℕ, List, [], ◌∷◌, codes}
-use Rattle.command_line.specs.Words.{IsPlain, name_of}
+use Rattle.std.specs.Prelude.{◌≡◌, ◌⊎◌, ℕ, List, [], ◌∷◌, ◌++◌, codes}
+use Rattle.command_line.specs.Words.{IsPlain, disk_name_of, name_of}
 use Rattle.command_line.specs.declared.command.Work.{Work}
+use Rattle.command_line.specs.declared.command.DiskWork.{DiskWork}
 
 -- the word may stand for a value as it is: it does not begin with `-`, or is `-` alone
 abbrev pub IsValue : List ℕ → Type 0
@@ -17,3 +18,22 @@ GivesValue value words =
 abbrev pub SaysWork : List ℕ → Work → List (List ℕ) → Type 0
 SaysWork farm work [] = ⊥
 SaysWork farm work (first ∷ rest) = (first ≡ name_of work) × GivesValue farm rest
+
+-- the words give the disk: its name behind `--disk`, or behind `--disk=`
+abbrev pub GivesDisk : List ℕ → List (List ℕ) → Type 0
+GivesDisk disk words = (IsValue disk × (words ≡ codes "--disk" ∷ disk ∷ [])) ⊎ (words ≡ (codes "--disk=" ++ disk) ∷ [])
+
+-- there are no words, or a last `--`
+abbrev pub EndsOptions : List (List ℕ) → Type 0
+EndsOptions words = (words ≡ []) ⊎ (words ≡ codes "--" ∷ [])
+
+-- the words give the disk and then the farm file, or the farm file and then the disk
+abbrev pub GivesBoth : List ℕ → List ℕ → List (List ℕ) → Type 0
+GivesBoth farm disk words =
+    (given : List (List ℕ)) × (rest : List (List ℕ)) × GivesDisk disk given
+    × (((words ≡ given ++ rest) × GivesValue farm rest) ⊎ (IsValue farm × (words ≡ farm ∷ given ++ rest) × EndsOptions rest))
+
+-- the words are the name of this work over a disk, and then give its farm file and its disk
+abbrev pub SaysDiskWork : List ℕ → List ℕ → DiskWork → List (List ℕ) → Type 0
+SaysDiskWork farm disk work [] = ⊥
+SaysDiskWork farm disk work (first ∷ rest) = (first ≡ disk_name_of work) × GivesBoth farm disk rest

@@ -1,13 +1,15 @@
 -- The command line of the farm program, over what the crate clap (https://docs.rs/clap) is stated to read of words.
-use Rattle.std.specs.Prelude.{◌≢◌, ℕ, Bool, true, List, Option, Some, None, codes, if◌then◌else◌, option_map, option_and_then, slice_get}
+use Rattle.std.specs.Prelude.{◌≢◌, ℕ, Bool, true, false, List, Option, Some, None, codes, if◌then◌else◌, option_map, option_and_then, slice_get}
 use Rattle.std.specs.Str.{bytes_eq}
 use Rattle.clap.specs.Words.{App, Row, Rule, first_of, new_app, new_rule, subcommand_of, with_rule, with_subcommand, fault_of}
 use Rattle.clap.specs.Walk.{is_empty}
-use Rattle.command_line.specs.Signing.{sign_app, signing_in}
+use Rattle.command_line.specs.Signing.{option_rule, sign_app, signing_in}
 use Rattle.command_line.specs.declared.command.Command.{Command}
-use Rattle.command_line.specs.declared.command.Command.TheVariants.{OverFarm, Sign}
+use Rattle.command_line.specs.declared.command.Command.TheVariants.{OverFarm, OverDisk, Sign}
 use Rattle.command_line.specs.declared.command.Work.{Work}
 use Rattle.command_line.specs.declared.command.Work.TheVariants.{Answer, Expand, Check}
+use Rattle.command_line.specs.declared.command.DiskWork.{DiskWork}
+use Rattle.command_line.specs.declared.command.DiskWork.TheVariants as on_disk
 
 -- FARM: a required word in its place
 abbrev pub farm_argument : Rule
@@ -17,12 +19,20 @@ farm_argument = record (new_rule (codes "FARM")) { required = true; value_names 
 abbrev pub with_farm : List ℕ → App
 with_farm name = with_rule (new_app name) farm_argument
 
+-- `--disk`: an option with one value, which may be left out
+abbrev pub disk_option : Rule
+disk_option = option_rule (codes "disk") false
+
+-- a command of this name, which takes FARM and `--disk`, and nothing else
+abbrev pub with_disk : List ℕ → App
+with_disk name = with_rule (with_farm name) disk_option
+
 -- the program: its words come without its name, and name one of four commands
 abbrev pub farm_app : App
 farm_app =
     let program = new_app (codes "farm") in
     let bare = record program { top = record program.top { no_binary_name = true; subcommand_required = true; arg_required_else_help = true } } in
-    with_subcommand (with_subcommand (with_subcommand (with_subcommand bare (with_farm (codes "answer")).top) (with_farm (codes "expand")).top) (with_farm (codes "check")).top)
+    with_subcommand (with_subcommand (with_subcommand (with_subcommand bare (with_disk (codes "answer")).top) (with_farm (codes "expand")).top) (with_disk (codes "check")).top)
     sign_app.top
 
 -- the work of a name
@@ -33,9 +43,28 @@ work_named name =
     else if bytes_eq name (codes "check") then Some Check
     else None
 
--- the work of a name, over the farm file that is given
+-- the work over a disk of a name
+abbrev pub disk_work_named : List ℕ → Option DiskWork
+disk_work_named name =
+    if bytes_eq name (codes "answer") then Some on_disk.Answer
+    else if bytes_eq name (codes "check") then Some on_disk.Check
+    else None
+
+-- the work of a name, over this farm file; and over this disk
+abbrev pub over_farm : List ℕ → List ℕ → Option Command
+over_farm name farm = option_map (λ work. OverFarm farm work) (work_named name)
+
+abbrev pub over_disk : List ℕ → List ℕ → List ℕ → Option Command
+over_disk name farm disk = option_map (λ work. OverDisk farm disk work) (disk_work_named name)
+
+-- it is over a disk where one is given
+abbrev pub over : List ℕ → List ℕ → Option (List ℕ) → Option Command
+over name farm None = over_farm name farm
+over name farm (Some disk) = over_disk name farm disk
+
+-- the work of a name, over the farm file that is given, and the disk
 abbrev pub work_in : List ℕ → List Row → Option Command
-work_in name rows = option_and_then (λ farm. option_map (λ work. OverFarm farm work) (work_named name)) (first_of (codes "FARM") rows)
+work_in name rows = option_and_then (λ farm. over name farm (first_of (codes "disk") rows)) (first_of (codes "FARM") rows)
 
 -- the command of a subcommand's name and matches
 abbrev pub command_in : List ℕ × List Row → Option Command
@@ -60,3 +89,8 @@ name_of Check = codes "check"
 -- the word does not begin with `-` (45)
 abbrev pub IsPlain : List ℕ → Type 0
 IsPlain word = slice_get word 0 ≢ Some 45
+
+-- the name of the command that does this work over a disk
+abbrev pub disk_name_of : DiskWork → List ℕ
+disk_name_of on_disk.Answer = codes "answer"
+disk_name_of on_disk.Check = codes "check"
