@@ -14,11 +14,10 @@ use Rattle.clap.specs.Simple.{built_leaf, filled, help_rule, inherited, with_ind
 use Rattle.clap.specs.Walk.{Held, Waiting, Walk, finished, idle, is_empty, option, reacted, settled, settled_rows, walked}
 use Rattle.clap.proofs.OnLiterals.{clap_on_literals}
 use Rattle.command_line.proofs.FlagLemmas.{IsFlag, value_cases, word_kind}
-use Rattle.command_line.specs.Forms.{EndsOptions, GivesBoth, GivesDisk, GivesValue, IsValue}
-use Rattle.command_line.specs.Words.{disk_option, disk_work_named, farm_app, farm_argument, over_disk, over_farm, with_disk, work_in, work_named}
+use Rattle.command_line.specs.Forms.{EndsOptions, Gives, GivesBoth, GivesDisk, GivesValue, IsValue}
+use Rattle.command_line.specs.Words.{disk_option, farm_app, farm_argument, with_disk, work_in, work_named}
 use Rattle.command_line.specs.declared.command.Command.{Command}
-use Rattle.command_line.specs.declared.command.Command.TheVariants.{OverDisk, OverFarm, Sign}
-use Rattle.command_line.specs.declared.command.DiskWork.{DiskWork}
+use Rattle.command_line.specs.declared.command.Command.TheVariants.{OverFarm, Sign}
 use Rattle.command_line.specs.declared.command.Work.{Work}
 
 -- ---- a command's words, from any place in them
@@ -321,6 +320,16 @@ again name rows given words utf8 bad = elim (waited name rows given words utf8) 
     later : {disk : Text} {more : List Text} → words ≡ disk ∷ more → All IsUtf8 more
     later {disk} {more} is = λ k d below. (subst (λ (l : List Text). All IsUtf8 l) is utf8) (suc k) d (omega arith)
 
+-- the work of a name over a farm file, alone and with a disk
+abbrev pub over : Text → Text → Option Text → Option Command
+over name farm disk = option_map (λ work. OverFarm farm work) (work_named name disk)
+
+abbrev over_farm : Text → Text → Option Command
+over_farm name farm = over name farm None
+
+abbrev over_disk : Text → Text → Text → Option Command
+over_disk name farm disk = over name farm (Some disk)
+
 -- ---- the farm file and the disk were given
 
 abbrev farm_rows : Text → Text → List Row
@@ -440,29 +449,24 @@ attached_first name disk =
 
 -- the words behind the name of a command say what they are read as
 abbrev pub Says : Text → Command → List Text → Type 0
-Says name (OverFarm farm work) words = (work_named name ≡ Some work) × GivesValue farm words
-Says name (OverDisk farm disk work) words = (disk_work_named name ≡ Some work) × GivesBoth farm disk words
+Says name (OverFarm farm work) words = (disk : Option Text) × (work_named name disk ≡ Some work) × Gives farm disk words
 Says name (Sign signing) words = ⊥
 
-farm_command : (name farm : Text) (command : Command) (words : List Text) → GivesValue farm words → over_farm name farm ≡ Some command → Says name command words
-farm_command name farm command words gives read = go (work_named name) refl
+given_command : (name farm : Text) (disk : Option Text) (command : Command) (words : List Text) → Gives farm disk words → over name farm disk ≡ Some command → Says name command words
+given_command name farm disk command words gives read = go (work_named name disk) refl
   where
-    go : (o : Option Work) → work_named name ≡ o → Says name command words
+    go : (o : Option Work) → work_named name disk ≡ o → Says name command words
     go None none = absurd (none_some command (sym (ap (option_map (λ work. OverFarm farm work)) none) ∙ read))
     go (Some work) is =
         let one : Some (OverFarm farm work) ≡ Some command = sym (ap (option_map (λ work. OverFarm farm work)) is) ∙ read in
         let same : OverFarm farm work ≡ command = cc in
-        subst (λ (k : Command). Says name k words) same (is, gives)
+        subst (λ (k : Command). Says name k words) same (disk, is, gives)
+
+farm_command : (name farm : Text) (command : Command) (words : List Text) → GivesValue farm words → over_farm name farm ≡ Some command → Says name command words
+farm_command name farm command words gives read = given_command name farm None command words gives read
 
 disk_command : (name farm disk : Text) (command : Command) (words : List Text) → GivesBoth farm disk words → over_disk name farm disk ≡ Some command → Says name command words
-disk_command name farm disk command words gives read = go (disk_work_named name) refl
-  where
-    go : (o : Option DiskWork) → disk_work_named name ≡ o → Says name command words
-    go None none = absurd (none_some command (sym (ap (option_map (λ work. OverDisk farm disk work)) none) ∙ read))
-    go (Some work) is =
-        let one : Some (OverDisk farm disk work) ≡ Some command = sym (ap (option_map (λ work. OverDisk farm disk work)) is) ∙ read in
-        let same : OverDisk farm disk work ≡ command = cc in
-        subst (λ (k : Command). Says name k words) same (is, gives)
+disk_command name farm disk command words gives read = given_command name farm (Some disk) command words gives read
 
 unread : {T : Type 0} (name : Text) (w : Walk) (words : List Text) (command : Command) → reads name w words ≡ None → reads name w words ≡ Some command → T
 unread name w words command none read = absurd (none_some command (sym none ∙ read))

@@ -16,13 +16,11 @@ use Rattle.clap.specs.declared.error.ErrorKind.TheVariants.{UnknownArgument, Inv
 use Rattle.command_line.proofs.DiskFormLemmas.{Says, args, both_read, end_of, faults, found, reads, start, start_said}
 use Rattle.command_line.proofs.FlagLemmas.{IsFlag, value_cases, word_kind}
 use Rattle.command_line.proofs.LawLemmas.{answer_stops, check_stops, empty_read, expand_stops, fails_below, help_first, no_reading, other_first, sign_stops}
-use Rattle.command_line.specs.Forms.{GivesValue, IsValue, SaysDiskWork, SaysWork}
+use Rattle.command_line.specs.Forms.{Gives, GivesValue, IsValue, SaysWork}
 use Rattle.command_line.specs.Words.{IsPlain, command_in, farm_app, reading, with_farm}
 use Rattle.command_line.specs.Signing.{signing_in}
 use Rattle.command_line.specs.declared.command.Command.{Command}
-use Rattle.command_line.specs.declared.command.Command.TheVariants.{OverDisk, OverFarm, Sign}
-use Rattle.command_line.specs.declared.command.DiskWork.{DiskWork}
-use Rattle.command_line.specs.declared.command.DiskWork.TheVariants as over
+use Rattle.command_line.specs.declared.command.Command.TheVariants.{OverFarm, Sign}
 use Rattle.command_line.specs.declared.command.Work.{Work}
 use Rattle.command_line.specs.declared.command.Work.TheVariants.{Answer, Expand, Check}
 use Rattle.command_line.specs.declared.signing.Signing.{Signing}
@@ -30,7 +28,6 @@ use Rattle.command_line.specs.declared.signing.Signing.{Signing}
 -- the words say the command, if it is work over a farm
 abbrev SaysCommand : Command → List Text → Type 0
 SaysCommand (OverFarm farm work) words = SaysWork farm work words
-SaysCommand (OverDisk farm disk work) words = SaysDiskWork farm disk work words
 SaysCommand (Sign signing) words = Unit {0}
 
 none_some : (command : Command) → None ≡ Some command → ⊥
@@ -272,17 +269,17 @@ rest_said name of is (w ∷ more) command utf8 read = elim (word_kind w (utf8 0 
   ]
 ]
 
-answer_after : (f : Text) → reading (codes "answer" ∷ codes "--" ∷ f ∷ []) ≡ Some (OverFarm f Answer)
+answer_after : (f : Text) → reading (codes "answer" ∷ codes "--" ∷ f ∷ []) ≡ Some (OverFarm f (Answer None))
 unfolding clap_on_literals
 answer_after f = refl
 
-answer_alone : (f : Text) → IsValue f → reading (codes "answer" ∷ f ∷ []) ≡ Some (OverFarm f Answer)
+answer_alone : (f : Text) → IsValue f → reading (codes "answer" ∷ f ∷ []) ≡ Some (OverFarm f (Answer None))
 unfolding clap_on_literals
-answer_alone f v = value_cases (λ a. reading (codes "answer" ∷ a ∷ []) ≡ Some (OverFarm a Answer)) refl refl (λ x xs e. simp e) f v
+answer_alone f v = value_cases (λ a. reading (codes "answer" ∷ a ∷ []) ≡ Some (OverFarm a (Answer None))) refl refl (λ x xs e. simp e) f v
 
-answer_before : (f : Text) → IsValue f → reading (codes "answer" ∷ f ∷ codes "--" ∷ []) ≡ Some (OverFarm f Answer)
+answer_before : (f : Text) → IsValue f → reading (codes "answer" ∷ f ∷ codes "--" ∷ []) ≡ Some (OverFarm f (Answer None))
 unfolding clap_on_literals
-answer_before f v = value_cases (λ a. reading (codes "answer" ∷ a ∷ codes "--" ∷ []) ≡ Some (OverFarm a Answer)) refl refl (λ x xs e. simp e) f v
+answer_before f v = value_cases (λ a. reading (codes "answer" ∷ a ∷ codes "--" ∷ []) ≡ Some (OverFarm a (Answer None))) refl refl (λ x xs e. simp e) f v
 
 expand_after : (f : Text) → reading (codes "expand" ∷ codes "--" ∷ f ∷ []) ≡ Some (OverFarm f Expand)
 unfolding clap_on_literals
@@ -304,17 +301,17 @@ expand_fails rest fails =
 expand_is : IsReadAs (codes "expand") (λ f. OverFarm f Expand)
 expand_is = record { fails = expand_fails; alone = expand_alone; after = expand_after; before = expand_before; says = λ f rest gives. (refl, gives) }
 
-check_after : (f : Text) → reading (codes "check" ∷ codes "--" ∷ f ∷ []) ≡ Some (OverFarm f Check)
+check_after : (f : Text) → reading (codes "check" ∷ codes "--" ∷ f ∷ []) ≡ Some (OverFarm f (Check None))
 unfolding clap_on_literals
 check_after f = refl
 
-check_alone : (f : Text) → IsValue f → reading (codes "check" ∷ f ∷ []) ≡ Some (OverFarm f Check)
+check_alone : (f : Text) → IsValue f → reading (codes "check" ∷ f ∷ []) ≡ Some (OverFarm f (Check None))
 unfolding clap_on_literals
-check_alone f v = value_cases (λ a. reading (codes "check" ∷ a ∷ []) ≡ Some (OverFarm a Check)) refl refl (λ x xs e. simp e) f v
+check_alone f v = value_cases (λ a. reading (codes "check" ∷ a ∷ []) ≡ Some (OverFarm a (Check None))) refl refl (λ x xs e. simp e) f v
 
-check_before : (f : Text) → IsValue f → reading (codes "check" ∷ f ∷ codes "--" ∷ []) ≡ Some (OverFarm f Check)
+check_before : (f : Text) → IsValue f → reading (codes "check" ∷ f ∷ codes "--" ∷ []) ≡ Some (OverFarm f (Check None))
 unfolding clap_on_literals
-check_before f v = value_cases (λ a. reading (codes "check" ∷ a ∷ codes "--" ∷ []) ≡ Some (OverFarm a Check)) refl refl (λ x xs e. simp e) f v
+check_before f v = value_cases (λ a. reading (codes "check" ∷ a ∷ codes "--" ∷ []) ≡ Some (OverFarm a (Check None))) refl refl (λ x xs e. simp e) f v
 
 -- ---- commands that take a disk
 
@@ -390,19 +387,15 @@ unfolding clap_on_literals
 check_goes rest = command_goes (codes "check") rest (check_stops rest) refl refl refl refl refl
 
 answer_says : (rest : List Text) (command : Command) → Says (codes "answer") command rest → SaysCommand command (codes "answer" ∷ rest)
-answer_says rest (OverFarm farm Answer) says = (refl, says.1)
+answer_says rest (OverFarm farm (Answer disk)) says = let is : says.0 ≡ disk = cc in (refl, subst (λ (d : Option Text). Gives farm d rest) is says.2)
 answer_says rest (OverFarm farm Expand) says = cc
-answer_says rest (OverFarm farm Check) says = cc
-answer_says rest (OverDisk farm disk over.Answer) says = (refl, says.1)
-answer_says rest (OverDisk farm disk over.Check) says = cc
+answer_says rest (OverFarm farm (Check disk)) says = cc
 answer_says rest (Sign signing) says = tt
 
 check_says : (rest : List Text) (command : Command) → Says (codes "check") command rest → SaysCommand command (codes "check" ∷ rest)
-check_says rest (OverFarm farm Answer) says = cc
+check_says rest (OverFarm farm (Answer disk)) says = cc
 check_says rest (OverFarm farm Expand) says = cc
-check_says rest (OverFarm farm Check) says = (refl, says.1)
-check_says rest (OverDisk farm disk over.Answer) says = cc
-check_says rest (OverDisk farm disk over.Check) says = (refl, says.1)
+check_says rest (OverFarm farm (Check disk)) says = let is : says.0 ≡ disk = cc in (refl, subst (λ (d : Option Text). Gives farm d rest) is says.2)
 check_says rest (Sign signing) says = tt
 
 answer_said : (rest : List Text) (command : Command) → All IsUtf8 rest → reading (codes "answer" ∷ rest) ≡ Some command → SaysCommand command (codes "answer" ∷ rest)
@@ -420,7 +413,6 @@ taken false o command e = absurd (none_some command e)
 sign_command : (o : Option Signing) (words : List Text) (command : Command) → option_map (λ s. Sign s) o ≡ Some command → SaysCommand command words
 sign_command None words command e = absurd (none_some command e)
 sign_command (Some s) words (OverFarm farm work) e = cc
-sign_command (Some s) words (OverDisk farm disk work) e = cc
 sign_command (Some s) words (Sign signing) e = tt
 
 sign_said : (rest : List Text) (command : Command) → reading (codes "sign" ∷ rest) ≡ Some command → SaysCommand command (codes "sign" ∷ rest)
@@ -454,16 +446,15 @@ given_read name of f rest alone after before (inr (inr p)) = subst (λ words. re
 
 pub said_read : (words : List Text) (farm : Text) (work : Work) → SaysWork farm work words → reading words ≡ Some (OverFarm farm work)
 said_read [] farm work says = absurd says
-said_read (w ∷ rest) f Answer says =
-    subst (λ a. reading (a ∷ rest) ≡ Some (OverFarm f Answer)) (sym says.0) (given_read (codes "answer") (λ f. OverFarm f Answer) f rest (answer_alone f) (answer_after f) (answer_before f) says.1)
+said_read (w ∷ rest) f (Answer None) says =
+    subst (λ a. reading (a ∷ rest) ≡ Some (OverFarm f (Answer None))) (sym says.0)
+    (given_read (codes "answer") (λ f. OverFarm f (Answer None)) f rest (answer_alone f) (answer_after f) (answer_before f) says.1)
+said_read (w ∷ rest) f (Answer (Some d)) says =
+    subst (λ a. reading (a ∷ rest) ≡ Some (OverFarm f (Answer (Some d)))) (sym says.0) (answer_goes rest ∙ both_read (codes "answer") f d rest says.1)
 said_read (w ∷ rest) f Expand says =
     subst (λ a. reading (a ∷ rest) ≡ Some (OverFarm f Expand)) (sym says.0) (given_read (codes "expand") (λ f. OverFarm f Expand) f rest (expand_alone f) (expand_after f) (expand_before f) says.1)
-said_read (w ∷ rest) f Check says =
-    subst (λ a. reading (a ∷ rest) ≡ Some (OverFarm f Check)) (sym says.0) (given_read (codes "check") (λ f. OverFarm f Check) f rest (check_alone f) (check_after f) (check_before f) says.1)
-
-pub disk_said_read : (words : List Text) (farm disk : Text) (work : DiskWork) → SaysDiskWork farm disk work words → reading words ≡ Some (OverDisk farm disk work)
-disk_said_read [] farm disk work says = absurd says
-disk_said_read (w ∷ rest) f d over.Answer says =
-    subst (λ a. reading (a ∷ rest) ≡ Some (OverDisk f d over.Answer)) (sym says.0) (answer_goes rest ∙ both_read (codes "answer") f d rest says.1)
-disk_said_read (w ∷ rest) f d over.Check says =
-    subst (λ a. reading (a ∷ rest) ≡ Some (OverDisk f d over.Check)) (sym says.0) (check_goes rest ∙ both_read (codes "check") f d rest says.1)
+said_read (w ∷ rest) f (Check None) says =
+    subst (λ a. reading (a ∷ rest) ≡ Some (OverFarm f (Check None))) (sym says.0)
+    (given_read (codes "check") (λ f. OverFarm f (Check None)) f rest (check_alone f) (check_after f) (check_before f) says.1)
+said_read (w ∷ rest) f (Check (Some d)) says =
+    subst (λ a. reading (a ∷ rest) ≡ Some (OverFarm f (Check (Some d)))) (sym says.0) (check_goes rest ∙ both_read (codes "check") f d rest says.1)

@@ -1,17 +1,14 @@
 -- The command that matches name.
-use Rattle.std.proofs.Common.{◌≡◌, ◌∙◌, refl, sym, ap, subst, List, Option, Some, None, Box, Result, Ok, Err, option_map, option_and_then, codes}
-use Rattle.std.specs.Prelude.{MatchResult}
+use Rattle.std.proofs.Common.{◌≡◌, ◌∙◌, refl, sym, ap, List, Option, Some, None, Box, option_map, option_and_then, codes}
+use Rattle.std.specs.Borrow.{Bor}
 use Rattle.std.specs.Box.{box_value}
 use Rattle.clap.specs.Words.{Row, Text, first_of, first_value, found_of, rows_of, subcommand_rows, subcommand_rows_of, subcommand_name_of}
 use Rattle.clap.specs.declared.ArgMatches.{ArgMatches}
 use Rattle.clap.specs.declared.parser.matches.SubCommand.{SubCommand}
 use Rattle.clap.specs.declared.parser.matches.ArgMatches.TheViews.{out-ArgMatches, out-SubCommand}
 use Rattle.clap.proofs.WalkLemmas.{first_value-rows}
-use Rattle.command_line.specs.Words.{command_in, disk_work_named, over, over_disk, over_farm, work_in, work_named}
-use Rattle.command_line.specs.Refusal.{Refuses}
-use Rattle.command_line.specs.declared.command.Command.{Command}
-use Rattle.command_line.specs.declared.reading.WordsFault.{WordsFault}
-use Rattle.command_line.specs.declared.command.Command.TheVariants.{OverDisk, OverFarm}
+use Rattle.command_line.specs.Words.{command_in, work_in, work_named}
+use Rattle.command_line.specs.declared.command.Command.TheVariants.{OverFarm}
 
 met : {Z : Type 0} (o : Option (Box SubCommand Z)) (name : Text) (rows : List Row) → option_map (λ b. (out-SubCommand (box_value b)).name.now) o ≡ Some name
     → option_map (λ p. p.1) (subcommand_rows o) ≡ Some rows → subcommand_rows o ≡ Some (name, rows)
@@ -32,24 +29,17 @@ command_met m inner name is = ap (option_and_then command_in) is
 pub value_met : (m : ArgMatches) (id : Text) (value : Option Text) → value ≡ first_value (found_of m) id → value ≡ first_of id (rows_of (found_of m))
 value_met m id value is = is ∙ first_value-rows (found_of m) id
 
--- no work has this name
-pub farm_unnamed : (name farm : Text) → None ≡ work_named name → over_farm name farm ≡ None
-farm_unnamed name farm none = ap (option_map (λ work. OverFarm farm work)) (sym none)
-
-pub disk_unnamed : (name farm disk : Text) → None ≡ disk_work_named name → over_disk name farm disk ≡ None
-disk_unnamed name farm disk none = ap (option_map (λ work. OverDisk farm disk work)) (sym none)
-
 -- the work over the values that are given
 pub work_given : (name farm : Text) (disk : Option Text) (rows : List Row) → Some farm ≡ first_of (codes "FARM") rows → disk ≡ first_of (codes "disk") rows
-    → work_in name rows ≡ over name farm disk
+    → work_in name rows ≡ option_map (λ work. OverFarm farm work) (work_named name disk)
 work_given name farm disk rows has gives =
-    ap (option_and_then (λ (f : Text). over name f (first_of (codes "disk") rows))) (sym has) ∙ ap (over name farm) (sym gives)
+    ap (option_and_then (λ (f : Text). option_map (λ work. OverFarm f work) (work_named name (first_of (codes "disk") rows)))) (sym has)
+    ∙ ap (λ (d : Option Text). option_map (λ work. OverFarm farm work) (work_named name d)) (sym gives)
 
 pub farm_missing : (name : Text) (rows : List Row) → None ≡ first_of (codes "FARM") rows → work_in name rows ≡ None
-farm_missing name rows none = ap (option_and_then (λ (f : Text). over name f (first_of (codes "disk") rows))) (sym none)
+farm_missing name rows none =
+    ap (option_and_then (λ (f : Text). option_map (λ work. OverFarm f work) (work_named name (first_of (codes "disk") rows)))) (sym none)
 
--- what is read so is read where it is the same
-pub read_alike : (one other : Option Command) (r : Result Command WordsFault) → one ≡ other → MatchResult r (λ command. other ≡ Some command) (Refuses other)
-    → MatchResult r (λ command. one ≡ Some command) (Refuses one)
-read_alike one other (Ok command) is read = is ∙ read
-read_alike one other (Err fault) is read = subst (λ (o : Option Command). Refuses o fault) (sym is) read
+-- an option that is told as one of texts
+pub texts_met : (m : ArgMatches) (id : Text) (value : Option (Bor Text)) → option_map (λ t. t.now) value ≡ first_value (found_of m) id → option_map (λ t. t.now) value ≡ first_of id (rows_of (found_of m))
+texts_met m id value is = is ∙ first_value-rows (found_of m) id

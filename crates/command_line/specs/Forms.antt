@@ -1,9 +1,8 @@
 -- The lists of words that say a command, by the usual reading of `-` and `--`
 -- (https://pubs.opengroup.org/onlinepubs/9799919799/basedefs/V1_chap12.html).
-use Rattle.std.specs.Prelude.{◌≡◌, ◌⊎◌, ℕ, List, [], ◌∷◌, ◌++◌, codes}
-use Rattle.command_line.specs.Words.{IsPlain, disk_name_of, name_of}
+use Rattle.std.specs.Prelude.{◌≡◌, ◌⊎◌, ℕ, List, [], ◌∷◌, ◌++◌, codes, Option, Some, None}
+use Rattle.command_line.specs.Words.{IsPlain, disk_of, name_of}
 use Rattle.command_line.specs.declared.command.Work.{Work}
-use Rattle.command_line.specs.declared.command.DiskWork.{DiskWork}
 
 -- the word may stand for a value as it is: it does not begin with `-`, or is `-` alone
 abbrev pub IsValue : List ℕ → Type 0
@@ -13,11 +12,6 @@ IsValue word = IsPlain word ⊎ (word ≡ codes "-")
 abbrev pub GivesValue : List ℕ → List (List ℕ) → Type 0
 GivesValue value words =
     (IsValue value × (words ≡ value ∷ [])) ⊎ ((words ≡ codes "--" ∷ value ∷ []) ⊎ (IsValue value × (words ≡ value ∷ codes "--" ∷ [])))
-
--- the words are the name of this work, and then give its farm file
-abbrev pub SaysWork : List ℕ → Work → List (List ℕ) → Type 0
-SaysWork farm work [] = ⊥
-SaysWork farm work (first ∷ rest) = (first ≡ name_of work) × GivesValue farm rest
 
 -- the words give the disk: its name behind `--disk`, or behind `--disk=`
 abbrev pub GivesDisk : List ℕ → List (List ℕ) → Type 0
@@ -33,7 +27,12 @@ GivesBoth farm disk words =
     (given : List (List ℕ)) × (rest : List (List ℕ)) × GivesDisk disk given
     × (((words ≡ given ++ rest) × GivesValue farm rest) ⊎ (IsValue farm × (words ≡ farm ∷ given ++ rest) × EndsOptions rest))
 
--- the words are the name of this work over a disk, and then give its farm file and its disk
-abbrev pub SaysDiskWork : List ℕ → List ℕ → DiskWork → List (List ℕ) → Type 0
-SaysDiskWork farm disk work [] = ⊥
-SaysDiskWork farm disk work (first ∷ rest) = (first ≡ disk_name_of work) × GivesBoth farm disk rest
+-- the words give the farm file, and the disk where there is one
+abbrev pub Gives : List ℕ → Option (List ℕ) → List (List ℕ) → Type 0
+Gives farm None words = GivesValue farm words
+Gives farm (Some disk) words = GivesBoth farm disk words
+
+-- the words are the name of this work, and then give its farm file and its disk
+abbrev pub SaysWork : List ℕ → Work → List (List ℕ) → Type 0
+SaysWork farm work [] = ⊥
+SaysWork farm work (first ∷ rest) = (first ≡ name_of work) × Gives farm (disk_of work) rest

@@ -5,11 +5,9 @@ use Rattle.clap.specs.Words.{App, Row, Rule, first_of, new_app, new_rule, subcom
 use Rattle.clap.specs.Walk.{is_empty}
 use Rattle.command_line.specs.Signing.{option_rule, sign_app, signing_in}
 use Rattle.command_line.specs.declared.command.Command.{Command}
-use Rattle.command_line.specs.declared.command.Command.TheVariants.{OverFarm, OverDisk, Sign}
+use Rattle.command_line.specs.declared.command.Command.TheVariants.{OverFarm, Sign}
 use Rattle.command_line.specs.declared.command.Work.{Work}
 use Rattle.command_line.specs.declared.command.Work.TheVariants.{Answer, Expand, Check}
-use Rattle.command_line.specs.declared.command.DiskWork.{DiskWork}
-use Rattle.command_line.specs.declared.command.DiskWork.TheVariants as on_disk
 
 -- FARM: a required word in its place
 abbrev pub farm_argument : Rule
@@ -35,36 +33,18 @@ farm_app =
     with_subcommand (with_subcommand (with_subcommand (with_subcommand bare (with_disk (codes "answer")).top) (with_farm (codes "expand")).top) (with_disk (codes "check")).top)
     sign_app.top
 
--- the work of a name
-abbrev pub work_named : List ℕ → Option Work
-work_named name =
-    if bytes_eq name (codes "answer") then Some Answer
+-- the work of a name, with this disk
+abbrev pub work_named : List ℕ → Option (List ℕ) → Option Work
+work_named name disk =
+    if bytes_eq name (codes "answer") then Some (Answer disk)
     else if bytes_eq name (codes "expand") then Some Expand
-    else if bytes_eq name (codes "check") then Some Check
+    else if bytes_eq name (codes "check") then Some (Check disk)
     else None
 
--- the work over a disk of a name
-abbrev pub disk_work_named : List ℕ → Option DiskWork
-disk_work_named name =
-    if bytes_eq name (codes "answer") then Some on_disk.Answer
-    else if bytes_eq name (codes "check") then Some on_disk.Check
-    else None
-
--- the work of a name, over this farm file; and over this disk
-abbrev pub over_farm : List ℕ → List ℕ → Option Command
-over_farm name farm = option_map (λ work. OverFarm farm work) (work_named name)
-
-abbrev pub over_disk : List ℕ → List ℕ → List ℕ → Option Command
-over_disk name farm disk = option_map (λ work. OverDisk farm disk work) (disk_work_named name)
-
--- it is over a disk where one is given
-abbrev pub over : List ℕ → List ℕ → Option (List ℕ) → Option Command
-over name farm None = over_farm name farm
-over name farm (Some disk) = over_disk name farm disk
-
--- the work of a name, over the farm file that is given, and the disk
+-- the work of a name, over the farm file and the disk that are given
 abbrev pub work_in : List ℕ → List Row → Option Command
-work_in name rows = option_and_then (λ farm. over name farm (first_of (codes "disk") rows)) (first_of (codes "FARM") rows)
+work_in name rows =
+    option_and_then (λ farm. option_map (λ work. OverFarm farm work) (work_named name (first_of (codes "disk") rows))) (first_of (codes "FARM") rows)
 
 -- the command of a subcommand's name and matches
 abbrev pub command_in : List ℕ × List Row → Option Command
@@ -82,15 +62,16 @@ reading words = if are_taken words then option_and_then command_in (subcommand_o
 
 -- the name of the command that does this work
 abbrev pub name_of : Work → List ℕ
-name_of Answer = codes "answer"
+name_of (Answer disk) = codes "answer"
 name_of Expand = codes "expand"
-name_of Check = codes "check"
+name_of (Check disk) = codes "check"
+
+-- the disk that it has
+abbrev pub disk_of : Work → Option (List ℕ)
+disk_of (Answer disk) = disk
+disk_of Expand = None
+disk_of (Check disk) = disk
 
 -- the word does not begin with `-` (45)
 abbrev pub IsPlain : List ℕ → Type 0
 IsPlain word = slice_get word 0 ≢ Some 45
-
--- the name of the command that does this work over a disk
-abbrev pub disk_name_of : DiskWork → List ℕ
-disk_name_of on_disk.Answer = codes "answer"
-disk_name_of on_disk.Check = codes "check"

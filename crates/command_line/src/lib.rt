@@ -8,9 +8,7 @@ mod reading;
 mod signing;
 mod values;
 
-pub use command::{Command, DiskWork, Work};
-pub use laws::{
-    plain_words_are_read, words_that_say_a_command_are_read, words_that_say_a_disk_are_read,
-};
+pub use command::{Command, Work};
+pub use laws::{plain_words_are_read, words_that_say_a_command_are_read};
 pub use reading::{WordsFault, read_words};
 pub use signing::Signing;

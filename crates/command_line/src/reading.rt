@@ -1,11 +1,11 @@
 //! What the words ask for, or clap's text where they ask for nothing.
-ghost use Rattle.std.specs.Prelude.{◌≡◌, Some, IfOk, MatchResult, Option, List, map, option_and_then, string_bytes};
+ghost use Rattle.std.specs.Prelude.{◌≡◌, Some, IfOk, MatchResult, Option, List, map, option_map, option_and_then, string_bytes};
 ghost use Rattle.clap.specs.Words.{found_of, kind_of, rows_of, subcommand_rows_of};
 ghost use Rattle.command_line.specs.Parts.{TellsOf};
 ghost use Rattle.command_line.specs.Refusal.{Refuses, RefusesWords};
-ghost use Rattle.command_line.specs.Words.{command_in, disk_work_named, over_disk, over_farm, work_in, work_named, reading};
+ghost use Rattle.command_line.specs.Words.{command_in, work_in, work_named, reading};
 
-use crate::command::{Command, DiskWork, Work};
+use crate::command::{Command, Work};
 use crate::program;
 use crate::signing::read_signing;
 use clap::ArgMatches;
@@ -76,7 +76,7 @@ fn command_of(alloc: Global, matches: &ArgMatches<'_>) -> Result<Command, WordsF
     read_work(alloc, name, inner)
 }
 
-/// The work of this name, over the farm file that the matches give, and over the disk where they give one.
+/// The work of this name, over the farm file and the disk that the matches give.
 fn read_work(alloc: Global, name: &str, matches: &ArgMatches<'_>) -> Result<Command, WordsFault>
     ensures { MatchResult result
         (λ command. work_in name.now (rows_of (found_of matches.now)) ≡ Some command)
@@ -85,65 +85,39 @@ fn read_work(alloc: Global, name: &str, matches: &ArgMatches<'_>) -> Result<Comm
     let Some(farm) = matches.get_str("FARM") else {
         return Err(WordsFault::usage(alloc, "error: the words name no farm file\n"));
     };
-    match matches.get_str("disk") {
-        Some(disk) => over_disk(alloc, name, farm, disk),
-        None => over_farm(alloc, name, farm),
-    }
-}
-
-/// The work of this name, over this farm file.
-fn over_farm(alloc: Global, name: &str, farm: &str) -> Result<Command, WordsFault>
-    ensures { MatchResult result (λ command. over_farm name.now farm.now ≡ Some command) (Refuses (over_farm name.now farm.now)) }
-{
-    let Some(work) = work_named(name) else {
-        return Err(WordsFault::usage(alloc, "error: the words name no command\n"));
+    let (farm, disk) = match texts_of(alloc, farm, matches.get_str("disk")) {
+        Ok(texts) => texts,
+        Err(AllocError) => return Err(WordsFault::NoMemory),
     };
-    match Text::from_str(alloc, farm) {
-        Ok(farm) => Ok(Command::OverFarm { farm, work }),
-        Err(AllocError) => Err(WordsFault::NoMemory),
+    match work_named(name, disk) {
+        Some(work) => Ok(Command::OverFarm { farm, work }),
+        None => Err(WordsFault::usage(alloc, "error: the words name no command\n")),
     }
 }
 
-/// The work of this name, over this farm file and this disk.
-fn over_disk(alloc: Global, name: &str, farm: &str, disk: &str) -> Result<Command, WordsFault>
-    ensures { MatchResult result (λ command. over_disk name.now farm.now disk.now ≡ Some command) (Refuses (over_disk name.now farm.now disk.now)) }
+/// Copies of a text, and of another where there is one.
+fn texts_of(
+    alloc: Global,
+    one: &str,
+    other: Option<&str>,
+) -> Result<(Text, Option<Text>), AllocError>
+    ensures { IfOk result (λ texts. (texts.0 ≡ one.now) × (texts.1 ≡ option_map (λ t. t.now) other.entry)) }
 {
-    let Some(work) = disk_work_named(name) else {
-        return Err(WordsFault::usage(alloc, "error: the words name no command over a disk\n"));
-    };
-    match texts_of(alloc, farm, disk) {
-        Ok((farm, disk)) => Ok(Command::OverDisk { farm, disk, work }),
-        Err(AllocError) => Err(WordsFault::NoMemory),
+    let one = Text::from_str(alloc, one)?;
+    match other {
+        Some(other) => Ok((one, Some(Text::from_str(alloc, other)?))),
+        None => Ok((one, None)),
     }
 }
 
-/// Copies of both.
-fn texts_of(alloc: Global, farm: &str, disk: &str) -> Result<(Text, Text), AllocError>
-    ensures { IfOk result (λ texts. (texts.0 ≡ farm.now) × (texts.1 ≡ disk.now)) }
-{
-    let farm = Text::from_str(alloc, farm)?;
-    Ok((farm, Text::from_str(alloc, disk)?))
-}
-
-/// The work of this name.
-fn work_named(name: &str) -> Option<Work>
-    ensures { result ≡ work_named name.now }
+/// The work of this name, with this disk.
+fn work_named(name: &str, disk: Option<Text>) -> Option<Work>
+    ensures { result ≡ work_named name.now disk }
 {
     match name {
-        "answer" => Some(Work::Answer),
+        "answer" => Some(Work::Answer { disk }),
         "expand" => Some(Work::Expand),
-        "check" => Some(Work::Check),
-        _ => None,
-    }
-}
-
-/// The work over a disk of this name.
-fn disk_work_named(name: &str) -> Option<DiskWork>
-    ensures { result ≡ disk_work_named name.now }
-{
-    match name {
-        "answer" => Some(DiskWork::Answer),
-        "check" => Some(DiskWork::Check),
+        "check" => Some(Work::Check { disk }),
         _ => None,
     }
 }

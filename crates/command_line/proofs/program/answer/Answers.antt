@@ -1,6 +1,6 @@
-use Rattle.std.proofs.Common.{◌≡◌, codes, true, false, rules}
+use Rattle.std.proofs.Common.{codes, rules}
 use Rattle.std.proofs.lemmas.Result.{IfOk-weaker}
-use Rattle.clap.specs.Words.{App, new_app, with_rule}
+use Rattle.clap.specs.Words.{new_app}
 use Rattle.command_line.specs.Parts.{IsPlainLeaf}
 use Rattle.command_line.proofs.OptionLemmas.{with_one}
 use Rattle.command_line.proofs.program.answer.Goals as goal
