@@ -3,6 +3,7 @@ ghost use Rattle.std.specs.Prelude.{◌≡◌, ◌≤◌, false};
 ghost use Rattle.farm_text.specs.declared.moment.TheConstants.{LAST_TOLD_MOMENT};
 ghost use Rattle.farm_machine.specs.Changes.{moment_of as moment_by};
 ghost use Rattle.farm_rows.specs.Due.{is_due};
+ghost use Rattle.farm_rows.specs.Summary.{summary_of};
 ghost use Rattle.farm_machine.specs.State.{working, empty_state};
 ghost use Rattle.farm_core.specs.Bare.{IsResolved, IsPerformed};
 
@@ -13,6 +14,7 @@ use farm_machine::question::Question;
 use farm_machine::reply::{Asked, Reply};
 use farm_machine::step::{apply, moment_of, plan};
 use farm_machine::tables::{Tables, due, tick};
+use farm_rows::Summary;
 use farm_text::Moment;
 use std::alloc::Global;
 use std::marker::Model;
@@ -47,6 +49,13 @@ impl Bare {
             config,
             tables: Tables::new(alloc),
         }
+    }
+
+    /// How the tasks of the farm stand, counted.
+    pub fn summary(&self) -> Summary
+        ensures { result ≡ summary_of self.now.contents.rows }
+    {
+        self.tables.summary()
     }
 }
 

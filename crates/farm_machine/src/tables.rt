@@ -8,12 +8,13 @@ ghost use Rattle.farm_rows.specs.Due.{is_due, advance};
 ghost use Rattle.farm_rows.specs.Lists.{is_listed, listed, names_listed, page_rows, has_more};
 ghost use Rattle.farm_rows.specs.Picks.{picks, waits_in};
 ghost use Rattle.farm_rows.specs.Plans.{IsPlanOn};
+ghost use Rattle.farm_rows.specs.Summary.{summary_of};
 ghost use Rattle.farm_rows.specs.Waits.{missing_dependency, early_dependency};
 ghost use Rattle.farm_machine.specs.Calls.CreateTask.{scheduler_besides};
 ghost use Rattle.farm_machine.specs.Changes.{reached};
 
 use farm_record::{Change, Creation, RunName};
-use farm_rows::{Page, TaskList, TaskPlan, TaskTables};
+use farm_rows::{Page, Summary, TaskList, TaskPlan, TaskTables};
 use farm_text::{Moment, SlugId};
 use run_states::TaskRow;
 use std::alloc::{AllocError, Global};
@@ -61,6 +62,13 @@ impl Tables {
         ensures { result ≡ length self.now.rows }
     {
         self.tasks.counts().rows
+    }
+
+    /// How the tasks stand, counted.
+    pub fn summary(&self) -> Summary
+        ensures { result ≡ summary_of self.now.rows }
+    {
+        self.tasks.summary()
     }
 
     /// The task with this id.

@@ -25,3 +25,4 @@ pub mod WaitLemmas
 pub mod PageLemmas
 pub mod ListLemmas
 pub mod ServedLemmas
+pub mod SummaryLemmas

@@ -15,6 +15,7 @@ mod plan;
 mod room;
 mod settle;
 mod shown;
+mod summary;
 mod sweep;
 mod tables;
 mod turns;
@@ -31,4 +32,5 @@ pub use laws::{
 pub use lists::{Page, TaskList};
 pub use moves::reason_of;
 pub use plan::TaskPlan;
+pub use summary::Summary;
 pub use tables::{MOST_TASKS, TaskTables};

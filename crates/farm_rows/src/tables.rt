@@ -10,6 +10,7 @@ ghost use Rattle.farm_rows.specs.Waits.{missing_dependency, early_dependency};
 ghost use Rattle.farm_rows.specs.Lists.{is_listed, listed, names_listed, page_rows, has_more};
 ghost use Rattle.farm_rows.specs.Plans.{named_rows, IsPlanOn};
 ghost use Rattle.farm_rows.specs.Deeds.{kind_of, change_of, row_of, planned_of, claims_of, rows_after};
+ghost use Rattle.farm_rows.specs.Summary.{summary_of};
 ghost use Rattle.farm_rows.specs.Sweep.{all_turns};
 
 use crate::checks::{
@@ -24,6 +25,7 @@ use crate::plan::{Deed, TaskPlan};
 use crate::room::{add, grown};
 use crate::settle::settle_new;
 use crate::shown::shown;
+use crate::summary::{Summary, summary_of};
 use crate::sweep::{soonest, soonest_with};
 use crate::turns::resolve_due;
 use crate::waits::{early_dependency, missing_dependency, waits_well};
@@ -142,6 +144,13 @@ impl TaskTables {
         ensures { result ≡ count_by (waits_in queue.now) self.now.rows }
     {
         pending(&self.rows, queue) as u32
+    }
+
+    /// How the tasks stand, counted.
+    pub fn summary(&self) -> Summary
+        ensures { result ≡ summary_of self.now.rows }
+    {
+        summary_of(&self.rows)
     }
 
     /// The runs that are claimed next in a queue, so many, or all that wait.

@@ -44,18 +44,45 @@ pub fn serve_connection<
         (outside_of L.Link C.Clock R.Draws G.Gate link.new clock.new draws.new gate.new)
         result }
 {
+    match Table::new(alloc) {
+        Ok(table) => serve_routed(alloc, &table, link, desk, clock, draws, gate),
+        Err(_) => Served::NoMemory,
+    }
+}
+
+/// The same with a table of routes that is there, so that it is made once where many connections are served.
+pub fn serve_routed<
+    L: Link,
+    K: Desk<Question = Question, Answer = Asked, Law = Farm>,
+    C: Clock,
+    R: Draws,
+    G: Gate,
+>(
+    alloc: Global,
+    table: &Table,
+    link: &mut L,
+    desk: &mut K,
+    clock: &mut C,
+    draws: &mut R,
+    gate: &mut G,
+) -> Served
+    requires { REQUESTS ≤ K.spare desk.old }
+    ensures home { K.home desk.new ≡ K.home desk.old }
+    ensures serves { Serves
+        (record { stands = K.stands desk.old; spare = K.spare desk.old })
+        (record { stands = K.stands desk.new; spare = K.spare desk.new })
+        (outside_of L.Link C.Clock R.Draws G.Gate link.old clock.old draws.old gate.old)
+        (outside_of L.Link C.Clock R.Draws G.Gate link.new clock.new draws.new gate.new)
+        result }
+{
     let mut reader = match Reader::new(alloc) {
         Ok(reader) => reader,
-        Err(_) => return Served::NoMemory,
-    };
-    let table = match Table::new(alloc) {
-        Ok(table) => table,
         Err(_) => return Served::NoMemory,
     };
     'requests: for place in 0..REQUESTS {
         let ended = turn(
             alloc,
-            &table,
+            table,
             &mut reader,
             place,
             link,

@@ -6,7 +6,7 @@ mod gate;
 mod served;
 mod write;
 
-pub use connection::serve_connection;
+pub use connection::{serve_connection, serve_routed};
 pub use gate::{Gate, NoGate, When};
 pub use served::{REQUESTS, Served, a_connection_serves_a_thousand};
 

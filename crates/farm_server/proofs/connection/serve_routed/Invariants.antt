@@ -3,7 +3,7 @@ use Rattle.std.specs.Io.KnownBytes.{prepend_known}
 use Rattle.farm_server.specs.Served.{Outside, ServesWithin}
 use Rattle.farm_server.specs.declared.served.Served.{Served}
 use Rattle.farm_server.specs.declared.served.TheConstants.{REQUESTS}
-use Rattle.farm_server.proofs.connection.serve_connection.Given as goal
+use Rattle.farm_server.proofs.connection.serve_routed.Given as goal
 
 -- whatever follows, with the room that is left, makes the whole
 abbrev pub invariant-requests : goal.invariant-requests

@@ -1,5 +1,0 @@
-use Rattle.api_routes.proofs.QueueLemmas.{queue_text}
-use Rattle.api_routes.proofs.posts.queue_of.Goals as goal
-
-pub returns-in-Err : goal.returns-in-Err
-returns-in-Err c = λ queue. c.in-Err.ensures.cases.0 (queue_text c.args.name.now queue)

@@ -1,0 +1,51 @@
+//! How the tasks of a farm stand, counted.
+ghost use Rattle.std.specs.Prelude.{◌≡◌, ◌≤◌, length, count_by, sum_by};
+ghost use Rattle.farm_rows.specs.Summary.{is_in, summary_of};
+
+use run_states::{RunState, TaskRow};
+
+/// How many tasks there are, how many of them stand in each of these states, and how many runs they have, all together.
+#[derive(Clone, Copy, Debug, PartialEq, Eq)]
+pub struct Summary {
+    pub tasks: u32,
+    pub completed: u32,
+    pub failed: u32,
+    pub exception: u32,
+    pub unscheduled: u32,
+    pub runs: u32,
+}
+
+/// The summary of these tasks.
+pub(crate) fn summary_of(rows: &[TaskRow]) -> Summary
+    requires { length rows.now ≤ 1_000_000 }
+    ensures { result ≡ summary_of rows.now }
+{
+    Summary {
+        tasks: rows.len() as u32,
+        completed: standing(rows, Some(RunState::Completed)) as u32,
+        failed: standing(rows, Some(RunState::Failed)) as u32,
+        exception: standing(rows, Some(RunState::Exception)) as u32,
+        unscheduled: standing(rows, None) as u32,
+        runs: runs(rows),
+    }
+}
+
+/// How many tasks are in this state; those without a state are unscheduled.
+fn standing(rows: &[TaskRow], state: Option<RunState>) -> usize
+    ensures value { result ≡ count_by (is_in state) rows.now }
+    ensures few { result ≤ length rows.now }
+{
+    rows.iter().filter(|row| row.state() == state).count()
+}
+
+/// How many runs they have.
+fn runs(rows: &[TaskRow]) -> u32
+    requires { length rows.now ≤ 1_000_000 }
+    ensures { result ≡ sum_by (λ row. length row.runs) rows.now }
+{
+    let mut made = 0;
+    'rows: for row in rows {
+        made += row.runs().len() as u32;
+    }
+    made
+}
