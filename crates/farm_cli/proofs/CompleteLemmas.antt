@@ -99,7 +99,7 @@ finished bytes asks replies messages ending before after served.NoMemory list li
 
 -- ---- a command over a console that is there, and does not fail
 
-answers_all : {F C N T I : Type 0} (views : Views F C N T I) (old new : Lendings F C N T I) (config : Config) (status : Status) (console : C) (bytes : List ℕ) (messages : List Message) (ending : Ending)
+answers_all : {F S C N T I : Type 0} (views : Views F S C N T I) (old new : Lendings F S C N T I) (config : Config) (status : Status) (console : C) (bytes : List ℕ) (messages : List Message) (ending : Ending)
     → Conversed views old new config status
     → old.console ≡ Ready console → views.console_left console ≡ Some bytes → Messages REQUESTS bytes messages ending → NoConsoleFault views new console
     → (status ≡ NoMemory) ⊎ AnswersAll views new console config messages ending status
@@ -124,7 +124,7 @@ answers_all {C} views old new config status console bytes messages ending ran re
     ]
 
 -- what a known input gives was written, or it was refused
-turns_all : {F C N T I : Type 0} (views : Views F C N T I) (new : Lendings F C N T I) (Gives : List ℕ → List ℕ → Type 0) (IsBad : List ℕ → Type 0) (status : Status) (console console' : C) (input : List ℕ)
+turns_all : {F S C N T I : Type 0} (views : Views F S C N T I) (new : Lendings F S C N T I) (Gives : List ℕ → List ℕ → Type 0) (IsBad : List ℕ → Type 0) (status : Status) (console console' : C) (input : List ℕ)
     → status ≢ NoMemory → new.console ≡ Back console' → views.console_left console ≡ Some input
     → ¬ (Rose (views.console_read_faults console) (views.console_read_faults console')) → ¬ (Rose (views.console_write_faults console) (views.console_write_faults console'))
     → Turns Gives IsBad (talk_of views console) (talk_of views console') status
@@ -141,7 +141,7 @@ turns_all views new Gives IsBad NoMemory console console' input some came_back k
 turns_all views new Gives IsBad Wire console console' input some came_back known reads_well writes_well did = absurd did.4
 
 -- a text was written
-tells_all : {F C N T I : Type 0} (views : Views F C N T I) (new : Lendings F C N T I) (text : List ℕ) (status : Status) (console console' : C)
+tells_all : {F S C N T I : Type 0} (views : Views F S C N T I) (new : Lendings F S C N T I) (text : List ℕ) (status : Status) (console console' : C)
     → status ≢ NoMemory → new.console ≡ Back console' → ¬ (Rose (views.console_write_faults console) (views.console_write_faults console'))
     → Tells text (talk_of views console) (talk_of views console') status → WritesAll views new console text status
 tells_all views new text Done console console' some came_back writes_well did = record { done = refl; console' = console'; came_back = came_back; written = did.1.0 }
@@ -154,7 +154,7 @@ tells_all views new text Write console console' some came_back writes_well did =
 tells_all views new text NoMemory console console' some came_back writes_well did = absurd (some refl)
 tells_all views new text Wire console console' some came_back writes_well did = absurd did.1
 
-finishes : {F C N T I : Type 0} (views : Views F C N T I) (old new : Lendings F C N T I) (config : Config) (work : Work) (status : Status) (console : C)
+finishes : {F S C N T I : Type 0} (views : Views F S C N T I) (old new : Lendings F S C N T I) (config : Config) (work : Work) (status : Status) (console : C)
     → status ≢ NoMemory → Obeyed views old new config work status → old.console ≡ Ready console → NoConsoleFault views new console
     → Finishes views new console config work status
 finishes views old new config Answer status console some ran ready well = λ bytes messages ending known list.
@@ -173,7 +173,7 @@ finishes {C} views old new config Check status console some ran ready well =
     tells_all views new (check_text config) status console ran.back some came_back (well.writes ran.back came_back)
     (subst (λ (x : C). Checks config (talk_of views x) (talk_of views ran.back) status) given ran.did)
 
-finishes_signing : {F C N T I : Type 0} (views : Views F C N T I) (new : Lendings F C N T I) (signing : Signing) (kind : Option (List ℕ)) (status : Status) (console console' : C)
+finishes_signing : {F S C N T I : Type 0} (views : Views F S C N T I) (new : Lendings F S C N T I) (signing : Signing) (kind : Option (List ℕ)) (status : Status) (console console' : C)
     → status ≢ NoMemory → new.console ≡ Back console' → NoConsoleFault views new console → SignsAs signing kind (talk_of views console) (talk_of views console') status
     → FinishesSigning views new console signing kind status
 finishes_signing views new signing None status console console' some came_back well did =
@@ -207,12 +207,12 @@ words_taken said command status asked (inl none) = none
 words_taken said command status asked (inr usage) = absurd (no_command said command asked usage.1)
 
 -- a command was run over the file that the house has
-record Opened {F C N T I : Type 0} (views : Views F C N T I) (old new : Lendings F C N T I) (work : Work) (file : F) (status : Status) : Type 0 where
+record Opened {F S C N T I : Type 0} (views : Views F S C N T I) (old new : Lendings F S C N T I) (work : Work) (file : F) (status : Status) : Type 0 where
   closed : F
   came_back : new.file ≡ back closed
   ran : RanOverFile views old new work file closed status
 
-opened_over : {F C N T I : Type 0} (views : Views F C N T I) (old new : Lendings F C N T I) (before now : ℕ) (said : Option Command) (work : Work) (file : F) (status : Status) (has : HasFile old said work (holds file))
+opened_over : {F S C N T I : Type 0} (views : Views F S C N T I) (old new : Lendings F S C N T I) (before now : ℕ) (said : Option Command) (work : Work) (file : F) (status : Status) (has : HasFile old said work (holds file))
     → RanOver views old new before now has.farm work status → Opened views old new work file status
 opened_over {F} views old new before now said work file status has over =
     let is = rw (has.files, has.there) at over.file.could in
@@ -223,14 +223,14 @@ opened_over {F} views old new before now said work file status has over =
     }
 
 -- the run of the command that the words ask for
-run_of : {F C N T I : Type 0} (views : Views F C N T I) (old new : Lendings F C N T I) (before now : ℕ) (said : Option Command) (command : Command) (status : Status)
+run_of : {F S C N T I : Type 0} (views : Views F S C N T I) (old new : Lendings F S C N T I) (before now : ℕ) (said : Option Command) (command : Command) (status : Status)
     → said ≡ Some command → Ran views old new before now said status → (status ≡ NoMemory) ⊎ RanCommand views old new before now command status
 run_of views old new before now said command status asked (inl refused) = inl (words_taken said command status asked refused.why)
 run_of views old new before now said command status asked (inr ran) =
     let same : ran.0 ≡ command = same_command said ran.0 command ran.1 asked in
     inr (subst (λ c. RanCommand views old new before now c status) same ran.2)
 
-over_file : {F C N T I : Type 0} (views : Views F C N T I) (old new : Lendings F C N T I) (before now : ℕ) (said : Option Command) (work : Work) (file : F) (status : Status)
+over_file : {F S C N T I : Type 0} (views : Views F S C N T I) (old new : Lendings F S C N T I) (before now : ℕ) (said : Option Command) (work : Work) (file : F) (status : Status)
     → HasFile old said work (holds file) → ¬ (Rose before now) → Ran views old new before now said status
     → (status ≡ NoMemory) ⊎ Opened views old new work file status
 over_file views old new before now said work file status has well ran =
@@ -253,7 +253,7 @@ refused_by left before now Opening why well = absurd why
 refused_by left before now Write why well = absurd why
 refused_by left before now Wire why well = absurd why
 
-completes_over : {F C N T I : Type 0} (views : Views F C N T I) (old new : Lendings F C N T I) (before now : ℕ) (work : Work) (file : F) (bytes : List ℕ) (console : C) (status : Status)
+completes_over : {F S C N T I : Type 0} (views : Views F S C N T I) (old new : Lendings F S C N T I) (before now : ℕ) (work : Work) (file : F) (bytes : List ℕ) (console : C) (status : Status)
     → Opened views old new work file status → views.file_left file ≡ Some bytes → ¬ HasFault bytes → NoFileFault views new before now file
     → old.console ≡ Ready console → NoConsoleFault views new console
     → (status ≡ NoMemory) ⊎ ((config : Config) × SetsUp bytes config × Finishes views new console config work status)
@@ -269,7 +269,7 @@ completes_over views old new before now work file bytes console status opened le
       ]
     ]
 
-refuses_over : {F C N T I : Type 0} (views : Views F C N T I) (old new : Lendings F C N T I) (before now : ℕ) (work : Work) (file : F) (bytes : List ℕ) (status : Status)
+refuses_over : {F S C N T I : Type 0} (views : Views F S C N T I) (old new : Lendings F S C N T I) (before now : ℕ) (work : Work) (file : F) (bytes : List ℕ) (status : Status)
     → Opened views old new work file status → views.file_left file ≡ Some bytes → HasFault bytes → NoFileFault views new before now file
     → (status ≡ NoMemory) ⊎ (status ≡ FarmFile)
 refuses_over views old new before now work file bytes status opened left fault well =
@@ -281,7 +281,7 @@ refuses_over views old new before now work file bytes status opened left fault w
       ]
     ]
 
-pub Completes-from_run : {F C N T I : Type 0} (views : Views F C N T I) (old new : Lendings F C N T I) (before now : ℕ) (said : Option Command) (status : Status)
+pub Completes-from_run : {F S C N T I : Type 0} (views : Views F S C N T I) (old new : Lendings F S C N T I) (before now : ℕ) (said : Option Command) (status : Status)
     → Ran views old new before now said status → Completes views old new before now said status
 Completes-from_run views old new before now said status ran = λ work file bytes console has left sound well ready console_well.
     elim (over_file views old new before now said work file status has well.openings ran) [
@@ -289,7 +289,7 @@ Completes-from_run views old new before now said status ran = λ work file bytes
       | inr opened ↦ completes_over views old new before now work file bytes console status opened left sound well ready console_well
     ]
 
-pub RefusesFile-from_run : {F C N T I : Type 0} (views : Views F C N T I) (old new : Lendings F C N T I) (before now : ℕ) (said : Option Command) (status : Status)
+pub RefusesFile-from_run : {F S C N T I : Type 0} (views : Views F S C N T I) (old new : Lendings F S C N T I) (before now : ℕ) (said : Option Command) (status : Status)
     → Ran views old new before now said status → RefusesFile views old new before now said status
 RefusesFile-from_run views old new before now said status ran = λ work file bytes has left fault well.
     elim (over_file views old new before now said work file status has well.openings ran) [
@@ -297,7 +297,7 @@ RefusesFile-from_run views old new before now said status ran = λ work file byt
       | inr opened ↦ refuses_over views old new before now work file bytes status opened left fault well
     ]
 
-pub MissesFile-from_run : {F C N T I : Type 0} (views : Views F C N T I) (old new : Lendings F C N T I) (before now : ℕ) (said : Option Command) (status : Status)
+pub MissesFile-from_run : {F S C N T I : Type 0} (views : Views F S C N T I) (old new : Lendings F S C N T I) (before now : ℕ) (said : Option Command) (status : Status)
     → Ran views old new before now said status → MissesFile old said status
 MissesFile-from_run views old new before now said status ran = λ work has.
     elim (run_of views old new before now said (OverFarm has.farm work) status has.asked ran) [
@@ -306,7 +306,7 @@ MissesFile-from_run views old new before now said status ran = λ work has.
       | inr (inr over) ↦ absurd (rw (has.files, has.there) at over.file.could)
     ]
 
-pub CompletesSigning-from_run : {F C N T I : Type 0} (views : Views F C N T I) (old new : Lendings F C N T I) (before now : ℕ) (said : Option Command) (status : Status)
+pub CompletesSigning-from_run : {F S C N T I : Type 0} (views : Views F S C N T I) (old new : Lendings F S C N T I) (before now : ℕ) (said : Option Command) (status : Status)
     → Ran views old new before now said status → CompletesSigning views old new said status
 CompletesSigning-from_run {F} {C} views old new before now said status ran = λ signing console asked ready well.
     elim (run_of views old new before now said (Sign signing) status asked ran) [
@@ -324,7 +324,7 @@ CompletesSigning-from_run {F} {C} views old new before now said status ran = λ 
     ]
 
 -- words without a reading
-pub TellsUsage-from_run : {F C N T I : Type 0} (views : Views F C N T I) (old new : Lendings F C N T I) (before now : ℕ) (said : Option Command) (status : Status)
+pub TellsUsage-from_run : {F S C N T I : Type 0} (views : Views F S C N T I) (old new : Lendings F S C N T I) (before now : ℕ) (said : Option Command) (status : Status)
     → Ran views old new before now said status → TellsUsage said status
 TellsUsage-from_run views old new before now said status (inl refused) = λ unread. elim refused.why [
   | inl none ↦ inl none

@@ -48,26 +48,26 @@ AreHome-opened old new name opened closed file = record {
 }
 
 -- the console, the clock and the draws are home
-record ConsoleHome {F C N T I : Type 0} (old new : Lendings F C N T I) : Type 0 where
+record ConsoleHome {F S C N T I : Type 0} (old new : Lendings F S C N T I) : Type 0 where
   console : IsHome old.console new.console
   clock : IsHome old.clock new.clock
   draws : IsHome old.draws new.draws
 
-ConsoleHome-left : {F C N T I : Type 0} (old new : Lendings F C N T I) → LeavesConsole old new → ConsoleHome old new
+ConsoleHome-left : {F S C N T I : Type 0} (old new : Lendings F S C N T I) → LeavesConsole old new → ConsoleHome old new
 ConsoleHome-left old new left = record {
   console = IsHome-same old.console new.console left.console;
   clock = IsHome-same old.clock new.clock left.clock;
   draws = IsHome-same old.draws new.draws left.draws;
 }
 
-ConsoleHome-used : {F C N T I : Type 0} (views : Views F C N T I) (old new : Lendings F C N T I) (Did : LinkState → LinkState → Type 0) → UsedConsole views old new Did → ConsoleHome old new
+ConsoleHome-used : {F S C N T I : Type 0} (views : Views F S C N T I) (old new : Lendings F S C N T I) (Did : LinkState → LinkState → Type 0) → UsedConsole views old new Did → ConsoleHome old new
 ConsoleHome-used views old new Did used = record {
   console = IsHome-lent old.console new.console used.given used.back used.console;
   clock = IsHome-same old.clock new.clock used.clock;
   draws = IsHome-same old.draws new.draws used.draws;
 }
 
-ConsoleHome-obeyed : {F C N T I : Type 0} (views : Views F C N T I) (old new : Lendings F C N T I) (config : Config) (work : Work) (status : Status) → Obeyed views old new config work status → ConsoleHome old new
+ConsoleHome-obeyed : {F S C N T I : Type 0} (views : Views F S C N T I) (old new : Lendings F S C N T I) (config : Config) (work : Work) (status : Status) → Obeyed views old new config work status → ConsoleHome old new
 ConsoleHome-obeyed views old new config Answer status ran = record {
   console = IsHome-lent old.console new.console ran.console_given ran.console_back ran.console;
   clock = IsHome-lent old.clock new.clock ran.clock_given ran.clock_back ran.clock;
@@ -76,25 +76,25 @@ ConsoleHome-obeyed views old new config Answer status ran = record {
 ConsoleHome-obeyed views old new config Expand status used = ConsoleHome-used views old new _ used
 ConsoleHome-obeyed views old new config Check status used = ConsoleHome-used views old new _ used
 
-ConsoleHome-over : {F C N T I : Type 0} (views : Views F C N T I) (old new : Lendings F C N T I) (work : Work) (opened closed : F) (status : Status) → RanOverFile views old new work opened closed status → ConsoleHome old new
+ConsoleHome-over : {F S C N T I : Type 0} (views : Views F S C N T I) (old new : Lendings F S C N T I) (work : Work) (opened closed : F) (status : Status) → RanOverFile views old new work opened closed status → ConsoleHome old new
 ConsoleHome-over views old new work opened closed status (inl ran) = ConsoleHome-obeyed views old new ran.0 work status ran.3
 ConsoleHome-over views old new work opened closed status (inr ran) = ConsoleHome-left old new ran.1
 
-ConsoleHome-command : {F C N T I : Type 0} (views : Views F C N T I) (old new : Lendings F C N T I) (before now : ℕ) (command : Command) (status : Status) → RanCommand views old new before now command status → ConsoleHome old new
+ConsoleHome-command : {F S C N T I : Type 0} (views : Views F S C N T I) (old new : Lendings F S C N T I) (before now : ℕ) (command : Command) (status : Status) → RanCommand views old new before now command status → ConsoleHome old new
 ConsoleHome-command views old new before now (OverFarm farm work) status (inl ran) = ConsoleHome-left old new ran.others
 ConsoleHome-command views old new before now (OverFarm farm work) status (inr ran) = ConsoleHome-over views old new work ran.opened ran.closed status ran.ran
 ConsoleHome-command views old new before now (Sign signing) status ran = ConsoleHome-used views old new _ ran.used
 
-ConsoleHome-ran : {F C N T I : Type 0} (views : Views F C N T I) (old new : Lendings F C N T I) (before now : ℕ) (said : Option Command) (status : Status) → Ran views old new before now said status → ConsoleHome old new
+ConsoleHome-ran : {F S C N T I : Type 0} (views : Views F S C N T I) (old new : Lendings F S C N T I) (before now : ℕ) (said : Option Command) (status : Status) → Ran views old new before now said status → ConsoleHome old new
 ConsoleHome-ran views old new before now said status (inl ran) = ConsoleHome-left old new ran.others
 ConsoleHome-ran views old new before now said status (inr ran) = ConsoleHome-command views old new before now ran.0 status ran.2
 
-AreHome-command : {F C N T I : Type 0} (views : Views F C N T I) (old new : Lendings F C N T I) (before now : ℕ) (command : Command) (status : Status) → RanCommand views old new before now command status → AreHome old.file new.file
+AreHome-command : {F S C N T I : Type 0} (views : Views F S C N T I) (old new : Lendings F S C N T I) (before now : ℕ) (command : Command) (status : Status) → RanCommand views old new before now command status → AreHome old.file new.file
 AreHome-command views old new before now (OverFarm farm work) status (inl ran) = AreHome-same old.file new.file ran.file
 AreHome-command views old new before now (OverFarm farm work) status (inr ran) = AreHome-opened old.file new.file farm ran.opened ran.closed ran.file
 AreHome-command views old new before now (Sign signing) status ran = AreHome-same old.file new.file ran.file
 
-AreHome-ran : {F C N T I : Type 0} (views : Views F C N T I) (old new : Lendings F C N T I) (before now : ℕ) (said : Option Command) (status : Status) → Ran views old new before now said status → AreHome old.file new.file
+AreHome-ran : {F S C N T I : Type 0} (views : Views F S C N T I) (old new : Lendings F S C N T I) (before now : ℕ) (said : Option Command) (status : Status) → Ran views old new before now said status → AreHome old.file new.file
 AreHome-ran views old new before now said status (inl ran) = AreHome-same old.file new.file ran.file
 AreHome-ran views old new before now said status (inr ran) = AreHome-command views old new before now ran.0 status ran.2
 
@@ -112,7 +112,7 @@ IsHome-status written faults old new Write told = IsHome-told written faults old
 IsHome-status written faults old new NoMemory told = IsHome-told written faults old new told.0 told.2
 IsHome-status written faults old new Wire told = IsHome-told written faults old new told.0 told.2
 
-pub AllHome-from_run : {F C N T I : Type 0} (views : Views F C N T I) (old new : Lendings F C N T I) (before now : ℕ) (said : Option Command) (status : Status)
+pub AllHome-from_run : {F S C N T I : Type 0} (views : Views F S C N T I) (old new : Lendings F S C N T I) (before now : ℕ) (said : Option Command) (status : Status)
     → Ran views old new before now said status → TellsStatus views.notes_written views.notes_faults old.notes new.notes status
     → AllHome old new
 AllHome-from_run views old new before now said status ran told =

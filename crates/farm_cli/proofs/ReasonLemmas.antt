@@ -28,7 +28,7 @@ use Rattle.farm_cli.specs.Signing.{IsSigned, Signs, SignsAs}
 use Rattle.farm_cli.specs.Views.{Views, outside_of, talk_of}
 
 -- a farm file was taken, and this command was obeyed over it
-record Taken {F C N T I : Type 0} (views : Views F C N T I) (old new : Lendings F C N T I) (before now : ℕ) (said : Option Command) (config : Config) (farm : List ℕ) (work : Work) : Type 0 where
+record Taken {F S C N T I : Type 0} (views : Views F S C N T I) (old new : Lendings F S C N T I) (before now : ℕ) (said : Option Command) (config : Config) (farm : List ℕ) (work : Work) : Type 0 where
   openings : now ≡ before
   asked : said ≡ Some (OverFarm farm work)
   opened : F
@@ -37,7 +37,7 @@ record Taken {F C N T I : Type 0} (views : Views F C N T I) (old new : Lendings 
   sets_up : IfSome (views.file_left opened) (λ bytes. SetsUp bytes config)
   reads_kept : views.file_faults closed ≡ views.file_faults opened
 
-FileTaken-from : {F C N T I : Type 0} (views : Views F C N T I) (old new : Lendings F C N T I) (before now : ℕ) (said : Option Command) (config : Config) (farm : List ℕ) (work : Work) (IsSo : Config → Work → Type 0)
+FileTaken-from : {F S C N T I : Type 0} (views : Views F S C N T I) (old new : Lendings F S C N T I) (before now : ℕ) (said : Option Command) (config : Config) (farm : List ℕ) (work : Work) (IsSo : Config → Work → Type 0)
     → Taken views old new before now said config farm work → IsSo config work → (now ≡ before) × FileTaken views old new said IsSo
 FileTaken-from views old new before now said config farm work IsSo taken so = (
   taken.openings,
@@ -51,7 +51,7 @@ FileTaken-from views old new before now said config farm work IsSo taken so = (
 )
 
 -- the same, where it may also be that a request was to be signed
-FileTaken-or : {F C N T I : Type 0} (views : Views F C N T I) (old new : Lendings F C N T I) (before now : ℕ) (said : Option Command) (config : Config) (farm : List ℕ) (work : Work) (IsSo : Config → Work → Type 0) (Other : Signing → Type 0)
+FileTaken-or : {F S C N T I : Type 0} (views : Views F S C N T I) (old new : Lendings F S C N T I) (before now : ℕ) (said : Option Command) (config : Config) (farm : List ℕ) (work : Work) (IsSo : Config → Work → Type 0) (Other : Signing → Type 0)
     → Taken views old new before now said config farm work → IsSo config work → (now ≡ before) × (FileTaken views old new said IsSo ⊎ SigningTaken old new said Other)
 FileTaken-or views old new before now said config farm work IsSo Other taken so =
     let file = FileTaken-from views old new before now said config farm work IsSo taken so in (file.0, inl file.1)
@@ -63,7 +63,7 @@ ends_with None messages served ends = tt
 ends_with (Some bytes) messages served ends = record { messages = messages; served = served; calls_for = refl; ends = ends }
 
 -- a connection that ended so has the reason of its status
-HasReason-served : {F C N T I : Type 0} (views : Views F C N T I) (old new : Lendings F C N T I) (before now : ℕ) (said : Option Command) (config : Config) (farm : List ℕ) (given back : C) (clock clock' : T) (draws draws' : I) (messages : List Message) (served : Served)
+HasReason-served : {F S C N T I : Type 0} (views : Views F S C N T I) (old new : Lendings F S C N T I) (before now : ℕ) (said : Option Command) (config : Config) (farm : List ℕ) (given back : C) (clock clock' : T) (draws draws' : I) (messages : List Message) (served : Served)
     → Taken views old new before now said config farm Answer → WasLent old.console new.console given back
     → IfSome (views.console_left given) (λ bytes. EndsAs REQUESTS bytes messages served)
     → IsCaused (outside_of views given clock draws) (outside_of views back clock' draws') served
@@ -82,7 +82,7 @@ HasReason-served views old new before now said config farm given back clock cloc
     FileTaken-or views old new before now said config farm Answer _ _ taken (record { given = given; back = back; lent = lent; rose = cause.0; kept = cause.1 })
 HasReason-served views old new before now said config farm given back clock clock' draws draws' messages served.NoMemory taken lent ends cause = tt
 
-HasReason-conversed : {F C N T I : Type 0} (views : Views F C N T I) (old new : Lendings F C N T I) (before now : ℕ) (said : Option Command) (config : Config) (farm : List ℕ) (status : Status)
+HasReason-conversed : {F S C N T I : Type 0} (views : Views F S C N T I) (old new : Lendings F S C N T I) (before now : ℕ) (said : Option Command) (config : Config) (farm : List ℕ) (status : Status)
     → Taken views old new before now said config farm Answer → Conversed views old new config status → HasReason views old new before now said status
 HasReason-conversed views old new before now said config farm status taken ran =
     rw ran.status_is (HasReason-served views old new before now said config farm ran.console_given ran.console_back ran.clock_given ran.clock_back ran.draws_given ran.draws_back (messages_of ran.asks) ran.served taken ran.console ran.spoke.taken ran.spoke.cause)
@@ -94,7 +94,7 @@ has_expansion None roles text h = tt
 has_expansion (Some input) roles text h = (text, h)
 
 -- an expansion that ended so has the reason of its status
-HasReason-expanded : {F C N T I : Type 0} (views : Views F C N T I) (old new : Lendings F C N T I) (before now : ℕ) (said : Option Command) (config : Config) (farm : List ℕ) (given back : C) (status : Status)
+HasReason-expanded : {F S C N T I : Type 0} (views : Views F S C N T I) (old new : Lendings F S C N T I) (before now : ℕ) (said : Option Command) (config : Config) (farm : List ℕ) (given back : C) (status : Status)
     → Taken views old new before now said config farm Expand → WasLent old.console new.console given back
     → Expands config.roles (talk_of views given) (talk_of views back) status → HasReason views old new before now said status
 HasReason-expanded views old new before now said config farm given back Done taken lent did =
@@ -117,7 +117,7 @@ anything None = tt
 anything (Some bytes) = tt
 
 -- a count that ended so has the reason of its status
-HasReason-checked : {F C N T I : Type 0} (views : Views F C N T I) (old new : Lendings F C N T I) (before now : ℕ) (said : Option Command) (config : Config) (farm : List ℕ) (given back : C) (status : Status)
+HasReason-checked : {F S C N T I : Type 0} (views : Views F S C N T I) (old new : Lendings F S C N T I) (before now : ℕ) (said : Option Command) (config : Config) (farm : List ℕ) (given back : C) (status : Status)
     → Taken views old new before now said config farm Check → WasLent old.console new.console given back
     → Checks config (talk_of views given) (talk_of views back) status → HasReason views old new before now said status
 HasReason-checked views old new before now said config farm given back Done taken lent did =
@@ -132,7 +132,7 @@ HasReason-checked views old new before now said config farm given back Write tak
     FileTaken-or views old new before now said config farm Check _ _ taken (record { given = given; back = back; lent = lent; rose = did.1.1; kept = did.0.faults })
 HasReason-checked views old new before now said config farm given back NoMemory taken lent did = tt
 
-HasReason-obeyed : {F C N T I : Type 0} (views : Views F C N T I) (old new : Lendings F C N T I) (before now : ℕ) (said : Option Command) (config : Config) (farm : List ℕ) (work : Work) (status : Status)
+HasReason-obeyed : {F S C N T I : Type 0} (views : Views F S C N T I) (old new : Lendings F S C N T I) (before now : ℕ) (said : Option Command) (config : Config) (farm : List ℕ) (work : Work) (status : Status)
     → Taken views old new before now said config farm work → Obeyed views old new config work status → HasReason views old new before now said status
 HasReason-obeyed views old new before now said config farm Answer status taken ran = HasReason-conversed views old new before now said config farm status taken ran
 HasReason-obeyed views old new before now said config farm Expand status taken ran =
@@ -141,7 +141,7 @@ HasReason-obeyed views old new before now said config farm Check status taken ra
     HasReason-checked views old new before now said config farm ran.given ran.back status taken ran.console ran.did
 
 -- a farm file that was not taken
-HasReason-refused : {F C N T I : Type 0} (views : Views F C N T I) (old new : Lendings F C N T I) (before now : ℕ) (said : Option Command) (lent : FileLent old new said) (status : Status)
+HasReason-refused : {F S C N T I : Type 0} (views : Views F S C N T I) (old new : Lendings F S C N T I) (before now : ℕ) (said : Option Command) (lent : FileLent old new said) (status : Status)
     → now ≡ before → FileRefused (views.file_left lent.opened) (views.file_faults lent.opened) (views.file_faults lent.closed) status → HasReason views old new before now said status
 HasReason-refused views old new before now said lent Done openings why = absurd why
 HasReason-refused views old new before now said lent Usage openings why = absurd why
@@ -153,7 +153,7 @@ HasReason-refused views old new before now said lent FarmFile openings why = (op
 HasReason-refused views old new before now said lent Read openings why = (openings, inl (record { lent = lent; rose = why }))
 HasReason-refused views old new before now said lent NoMemory openings why = tt
 
-HasReason-over : {F C N T I : Type 0} (views : Views F C N T I) (old new : Lendings F C N T I) (before now : ℕ) (said : Option Command) (farm : List ℕ) (work : Work) (opened closed : F) (status : Status)
+HasReason-over : {F S C N T I : Type 0} (views : Views F S C N T I) (old new : Lendings F S C N T I) (before now : ℕ) (said : Option Command) (farm : List ℕ) (work : Work) (opened closed : F) (status : Status)
     → now ≡ before → said ≡ Some (OverFarm farm work) → WasOpened old.file new.file farm opened closed → RanOverFile views old new work opened closed status
     → HasReason views old new before now said status
 HasReason-over views old new before now said farm work opened closed status openings asked file (inl ran) =
@@ -164,13 +164,13 @@ HasReason-over views old new before now said farm work opened closed status open
 -- ---- a request is signed
 
 -- what is known of its run
-record Signed {F C N T I : Type 0} (old new : Lendings F C N T I) (before now : ℕ) (said : Option Command) (signing : Signing) (given back : C) : Type 0 where
+record Signed {F S C N T I : Type 0} (old new : Lendings F S C N T I) (before now : ℕ) (said : Option Command) (signing : Signing) (given back : C) : Type 0 where
   openings : now ≡ before
   asked : said ≡ Some (Sign signing)
   file : new.file ≡ old.file
   lent : WasLent old.console new.console given back
 
-SigningTaken-from : {F C N T I : Type 0} (old new : Lendings F C N T I) (before now : ℕ) (said : Option Command) (signing : Signing) (given back : C) (IsSo : Signing → Type 0)
+SigningTaken-from : {F S C N T I : Type 0} (old new : Lendings F S C N T I) (before now : ℕ) (said : Option Command) (signing : Signing) (given back : C) (IsSo : Signing → Type 0)
     → Signed old new before now said signing given back → IsSo signing → SigningTaken old new said IsSo
 SigningTaken-from old new before now said signing given back IsSo ran so = record { signing = signing; asked = ran.asked; file = ran.file; is_so = so }
 
@@ -180,7 +180,7 @@ short_body : (left : Option (List ℕ)) (signing : Signing) (content_type text :
 short_body None signing content_type text h = tt
 short_body (Some body) signing content_type text h = h.short
 
-module _ {F C N T I : Type 0} (views : Views F C N T I) (old new : Lendings F C N T I) (signing : Signing) (given back : C) (lent : WasLent old.console new.console given back) where
+module _ {F S C N T I : Type 0} (views : Views F S C N T I) (old new : Lendings F S C N T I) (signing : Signing) (given back : C) (lent : WasLent old.console new.console given back) where
   signing_done : (kind : Option (List ℕ)) → SignsAs signing kind (talk_of views given) (talk_of views back) Done → IsSigningDone views old new kind
   signing_done None did = record { given = given; back = back; lent = lent; reads_kept = did.0.faults; writes_kept = did.1.1; held = anything (views.console_left given) }
   signing_done (Some content_type) did = record {
@@ -225,7 +225,7 @@ never_wire : NeverSigns Wire
 never_wire signing None before after did = did.1
 never_wire signing (Some content_type) before after did = did.4
 
-HasReason-signed : {F C N T I : Type 0} (views : Views F C N T I) (old new : Lendings F C N T I) (before now : ℕ) (said : Option Command) (signing : Signing) (given back : C) (status : Status)
+HasReason-signed : {F S C N T I : Type 0} (views : Views F S C N T I) (old new : Lendings F S C N T I) (before now : ℕ) (said : Option Command) (signing : Signing) (given back : C) (status : Status)
     → Signed old new before now said signing given back → Signs signing (talk_of views given) (talk_of views back) status → HasReason views old new before now said status
 HasReason-signed views old new before now said signing given back Done ran did =
     (ran.openings, inr (SigningTaken-from old new before now said signing given back _ ran (signing_done views old new signing given back ran.lent signing.content_type did)))
@@ -243,7 +243,7 @@ HasReason-signed views old new before now said signing given back Wire ran did =
 
 -- ---- a run
 
-HasReason-command : {F C N T I : Type 0} (views : Views F C N T I) (old new : Lendings F C N T I) (before now : ℕ) (said : Option Command) (command : Command) (status : Status)
+HasReason-command : {F S C N T I : Type 0} (views : Views F S C N T I) (old new : Lendings F S C N T I) (before now : ℕ) (said : Option Command) (command : Command) (status : Status)
     → said ≡ Some command → RanCommand views old new before now command status → HasReason views old new before now said status
 HasReason-command views old new before now said (OverFarm farm work) status asked (inl ran) = rw ran.status_is ran.rose
 HasReason-command views old new before now said (OverFarm farm work) status asked (inr ran) =
@@ -252,12 +252,12 @@ HasReason-command views old new before now said (Sign signing) status asked ran 
     HasReason-signed views old new before now said signing ran.used.given ran.used.back status
     (record { openings = ran.openings; asked = asked; file = ran.file; lent = ran.used.console }) ran.used.did
 
-HasReason-words : {F C N T I : Type 0} (views : Views F C N T I) (old new : Lendings F C N T I) (before now : ℕ) (said : Option Command) (status : Status)
+HasReason-words : {F S C N T I : Type 0} (views : Views F S C N T I) (old new : Lendings F S C N T I) (before now : ℕ) (said : Option Command) (status : Status)
     → (status ≡ NoMemory) ⊎ ((status ≡ Usage) × (said ≡ None)) → HasReason views old new before now said status
 HasReason-words views old new before now said status (inl none) = rw none tt
 HasReason-words views old new before now said status (inr usage) = rw usage.0 usage.1
 
-pub HasReason-from_run : {F C N T I : Type 0} (views : Views F C N T I) (old new : Lendings F C N T I) (before now : ℕ) (said : Option Command) (status : Status)
+pub HasReason-from_run : {F S C N T I : Type 0} (views : Views F S C N T I) (old new : Lendings F S C N T I) (before now : ℕ) (said : Option Command) (status : Status)
     → Ran views old new before now said status → HasReason views old new before now said status
 HasReason-from_run views old new before now said status (inl refused) = HasReason-words views old new before now said status refused.why
 HasReason-from_run views old new before now said status (inr ran) = HasReason-command views old new before now said ran.0 status ran.1 ran.2

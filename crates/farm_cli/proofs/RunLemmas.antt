@@ -24,13 +24,13 @@ use Rattle.farm_cli.specs.declared.status.Status.{Status}
 use Rattle.std.specs.Prelude.{Ok}
 
 -- three objects were lent, and came back
-pub record WereLent {F C N T I : Type 0} (old new : Lendings F C N T I) (console console' : C) (clock clock' : T) (draws draws' : I) : Type 0 where
+pub record WereLent {F S C N T I : Type 0} (old new : Lendings F S C N T I) (console console' : C) (clock clock' : T) (draws draws' : I) : Type 0 where
   pub console_lent : WasLent old.console new.console console console'
   pub clock_lent : WasLent old.clock new.clock clock clock'
   pub draws_lent : WasLent old.draws new.draws draws draws'
 
 -- one after another
-pub WereLent-from_calls : {F C N T I : Type 0} (l0 l1 l2 l3 l4 l5 l6 : Lendings F C N T I) (console console' : C) (clock clock' : T) (draws draws' : I)
+pub WereLent-from_calls : {F S C N T I : Type 0} (l0 l1 l2 l3 l4 l5 l6 : Lendings F S C N T I) (console console' : C) (clock clock' : T) (draws draws' : I)
     → CanGive l0.console console → l1 ≡ record l0 { console = after_giving l0.console }
     → CanGive l1.clock clock → l2 ≡ record l1 { clock = after_giving l1.clock }
     → CanGive l2.draws draws → l3 ≡ record l2 { draws = after_giving l2.draws }
@@ -67,7 +67,7 @@ IsHistoryOf-from_turns start state old new asks replies fresh turns alone =
 
 -- ---- what was done with the console is said of any lendings that tell the same of it
 
-Conversed-same : {F C N T I : Type 0} (views : Views F C N T I) (old old' new new' : Lendings F C N T I) (config : Config) (status : Status)
+Conversed-same : {F S C N T I : Type 0} (views : Views F S C N T I) (old old' new new' : Lendings F S C N T I) (config : Config) (status : Status)
     → LeavesConsole old old' → LeavesConsole new new' → Conversed views old new config status → Conversed views old' new' config status
 Conversed-same views old old' new new' config status before after h = record {
   console_given = h.console_given;
@@ -87,7 +87,7 @@ Conversed-same views old old' new new' config status before after h = record {
   status_is = h.status_is;
 }
 
-UsedConsole-same : {F C N T I : Type 0} (views : Views F C N T I) (old old' new new' : Lendings F C N T I) (Did : LinkState → LinkState → Type 0)
+UsedConsole-same : {F S C N T I : Type 0} (views : Views F S C N T I) (old old' new new' : Lendings F S C N T I) (Did : LinkState → LinkState → Type 0)
     → LeavesConsole old old' → LeavesConsole new new' → UsedConsole views old new Did → UsedConsole views old' new' Did
 UsedConsole-same views old old' new new' Did before after h = record {
   given = h.given;
@@ -98,30 +98,30 @@ UsedConsole-same views old old' new new' Did before after h = record {
   did = h.did;
 }
 
-pub Obeyed-same : {F C N T I : Type 0} (views : Views F C N T I) (old old' new new' : Lendings F C N T I) (config : Config) (work : Work) (status : Status)
+pub Obeyed-same : {F S C N T I : Type 0} (views : Views F S C N T I) (old old' new new' : Lendings F S C N T I) (config : Config) (work : Work) (status : Status)
     → LeavesConsole old old' → LeavesConsole new new' → Obeyed views old new config work status → Obeyed views old' new' config work status
 Obeyed-same views old old' new new' config Answer status before after h = Conversed-same views old old' new new' config status before after h
 Obeyed-same views old old' new new' config Expand status before after h = UsedConsole-same views old old' new new' _ before after h
 Obeyed-same views old old' new new' config Check status before after h = UsedConsole-same views old old' new new' _ before after h
 
-LeavesConsole-same : {F C N T I : Type 0} (old old' new new' : Lendings F C N T I) → LeavesConsole old old' → LeavesConsole new new' → LeavesConsole old new → LeavesConsole old' new'
+LeavesConsole-same : {F S C N T I : Type 0} (old old' new new' : Lendings F S C N T I) → LeavesConsole old old' → LeavesConsole new new' → LeavesConsole old new → LeavesConsole old' new'
 LeavesConsole-same old old' new new' before after h = record {
   console = after.console ∙ (h.console ∙ sym before.console);
   clock = after.clock ∙ (h.clock ∙ sym before.clock);
   draws = after.draws ∙ (h.draws ∙ sym before.draws);
 }
 
-LeavesConsole-none : {F C N T I : Type 0} (old : Lendings F C N T I) → LeavesConsole old old
+LeavesConsole-none : {F S C N T I : Type 0} (old : Lendings F S C N T I) → LeavesConsole old old
 LeavesConsole-none old = record { console = refl; clock = refl; draws = refl }
 
-RanOverFile-same : {F C N T I : Type 0} (views : Views F C N T I) (old old' new new' : Lendings F C N T I) (work : Work) (opened closed : F) (status : Status)
+RanOverFile-same : {F S C N T I : Type 0} (views : Views F S C N T I) (old old' new new' : Lendings F S C N T I) (work : Work) (opened closed : F) (status : Status)
     → LeavesConsole old old' → LeavesConsole new new' → RanOverFile views old new work opened closed status → RanOverFile views old' new' work opened closed status
 RanOverFile-same views old old' new new' work opened closed status before after (inl h) =
     inl (h.0, h.1, h.2, Obeyed-same views old old' new new' h.0 work status before after h.3)
 RanOverFile-same views old old' new new' work opened closed status before after (inr h) = inr (h.0, LeavesConsole-same old old' new new' before after h.1)
 
 -- a file was opened, and a command was run over it
-pub RanCommand-opened : {F C N T I : Type 0} (views : Views F C N T I) (old between new : Lendings F C N T I) (before now : ℕ) (farm : List ℕ) (work : Work) (file closed : F) (status : Status)
+pub RanCommand-opened : {F S C N T I : Type 0} (views : Views F S C N T I) (old between new : Lendings F S C N T I) (before now : ℕ) (farm : List ℕ) (work : Work) (file closed : F) (status : Status)
     → now ≡ before → CanOpenAmong old.file farm (Ok file) → between ≡ record old { file = after_opened old.file }
     → new.file ≡ after_closing between.file closed → LosesWithin (LONGEST_FILE + piece_size) (views.file_left file) (views.file_left closed) → RanOverFile views between new work file closed status
     → RanCommand views old new before now (OverFarm farm work) status
@@ -135,13 +135,13 @@ RanCommand-opened views old between new before now farm work file closed status 
 })
 
 -- a request was signed
-pub RanCommand-signed : {F C N T I : Type 0} (views : Views F C N T I) (old new : Lendings F C N T I) (before now : ℕ) (command : Command) (signing : Signing) (status : Status)
+pub RanCommand-signed : {F S C N T I : Type 0} (views : Views F S C N T I) (old new : Lendings F S C N T I) (before now : ℕ) (command : Command) (signing : Signing) (status : Status)
     → command ≡ Sign signing → RanSigning views old new before now signing status → RanCommand views old new before now command status
 RanCommand-signed views old new before now command signing status is ran = subst (λ c. RanCommand views old new before now c status) (sym is) ran
 
 -- ---- a run is the same run where later only what is said of notes changes
 
-RanCommand-notes : {F C N T I : Type 0} (views : Views F C N T I) (old new new' : Lendings F C N T I) (before now : ℕ) (command : Command) (status : Status)
+RanCommand-notes : {F S C N T I : Type 0} (views : Views F S C N T I) (old new new' : Lendings F S C N T I) (before now : ℕ) (command : Command) (status : Status)
     → new'.file ≡ new.file → LeavesConsole new new' → RanCommand views old new before now command status → RanCommand views old new' before now command status
 RanCommand-notes views old new new' before now (OverFarm farm work) status file after (inl h) = inl (record {
   status_is = h.status_is;
@@ -164,7 +164,7 @@ RanCommand-notes views old new new' before now (Sign signing) status file after 
   used = UsedConsole-same views old old new new' _ (LeavesConsole-none old) after h.used;
 }
 
-pub Ran-notes : {F C N T I : Type 0} (views : Views F C N T I) (old new new' : Lendings F C N T I) (before now : ℕ) (said : Option Command) (status : Status)
+pub Ran-notes : {F S C N T I : Type 0} (views : Views F S C N T I) (old new new' : Lendings F S C N T I) (before now : ℕ) (said : Option Command) (status : Status)
     → new'.file ≡ new.file → LeavesConsole new new' → Ran views old new before now said status → Ran views old new' before now said status
 Ran-notes views old new new' before now said status file after (inl h) = inl (record {
   why = h.why;

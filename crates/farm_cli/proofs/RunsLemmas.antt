@@ -9,7 +9,7 @@ use Rattle.farm_cli.specs.Views.{Views}
 use Rattle.farm_cli.proofs.CompleteLemmas.{Completes-from_run, CompletesSigning-from_run, RefusesFile-from_run, MissesFile-from_run, TellsUsage-from_run}
 use Rattle.farm_cli.proofs.ReasonLemmas.{HasReason-from_run}
 
-pub Runs-from_run : {F C N T I : Type 0} (views : Views F C N T I) (old new : Lendings F C N T I) (before now : ℕ) (said : Option Command) (status : Status)
+pub Runs-from_run : {F S C N T I : Type 0} (views : Views F S C N T I) (old new : Lendings F S C N T I) (before now : ℕ) (said : Option Command) (status : Status)
     → Ran views old new before now said status → Runs views old new before now said status
 Runs-from_run views old new before now said status ran = record {
   ran = ran;

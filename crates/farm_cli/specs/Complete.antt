@@ -46,7 +46,7 @@ own_text closed = []
 own_text full = []
 
 -- the words ask for this work over a farm, and the house has this of its farm file, which was not opened yet
-pub record HasFile {F C N T I : Type 0} (old : Lendings F C N T I) (said : Option Command) (work : Work) (held : Held F) : Type 0 where
+pub record HasFile {F S C N T I : Type 0} (old : Lendings F S C N T I) (said : Option Command) (work : Work) (held : Held F) : Type 0 where
   pub farm : List ℕ
   pub asked : said ≡ Some (OverFarm farm work)
   pub at : List ℕ → Held F
@@ -54,17 +54,17 @@ pub record HasFile {F C N T I : Type 0} (old : Lendings F C N T I) (said : Optio
   pub there : at farm ≡ held
 
 -- the count of refused openings did not rise, nor that of the farm file's reads
-pub record NoFileFault {F C N T I : Type 0} (views : Views F C N T I) (new : Lendings F C N T I) (before now : ℕ) (file : F) : Type 0 where
+pub record NoFileFault {F S C N T I : Type 0} (views : Views F S C N T I) (new : Lendings F S C N T I) (before now : ℕ) (file : F) : Type 0 where
   pub openings : ¬ (Rose before now)
   pub reads : (file' : F) → new.file ≡ back file' → ¬ (Rose (views.file_faults file) (views.file_faults file'))
 
 -- the counts of the console's reads and writes did not rise
-pub record NoConsoleFault {F C N T I : Type 0} (views : Views F C N T I) (new : Lendings F C N T I) (console : C) : Type 0 where
+pub record NoConsoleFault {F S C N T I : Type 0} (views : Views F S C N T I) (new : Lendings F S C N T I) (console : C) : Type 0 where
   pub reads : (console' : C) → new.console ≡ Back console' → ¬ (Rose (views.console_read_faults console) (views.console_read_faults console'))
   pub writes : (console' : C) → new.console ≡ Back console' → ¬ (Rose (views.console_write_faults console) (views.console_write_faults console'))
 
 -- Each message of the list was answered, in one history of the farm, and then the wire replied where it refuses what came.
-pub record AnswersAll {F C N T I : Type 0} (views : Views F C N T I) (new : Lendings F C N T I) (console : C) (config : Config) (messages : List Message) (ending : Ending) (status : Status) : Type 0 where
+pub record AnswersAll {F S C N T I : Type 0} (views : Views F S C N T I) (new : Lendings F S C N T I) (console : C) (config : Config) (messages : List Message) (ending : Ending) (status : Status) : Type 0 where
   pub status_is : status ≡ status_for ending
   pub console' : C
   pub came_back : new.console ≡ Back console'
@@ -75,7 +75,7 @@ pub record AnswersAll {F C N T I : Type 0} (views : Views F C N T I) (new : Lend
   pub written : Appends (views.console_written console) (views.console_written console') (reply_texts REQUESTS asks replies ++ own_text ending)
 
 -- the console came back, this text was written there, and the run is done
-pub record WritesAll {F C N T I : Type 0} (views : Views F C N T I) (new : Lendings F C N T I) (console : C) (text : List ℕ) (status : Status) : Type 0 where
+pub record WritesAll {F S C N T I : Type 0} (views : Views F S C N T I) (new : Lendings F S C N T I) (console : C) (text : List ℕ) (status : Status) : Type 0 where
   pub done : status ≡ Done
   pub console' : C
   pub came_back : new.console ≡ Back console'
@@ -83,7 +83,7 @@ pub record WritesAll {F C N T I : Type 0} (views : Views F C N T I) (new : Lendi
 
 -- What work has to do over a farm that is set up so, where the console is known and does not fail: `answer` answers each message, `expand`
 -- writes the expansion of its input or refuses it, `check` writes its line.
-abbrev pub Finishes : {F C N T I : Type 0} → Views F C N T I → Lendings F C N T I → C → Config → Work → Status → Type 0
+abbrev pub Finishes : {F S C N T I : Type 0} → Views F S C N T I → Lendings F S C N T I → C → Config → Work → Status → Type 0
 Finishes views new console config Answer status =
     (bytes : List ℕ) (messages : List Message) (ending : Ending)
     → views.console_left console ≡ Some bytes → Messages REQUESTS bytes messages ending → AnswersAll views new console config messages ending status
@@ -94,7 +94,7 @@ Finishes views new console config Expand status =
 Finishes views new console config Check status = WritesAll views new console (check_text config) status
 
 -- What `sign` has to do, by the content type, where the console is known and does not fail: it writes its line, or refuses a body that is too long.
-abbrev pub FinishesSigning : {F C N T I : Type 0} → Views F C N T I → Lendings F C N T I → C → Signing → Option (List ℕ) → Status → Type 0
+abbrev pub FinishesSigning : {F S C N T I : Type 0} → Views F S C N T I → Lendings F S C N T I → C → Signing → Option (List ℕ) → Status → Type 0
 FinishesSigning views new console signing None status = WritesAll views new console (signed_line signing None) status
 FinishesSigning views new console signing (Some content_type) status =
     (body : List ℕ) → views.console_left console ≡ Some body
@@ -102,13 +102,13 @@ FinishesSigning views new console signing (Some content_type) status =
     ⊎ (IsTooLong body × (status ≡ Input))
 
 -- Over a console that does not fail a run signs what its words ask for, or memory runs out.
-abbrev pub CompletesSigning : {F C N T I : Type 0} → Views F C N T I → Lendings F C N T I → Lendings F C N T I → Option Command → Status → Type 0
+abbrev pub CompletesSigning : {F S C N T I : Type 0} → Views F S C N T I → Lendings F S C N T I → Lendings F S C N T I → Option Command → Status → Type 0
 CompletesSigning {F} {C} views old new said status =
     (signing : Signing) (console : C) → said ≡ Some (Sign signing) → old.console ≡ Ready console → NoConsoleFault views new console
     → (status ≡ NoMemory) ⊎ FinishesSigning views new console signing signing.content_type status
 
 -- Over a farm file that breaks no rule and a console that does not fail, a run finishes its work, or memory runs out.
-abbrev pub Completes : {F C N T I : Type 0} → Views F C N T I → Lendings F C N T I → Lendings F C N T I → ℕ → ℕ → Option Command → Status → Type 0
+abbrev pub Completes : {F S C N T I : Type 0} → Views F S C N T I → Lendings F S C N T I → Lendings F S C N T I → ℕ → ℕ → Option Command → Status → Type 0
 Completes {F} {C} views old new before now said status =
     (work : Work) (file : F) (bytes : List ℕ) (console : C)
     → HasFile old said work (holds file) → views.file_left file ≡ Some bytes → ¬ HasFault bytes → NoFileFault views new before now file
@@ -116,14 +116,14 @@ Completes {F} {C} views old new before now said status =
     → (status ≡ NoMemory) ⊎ ((config : Config) × SetsUp bytes config × Finishes views new console config work status)
 
 -- a farm file that breaks a rule is refused
-abbrev pub RefusesFile : {F C N T I : Type 0} → Views F C N T I → Lendings F C N T I → Lendings F C N T I → ℕ → ℕ → Option Command → Status → Type 0
+abbrev pub RefusesFile : {F S C N T I : Type 0} → Views F S C N T I → Lendings F S C N T I → Lendings F S C N T I → ℕ → ℕ → Option Command → Status → Type 0
 RefusesFile {F} views old new before now said status =
     (work : Work) (file : F) (bytes : List ℕ)
     → HasFile old said work (holds file) → views.file_left file ≡ Some bytes → HasFault bytes → NoFileFault views new before now file
     → (status ≡ NoMemory) ⊎ (status ≡ FarmFile)
 
 -- a farm file that is not there cannot be opened
-abbrev pub MissesFile : {F C N T I : Type 0} → Lendings F C N T I → Option Command → Status → Type 0
+abbrev pub MissesFile : {F S C N T I : Type 0} → Lendings F S C N T I → Option Command → Status → Type 0
 MissesFile old said status = (work : Work) → HasFile old said work refuses → (status ≡ NoMemory) ⊎ (status ≡ Opening)
 
 -- words without a reading are told so

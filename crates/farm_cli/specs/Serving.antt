@@ -35,7 +35,7 @@ status_of served.WriteFault = Write
 status_of served.NoMemory = NoMemory
 
 -- The console was served over a farm that was set up so, and began without tasks.
-pub record Conversed {F C N T I : Type 0} (views : Views F C N T I) (old new : Lendings F C N T I) (config : Config) (status : Status) : Type 0 where
+pub record Conversed {F S C N T I : Type 0} (views : Views F S C N T I) (old new : Lendings F S C N T I) (config : Config) (status : Status) : Type 0 where
   pub console_given : C
   pub console_back : C
   pub console : WasLent old.console new.console console_given console_back

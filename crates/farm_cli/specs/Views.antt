@@ -10,7 +10,7 @@ use Rattle.farm_server.specs.Served.{Outside}
 
 -- what is left of the farm file, and how many of its reads failed; the same of the console, and what was written there; what notes
 -- were told; which moments and ids were told
-pub record Views (F C N T I : Type 0) : Type 0 where
+pub record Views (F S C N T I : Type 0) : Type 0 where
   pub file_left : F → Option (List ℕ)
   pub file_faults : F → ℕ
   pub console_left : C → Option (List ℕ)
@@ -23,7 +23,7 @@ pub record Views (F C N T I : Type 0) : Type 0 where
   pub draws_told : I → Option (List (List ℕ))
 
 -- the same, as the traits of these objects have it
-abbrev pub views_of : {F C N T I : Type 0} → sources.Ghosts F → links.Ghosts C → sinks.Ghosts N → clocks.Ghosts T → draws.Ghosts I → Views F C N T I
+abbrev pub views_of : {F S C N T I : Type 0} → sources.Ghosts F → links.Ghosts C → sinks.Ghosts N → clocks.Ghosts T → draws.Ghosts I → Views F S C N T I
 views_of file console notes clock ids =
     record {
       file_left = file.left;
@@ -39,7 +39,7 @@ views_of file console notes clock ids =
     }
 
 -- what console, clock and draws tell at one moment; the program's gate keeps nothing
-abbrev pub outside_of : {F C N T I : Type 0} → Views F C N T I → C → T → I → Outside
+abbrev pub outside_of : {F S C N T I : Type 0} → Views F S C N T I → C → T → I → Outside
 outside_of views console clock draws =
     record {
       left = views.console_left console;
@@ -52,7 +52,7 @@ outside_of views console clock draws =
     }
 
 -- what a console of a house tells at one moment
-abbrev pub talk_of : {F C N T I : Type 0} → Views F C N T I → C → LinkState
+abbrev pub talk_of : {F S C N T I : Type 0} → Views F S C N T I → C → LinkState
 talk_of views console =
     record {
       left = views.console_left console;

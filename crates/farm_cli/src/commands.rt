@@ -21,7 +21,7 @@ use std::alloc::Global;
 
 /// Does work over a farm that is set up so.
 pub(crate) fn obey<H: House>(alloc: Global, work: Work, config: Config, house: &mut H) -> Ended
-    ensures obeyed { let views = views_of H.File.Source H.Console.Link H.Notes.Sink H.Time.Clock H.Ids.Draws in
+    ensures obeyed { let views = views_of H.File.Source H.Store.Disk H.Console.Link H.Notes.Sink H.Time.Clock H.Ids.Draws in
         Obeyed views (H.lends house.old) (H.lends house.new) config work result.status }
     ensures file { (H.lends house.new).file ≡ (H.lends house.old).file }
     ensures notes { (H.lends house.new).notes ≡ (H.lends house.old).notes }
@@ -36,7 +36,7 @@ pub(crate) fn obey<H: House>(alloc: Global, work: Work, config: Config, house: &
 
 /// Serves the console over a farm that begins without tasks.
 fn converse<H: House>(alloc: Global, config: Config, house: &mut H) -> Ended
-    ensures conversed { let views = views_of H.File.Source H.Console.Link H.Notes.Sink H.Time.Clock H.Ids.Draws in
+    ensures conversed { let views = views_of H.File.Source H.Store.Disk H.Console.Link H.Notes.Sink H.Time.Clock H.Ids.Draws in
         Conversed views (H.lends house.old) (H.lends house.new) config result.status }
     ensures file { (H.lends house.new).file ≡ (H.lends house.old).file }
     ensures notes { (H.lends house.new).notes ≡ (H.lends house.old).notes }
@@ -63,7 +63,7 @@ fn converse<H: House>(alloc: Global, config: Config, house: &mut H) -> Ended
 
 /// Expands the console's scopes over the roles of a farm.
 fn expand_over<H: House>(alloc: Global, config: &Config, house: &mut H) -> Ended
-    ensures used { let views = views_of H.File.Source H.Console.Link H.Notes.Sink H.Time.Clock H.Ids.Draws in
+    ensures used { let views = views_of H.File.Source H.Store.Disk H.Console.Link H.Notes.Sink H.Time.Clock H.Ids.Draws in
         UsedConsole views (H.lends house.old) (H.lends house.new) (λ before after. Expands config.now.roles before after result.status) }
     ensures file { (H.lends house.new).file ≡ (H.lends house.old).file }
     ensures notes { (H.lends house.new).notes ≡ (H.lends house.old).notes }
@@ -77,7 +77,7 @@ fn expand_over<H: House>(alloc: Global, config: &Config, house: &mut H) -> Ended
 
 /// Counts what a farm has, on the console.
 fn check_over<H: House>(alloc: Global, config: &Config, house: &mut H) -> Ended
-    ensures used { let views = views_of H.File.Source H.Console.Link H.Notes.Sink H.Time.Clock H.Ids.Draws in
+    ensures used { let views = views_of H.File.Source H.Store.Disk H.Console.Link H.Notes.Sink H.Time.Clock H.Ids.Draws in
         UsedConsole views (H.lends house.old) (H.lends house.new) (λ before after. Checks config.now before after result.status) }
     ensures file { (H.lends house.new).file ≡ (H.lends house.old).file }
     ensures notes { (H.lends house.new).notes ≡ (H.lends house.old).notes }
@@ -91,7 +91,7 @@ fn check_over<H: House>(alloc: Global, config: &Config, house: &mut H) -> Ended
 
 /// Signs a request, over the console.
 pub(crate) fn sign_over<H: House>(alloc: Global, signing: &Signing, house: &mut H) -> Ended
-    ensures used { let views = views_of H.File.Source H.Console.Link H.Notes.Sink H.Time.Clock H.Ids.Draws in
+    ensures used { let views = views_of H.File.Source H.Store.Disk H.Console.Link H.Notes.Sink H.Time.Clock H.Ids.Draws in
         UsedConsole views (H.lends house.old) (H.lends house.new) (λ before after. Signs signing.now before after result.status) }
     ensures file { (H.lends house.new).file ≡ (H.lends house.old).file }
     ensures notes { (H.lends house.new).notes ≡ (H.lends house.old).notes }

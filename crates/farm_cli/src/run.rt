@@ -30,7 +30,7 @@ use std::alloc::Global;
 /// caller's scopes do not hold what it asks (`a_denial_is_of_scopes_that_are_missing`), a task is created once
 /// (`a_task_is_created_once`), and an equal createTask after it is answered with the task's status (`an_equal_call_acts_once`).
 pub fn run<H: House>(alloc: Global, words: &[String], house: &mut H) -> Status
-    ensures runs { let views = views_of H.File.Source H.Console.Link H.Notes.Sink H.Time.Clock H.Ids.Draws in
+    ensures runs { let views = views_of H.File.Source H.Store.Disk H.Console.Link H.Notes.Sink H.Time.Clock H.Ids.Draws in
         Runs views (H.lends house.old) (H.lends house.new) (H.refusals house.old) (H.refusals house.new)
         (reading (map string_bytes words.now)) result }
     ensures notes { TellsStatus H.Notes.written H.Notes.faults (H.lends house.old).notes (H.lends house.new).notes result }
@@ -44,7 +44,7 @@ pub fn run<H: House>(alloc: Global, words: &[String], house: &mut H) -> Status
 
 /// Runs what the words ask for, where they are taken.
 fn perform<H: House>(alloc: Global, words: &[String], house: &mut H) -> Ended
-    ensures ran { let views = views_of H.File.Source H.Console.Link H.Notes.Sink H.Time.Clock H.Ids.Draws in
+    ensures ran { let views = views_of H.File.Source H.Store.Disk H.Console.Link H.Notes.Sink H.Time.Clock H.Ids.Draws in
         Ran views (H.lends house.old) (H.lends house.new) (H.refusals house.old) (H.refusals house.new)
         (reading (map string_bytes words.now)) result.status }
     ensures notes { (H.lends house.new).notes ≡ (H.lends house.old).notes }
@@ -59,7 +59,7 @@ fn perform<H: House>(alloc: Global, words: &[String], house: &mut H) -> Ended
 
 /// Runs a command.
 fn run_command<H: House>(alloc: Global, command: &Command, house: &mut H) -> Ended
-    ensures ran { let views = views_of H.File.Source H.Console.Link H.Notes.Sink H.Time.Clock H.Ids.Draws in
+    ensures ran { let views = views_of H.File.Source H.Store.Disk H.Console.Link H.Notes.Sink H.Time.Clock H.Ids.Draws in
         RanCommand views (H.lends house.old) (H.lends house.new) (H.refusals house.old) (H.refusals house.new) command.now result.status }
     ensures notes { (H.lends house.new).notes ≡ (H.lends house.old).notes }
     ensures later { H.refusals house.old ≤ H.refusals house.new }
@@ -72,7 +72,7 @@ fn run_command<H: House>(alloc: Global, command: &Command, house: &mut H) -> End
 
 /// Does work over a farm, where its file can be opened.
 fn run_over_farm<H: House>(alloc: Global, farm: &str, work: Work, house: &mut H) -> Ended
-    ensures ran { let views = views_of H.File.Source H.Console.Link H.Notes.Sink H.Time.Clock H.Ids.Draws in
+    ensures ran { let views = views_of H.File.Source H.Store.Disk H.Console.Link H.Notes.Sink H.Time.Clock H.Ids.Draws in
         RanCommand views (H.lends house.old) (H.lends house.new) (H.refusals house.old) (H.refusals house.new) (OverFarm farm.now work) result.status }
     ensures notes { (H.lends house.new).notes ≡ (H.lends house.old).notes }
     ensures later { H.refusals house.old ≤ H.refusals house.new }
@@ -91,7 +91,7 @@ fn run_over_file<H: House>(
     file: H::File,
     house: &mut H,
 ) -> Ended
-    ensures ran { let views = views_of H.File.Source H.Console.Link H.Notes.Sink H.Time.Clock H.Ids.Draws in
+    ensures ran { let views = views_of H.File.Source H.Store.Disk H.Console.Link H.Notes.Sink H.Time.Clock H.Ids.Draws in
         (closed : H.File) × ((H.lends house.new).file ≡ after_closing (H.lends house.old).file closed)
         × LosesWithin (LONGEST_FILE + piece_size) (H.File.left file) (H.File.left closed)
         × RanOverFile views (H.lends house.old) (H.lends house.new) work file closed result.status }
