@@ -10,10 +10,10 @@ use Rattle.farm_core.specs.Opened.{Replays, IsFarmDamaged, HasOpened}
 use Rattle.farm_core.specs.Reading.{IsRestored}
 
 -- all bodies were replayed
-pub has-opened : (file : List ℕ) (disk : Disk) (end count : ℕ) (bodies : List (List ℕ)) (contents : Contents) → Opens [] file bodies → IsReady [] disk end bodies → count ≡ length bodies → Replays bodies contents
-    → HasOpened file disk end count contents
-has-opened file disk end count bodies contents opens ready counted replays =
-    record { bodies = bodies; opens = opens; replays = replays; ready = ready; counted = counted }
+pub has-opened : (tells : Type 0) (file : List ℕ) (disk : Disk) (end count : ℕ) (bodies : List (List ℕ)) (contents : Contents) → (tells → Opens [] file bodies) → (tells → IsReady [] disk end bodies) → count ≡ length bodies
+    → Replays bodies contents → HasOpened tells file disk end count contents
+has-opened tells file disk end count bodies contents opens ready counted replays =
+    record { bodies = bodies; replays = replays; counted = counted; opens = opens; ready = ready }
 
 -- one was broken
 pub restored-damaged : (file : List ℕ) (bodies : List (List ℕ)) (fault : OpenFault) (place : ℕ) → Opens [] file bodies → IsRestored bodies (Err fault) → fault ≡ faults.Damaged place → IsFarmDamaged file place

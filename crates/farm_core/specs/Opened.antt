@@ -32,13 +32,14 @@ pub record IsBroken (bodies : List (List ℕ)) (place : ℕ) : Type 0 where
 abbrev pub IsFarmDamaged : List ℕ → ℕ → Type 0
 IsFarmDamaged file place = IsDamaged [] file place ⊎ ((bodies : List (List ℕ)) × Opens [] file bodies × IsBroken bodies place)
 
--- a file opened: its bodies are the records of changes whose replay leaves these contents, and they are ready on the disk
-pub record HasOpened (file : List ℕ) (disk : Disk) (end count : ℕ) (contents : Contents) : Type 0 where
+-- A farm was opened: its contents are the replay of so many bodies; and where the disk tells what it holds, these are the bodies of its file, and
+-- they are ready on it.
+pub record HasOpened (tells : Type 0) (file : List ℕ) (disk : Disk) (end count : ℕ) (contents : Contents) : Type 0 where
   pub bodies : List (List ℕ)
-  pub opens : Opens [] file bodies
   pub replays : Replays bodies contents
-  pub ready : IsReady [] disk end bodies
   pub counted : count ≡ length bodies
+  pub opens : tells → Opens [] file bodies
+  pub ready : tells → IsReady [] disk end bodies
 
 -- the disk of what was opened, or the one beside the fault
 abbrev pub disk_left : {D O F : Type 0} → (O → D) → Result O (F × D) → D

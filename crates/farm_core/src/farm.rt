@@ -43,7 +43,7 @@ pub struct Farm<D: Disk> {
 /// Opens the journal on a disk, and replays it.
 fn open_records<D: Disk>(alloc: Global, disk: D) -> Result<(Tables, Records<D>), (OpenFault, D)>
     ensures works { IfOk result (λ o. o.1.halted ≡ false) }
-    ensures opened { D.tells → IfOk result (λ o. HasOpened (D.contents disk).bytes (D.contents o.1.disk) o.1.end o.1.count o.0) }
+    ensures opened { IfOk result (λ o. HasOpened D.tells (D.contents disk).bytes (D.contents o.1.disk) o.1.end o.1.count o.0) }
     ensures damaged { D.tells → (place : ℕ) → IfErr result (λ e. e.0 ≡ Damaged place → IsFarmDamaged (D.contents disk).bytes place) }
     ensures any_moment { D.tells → (bodies : List (List ℕ)) (pending : Option (List ℕ)) → IsImage [] bodies pending (D.contents disk).bytes
         → StopsLeave (D.contents disk) (D.contents (disk_left (λ o. o.1.disk) result)) (IsWithin [] bodies (option_to_list pending)) }
@@ -69,7 +69,7 @@ impl<D: Disk> Farm<D> {
     ///
     /// A stop in it leaves what a stop at its start might have left, or the same records, or these and the one pending behind them.
     pub fn open(alloc: Global, disk: D, config: Config) -> Result<Self, (OpenFault, D)>
-        ensures opened { D.tells → IfOk result (λ farm. HasOpened (D.contents disk).bytes (D.contents farm.records.disk) farm.records.end farm.records.count farm.tables) }
+        ensures opened { IfOk result (λ farm. HasOpened D.tells (D.contents disk).bytes (D.contents farm.records.disk) farm.records.end farm.records.count farm.tables) }
         ensures state { IfOk result (λ farm. (farm.config ≡ config) × (farm.records.halted ≡ false)) }
         ensures damaged { D.tells → (place : ℕ) → IfErr result (λ e. e.0 ≡ Damaged place → IsFarmDamaged (D.contents disk).bytes place) }
         ensures any_moment { D.tells → (bodies : List (List ℕ)) (pending : Option (List ℕ)) → IsImage [] bodies pending (D.contents disk).bytes

@@ -8,8 +8,8 @@ pub new-requires : goal.new-requires
 new-requires g c = λ tells. (opened_bodies c.in-Ok.bodies, c.in-Ok.ensures.ready tells, omega arith)
 
 pub returns-in-Ok-restore-clause-opened : goal.returns-in-Ok-restore-clause-opened
-returns-in-Ok-restore-clause-opened g c = λ tells.
-    rw c.new.ensures (has-opened _ _ _ _ (opened_bodies c.in-Ok.bodies) _ (c.in-Ok.ensures.bodies tells) (c.in-Ok.ensures.ready tells) (omega arith) c.in-Ok-restore.ensures)
+returns-in-Ok-restore-clause-opened g c =
+    rw c.new.ensures (has-opened g.D.Disk.tells _ _ _ _ (opened_bodies c.in-Ok.bodies) _ (λ tells. c.in-Ok.ensures.bodies tells) (λ tells. c.in-Ok.ensures.ready tells) (omega arith) c.in-Ok-restore.ensures)
 
 pub returns-in-Ok-restore-clause-any_moment : goal.returns-in-Ok-restore-clause-any_moment
 returns-in-Ok-restore-clause-any_moment g c = λ tells. rw c.new.ensures (c.in-Ok.ensures.any_moment tells)
