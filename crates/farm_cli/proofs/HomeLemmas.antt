@@ -13,7 +13,8 @@ use Rattle.farm_cli.specs.declared.status.Status.TheVariants.{Done, Usage, FarmF
 use Rattle.farm_cli.specs.Home.{IsHome, AreHome, AllHome}
 use Rattle.farm_cli.specs.House.{after_giving, after_return, WasLent, Files, unopened, out, back, untold, after_opened, after_closing, WasOpened, Lendings}
 use Rattle.farm_cli.specs.Notes.{TellsLine, TellsStatus}
-use Rattle.farm_cli.specs.Run.{LeavesConsole, UsedConsole, Obeyed, RanOverFile, RanCommand, Ran}
+use Rattle.farm_cli.specs.Used.{LeavesConsole, UsedConsole}
+use Rattle.farm_cli.specs.Run.{DidOver, Obeyed, RanOverFile, RanCommand, Ran}
 use Rattle.http_wire.specs.Calls.{LinkState}
 use Rattle.farm_cli.specs.Views.{Views}
 

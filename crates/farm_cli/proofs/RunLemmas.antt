@@ -16,7 +16,8 @@ use Rattle.farm_machine.specs.Step.{farm_rules}
 use Rattle.farm_machine.specs.declared.reply.Reply.{Reply}
 use Rattle.farm_server.specs.Served.{Ask, questions_of}
 use Rattle.farm_cli.specs.House.{CanGive, after_giving, after_return, WasLent, after_opened, after_closing, CanOpenAmong, Lendings}
-use Rattle.farm_cli.specs.Run.{LeavesConsole, UsedConsole, Obeyed, RanOverFile, RanSigning, RanCommand, Ran}
+use Rattle.farm_cli.specs.Used.{LeavesConsole, UsedConsole}
+use Rattle.farm_cli.specs.Run.{DidOver, Obeyed, RanOverFile, RanSigning, RanCommand, Ran}
 use Rattle.farm_cli.specs.Serving.{IsHistoryOf, Conversed}
 use Rattle.http_wire.specs.Calls.{LinkState}
 use Rattle.farm_cli.specs.Views.{Views}

@@ -3,6 +3,7 @@
 
 mod checking;
 mod commands;
+mod disks;
 mod ended;
 mod expanding;
 mod farm_file;

@@ -22,9 +22,9 @@ use command_line::{Command, WordsFault, Work, read_words};
 use std::alloc::Global;
 
 /// Runs what the words ask for, over what the house lends: `answer FARM` serves one connection on the console over a farm that begins
-/// without tasks, `expand FARM` writes all that the console's scopes give, `check FARM` counts what the farm file has, and `sign` writes
-/// the header that signs a request. All that was
-/// asked for is given back, and the notes are told a line where the status is not `Done`.
+/// without tasks, and `answer FARM --disk NAME` over the farm that a disk keeps, `expand FARM` writes all that the console's scopes give,
+/// `check FARM` counts what the farm file has, and with `--disk NAME` what the disk has, and `sign` writes the header that signs a request. All
+/// that was asked for is given back, and the notes are told a line where the status is not `Done`.
 ///
 /// The history that `answer` leads through is legal, so the laws of `farm_machine::law` hold of it: a call is denied exactly where its
 /// caller's scopes do not hold what it asks (`a_denial_is_of_scopes_that_are_missing`), a task is created once
@@ -65,15 +65,15 @@ fn run_command<H: House>(alloc: Global, command: &Command, house: &mut H) -> End
     ensures later { H.refusals house.old ≤ H.refusals house.new }
 {
     match command {
-        Command::OverFarm { farm, work } => run_over_farm(alloc, farm.as_str(), *work, house),
+        Command::OverFarm { farm, work } => run_over_farm(alloc, farm.as_str(), work, house),
         Command::Sign { signing } => sign_over(alloc, signing, house),
     }
 }
 
 /// Does work over a farm, where its file can be opened.
-fn run_over_farm<H: House>(alloc: Global, farm: &str, work: Work, house: &mut H) -> Ended
+fn run_over_farm<H: House>(alloc: Global, farm: &str, work: &Work, house: &mut H) -> Ended
     ensures ran { let views = views_of H.File.Source H.Store.Disk H.Console.Link H.Notes.Sink H.Time.Clock H.Ids.Draws in
-        RanCommand views (H.lends house.old) (H.lends house.new) (H.refusals house.old) (H.refusals house.new) (OverFarm farm.now work) result.status }
+        RanCommand views (H.lends house.old) (H.lends house.new) (H.refusals house.old) (H.refusals house.new) (OverFarm farm.now work.now) result.status }
     ensures notes { (H.lends house.new).notes ≡ (H.lends house.old).notes }
     ensures later { H.refusals house.old ≤ H.refusals house.new }
 {
@@ -87,16 +87,16 @@ fn run_over_farm<H: House>(alloc: Global, farm: &str, work: Work, house: &mut H)
 fn run_over_file<H: House>(
     alloc: Global,
     farm: &str,
-    work: Work,
+    work: &Work,
     file: H::File,
     house: &mut H,
 ) -> Ended
     ensures ran { let views = views_of H.File.Source H.Store.Disk H.Console.Link H.Notes.Sink H.Time.Clock H.Ids.Draws in
         (closed : H.File) × ((H.lends house.new).file ≡ after_closing (H.lends house.old).file closed)
         × LosesWithin (LONGEST_FILE + piece_size) (H.File.left file) (H.File.left closed)
-        × RanOverFile views (H.lends house.old) (H.lends house.new) work file closed result.status }
+        × RanOverFile views (H.lends house.old) (H.lends house.new) (H.refusals house.old) (H.refusals house.new) work.now file closed result.status }
     ensures notes { (H.lends house.new).notes ≡ (H.lends house.old).notes }
-    ensures refusals { H.refusals house.new ≡ H.refusals house.old }
+    ensures later { H.refusals house.old ≤ H.refusals house.new }
 {
     let (file, config) = read_config(alloc, farm, file);
     house.back_farm_file(file);
