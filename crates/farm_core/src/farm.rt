@@ -100,6 +100,13 @@ impl<D: Disk> Farm<D> {
         }
     }
 
+    /// Whether a call of its disk failed since it was opened: then it answers no more.
+    pub fn halted(&self) -> bool
+        ensures { result ≡ self.now.records.halted }
+    {
+        self.records.halted()
+    }
+
     /// The disk.
     pub fn into_disk(self) -> D
         ensures { result ≡ self.records.disk }
