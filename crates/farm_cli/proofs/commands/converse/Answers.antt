@@ -8,6 +8,7 @@ returns-clause-conversed g c =
     let lent = WereLent-from_calls _ _ _ _ _ _ _ _ _ _ _ _ _ c.console-console.ensures.gives c.console-console.ensures.lends c.clock-clock.ensures.gives c.clock-clock.ensures.lends c.draws-draws.ensures.gives c.draws-draws.ensures.lends c.back_console.ensures.lends c.back_clock.ensures.lends c.back_draws.ensures.lends in
     let serves = c.serve_connection-served.ensures.serves in
     record {
+      disk = lent.disk_left;
       console_given = c.console-console.result;
       console_back = c.serve_connection-served.new.link;
       console = lent.console_lent;
