@@ -19,6 +19,7 @@ use crate::status::Status;
 use crate::writing::write_line;
 use causes::Failed;
 use command_line::{Command, WordsFault, Work, read_words};
+use farm_record::a_record_is_of_one_change;
 use std::alloc::Global;
 
 /// Runs what the words ask for, over what the house lends: `answer FARM` serves one connection on the console over a farm that begins
@@ -37,6 +38,7 @@ pub fn run<H: House>(alloc: Global, words: &[String], house: &mut H) -> Status
     ensures home { AllHome (H.lends house.old) (H.lends house.new) }
     ensures later { H.refusals house.old ≤ H.refusals house.new }
 {
+    a_record_is_of_one_change();
     let ended = perform(alloc, words, house);
     tell(alloc, &ended, house);
     ended.status()
