@@ -23,15 +23,16 @@ use Rattle.farm_machine.specs.Law.{Opening, opened}
 use Rattle.farm_machine.specs.State.{State}
 use Rattle.farm_machine.specs.Step.{farm_rules}
 use Rattle.farm_machine.specs.declared.reply.Reply.{Reply}
-use Rattle.farm_server.specs.Served.{Ask, questions_of}
+use Rattle.farm_server.specs.Served.{Ask, questions_of, Spoke}
+use Rattle.farm_server.specs.declared.served.Served.{Served}
 use Rattle.farm_cli.specs.Checking.{CheckedOver}
 use Rattle.farm_cli.specs.Disks.{BeginsFrom, DiskHolds, HasFarm, IsMissing, WasUnopened}
 use Rattle.farm_cli.specs.House.{CanGive, after_giving, after_return, WasLent, after_opened, after_closing, CanOpenAmong, WasOpened, Lendings}
 use Rattle.farm_cli.specs.Used.{LeavesConsole, UsedConsole}
 use Rattle.farm_cli.specs.Run.{DidOver, Obeyed, RanOverFile, RanSigning, RanCommand, Ran}
-use Rattle.farm_cli.specs.Serving.{IsHistoryOf, Conversed, ConversedOver}
+use Rattle.farm_cli.specs.Serving.{IsHistoryOf, Conversed, ConversedOver, status_over}
 use Rattle.http_wire.specs.Calls.{LinkState}
-use Rattle.farm_cli.specs.Views.{Views}
+use Rattle.farm_cli.specs.Views.{Views, outside_of}
 use Rattle.farm_cli.specs.declared.status.Status.{Status}
 use Rattle.std.specs.Prelude.{Ok}
 
@@ -179,6 +180,38 @@ HasHistory-from_turns views disk end opening state old new asks replies fresh tu
       ends = leads.leads;
       holds = record { end = end; holds = both.1 };
     }
+
+module _ {F S C N T I : Type 0} (views : Views F S C N T I) (old l0 new : Lendings F S C N T I) (before now0 now : ℕ) (name : List ℕ) (set_up config : Config) (contents : Contents) (recorded : Recorded S)
+    (has : HasFarm views old l0 before now0 name set_up config contents recorded) (back : S) (console console' : C) (clock clock' : T) (draws draws' : I) where
+  -- the console was served over the farm of a disk, and the disk came back
+  pub ConversedOver-from : LentOver old new name has.given back console console' clock clock' draws draws' → now ≡ now0 → (asks : List Ask) (replies : List Reply) (served : Served) (state : State) (status : Status)
+      → Spoke (outside_of views console clock draws) (outside_of views console' clock' draws') asks replies served
+      → HasHistory views back state (has_opening views old l0 before now0 name set_up config contents recorded has) asks replies → status ≡ status_over state.halted served
+      → ConversedOver views old new before now set_up name status
+  ConversedOver-from lent openings asks replies served state status spoke h status_is = record {
+    openings = openings ∙ has.openings;
+    disk_given = has.given;
+    disk_back = back;
+    disk = lent.disk_lent;
+    console_given = console;
+    console_back = console';
+    console = lent.console_lent;
+    clock_given = clock;
+    clock_back = clock';
+    clock = lent.clock_lent;
+    draws_given = draws;
+    draws_back = draws';
+    draws = lent.draws_lent;
+    opening = has_opening views old l0 before now0 name set_up config contents recorded has;
+    begins = has_begun views old l0 before now0 name set_up config contents recorded has;
+    asks = asks;
+    replies = replies;
+    served = served;
+    spoke = spoke;
+    history = h.history;
+    holds = subst (λ (s : State). DiskHolds views back s (has_opening views old l0 before now0 name set_up config contents recorded has) h.history.history) h.ends h.holds;
+    status_is = status_is ∙ ap (λ (s : State). status_over s.halted served) h.ends;
+  }
 
 -- ---- what was done with the console is said of any lendings that tell the same of it
 
