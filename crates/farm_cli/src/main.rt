@@ -3,6 +3,8 @@
 
 mod checking;
 mod commands;
+#[cfg(test)]
+mod disk_tests;
 mod disks;
 mod ended;
 mod expanding;
