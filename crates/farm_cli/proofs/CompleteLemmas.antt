@@ -202,10 +202,10 @@ finishes_answer {F} {S} views old new before now config name status console disk
   ran.opening,
   subst (λ (d : S). BeginsFrom views d config ran.opening) met.0 ran.begins,
   λ bytes messages ending known list. elim (answers_all views old new ran.opening.state status console ran.console_given ran.console_back ran.clock_given ran.clock_back ran.draws_given ran.draws_back ran.asks ran.replies ran.served bytes messages ending
-  ran.console ran.spoke ran.history (by _ refl) ready known list well) [
-    | inl none ↦ absurd (some none)
-    | inr all ↦ all
-  ],
+      ran.console ran.spoke ran.history (by _ refl) ready known list well) [
+        | inl none ↦ absurd (some none)
+        | inr all ↦ all
+      ],
 )
   where
     met : (ran.disk_given ≡ disk) × (new.disk ≡ back ran.disk_back)

@@ -1,15 +1,15 @@
 //! The commands, over what a house lends.
 ghost use Rattle.std.specs.Prelude.{◌≡◌};
-ghost use Rattle.farm_cli.specs.Checking.{CheckedOver, Checks};
+ghost use Rattle.farm_cli.specs.Checking.{Checks};
 ghost use Rattle.farm_cli.specs.Expanding.{Expands};
-ghost use Rattle.farm_cli.specs.Run.{DidOver, Obeyed};
+ghost use Rattle.farm_cli.specs.Run.{Obeyed};
 ghost use Rattle.farm_cli.specs.Used.{UsedConsole};
-ghost use Rattle.farm_cli.specs.Serving.{Conversed, ConversedOver};
+ghost use Rattle.farm_cli.specs.Serving.{Conversed};
 ghost use Rattle.farm_cli.specs.Signing.{Signs};
 ghost use Rattle.farm_cli.specs.Views.{views_of};
 
-use crate::checking::{check, tell_counts};
-use crate::disks::{on_disk, open_farm};
+use crate::checking::check;
+use crate::disks::{check_disk, converse_over};
 use crate::ended::Ended;
 use crate::expanding::expand;
 use crate::house::House;
@@ -64,42 +64,6 @@ fn converse<H: House>(alloc: Global, config: Config, house: &mut H) -> Ended
     Ended::after_serving(alloc, served)
 }
 
-/// Serves the console over the farm that the disk of this name keeps, and gives the disk back.
-fn converse_over<H: House>(alloc: Global, name: &str, config: Config, house: &mut H) -> Ended
-    ensures conversed { let views = views_of H.File.Source H.Store.Disk H.Console.Link H.Notes.Sink H.Time.Clock H.Ids.Draws in
-        DidOver views (H.lends house.old) (H.lends house.new) (H.refusals house.old) (H.refusals house.new) name.now result.status
-        (ConversedOver views (H.lends house.old) (H.lends house.new) (H.refusals house.old) (H.refusals house.new) config name.now result.status) }
-    ensures file { (H.lends house.new).file ≡ (H.lends house.old).file }
-    ensures notes { (H.lends house.new).notes ≡ (H.lends house.old).notes }
-{
-    let farm = match open_farm(alloc, name, config, house) {
-        Ok(farm) => farm,
-        Err(ended) => return ended,
-    };
-    let mut console = house.console();
-    let mut clock = house.clock();
-    let mut draws = house.draws();
-    let mut desk = Solo::new(farm);
-    let served = serve_connection(
-        alloc,
-        &mut console,
-        &mut desk,
-        &mut clock,
-        &mut draws,
-        &mut NoGate,
-    );
-    house.back_console(console);
-    house.back_clock(clock);
-    house.back_draws(draws);
-    let farm = desk.into_object();
-    let halted = farm.halted();
-    house.back_disk(farm.into_disk());
-    if halted {
-        return on_disk(alloc, name);
-    }
-    Ended::after_serving(alloc, served)
-}
-
 /// Expands the console's scopes over the roles of a farm.
 fn expand_over<H: House>(alloc: Global, config: &Config, house: &mut H) -> Ended
     ensures used { let views = views_of H.File.Source H.Store.Disk H.Console.Link H.Notes.Sink H.Time.Clock H.Ids.Draws in
@@ -124,27 +88,6 @@ fn check_over<H: House>(alloc: Global, config: &Config, house: &mut H) -> Ended
 {
     let mut console = house.console();
     let ended = check(alloc, config, &mut console);
-    house.back_console(console);
-    ended
-}
-
-/// Counts what a farm and the disk of this name have, on the console, and gives the disk back.
-fn check_disk<H: House>(alloc: Global, name: &str, config: Config, house: &mut H) -> Ended
-    ensures checked { let views = views_of H.File.Source H.Store.Disk H.Console.Link H.Notes.Sink H.Time.Clock H.Ids.Draws in
-        DidOver views (H.lends house.old) (H.lends house.new) (H.refusals house.old) (H.refusals house.new) name.now result.status
-        (CheckedOver views (H.lends house.old) (H.lends house.new) (H.refusals house.old) (H.refusals house.new) config name.now result.status) }
-    ensures file { (H.lends house.new).file ≡ (H.lends house.old).file }
-    ensures notes { (H.lends house.new).notes ≡ (H.lends house.old).notes }
-{
-    let has = config.counts();
-    let farm = match open_farm(alloc, name, config, house) {
-        Ok(farm) => farm,
-        Err(ended) => return ended,
-    };
-    let keeps = farm.counts();
-    house.back_disk(farm.into_disk());
-    let mut console = house.console();
-    let ended = tell_counts(alloc, has, keeps, &mut console);
     house.back_console(console);
     ended
 }

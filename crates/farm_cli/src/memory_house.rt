@@ -84,8 +84,7 @@ impl MemoryHouse {
     }
 
     /// The disk, if it came back.
-    pub fn returned_disk(&self) -> Option<&MemoryDisk>
-    {
+    pub fn returned_disk(&self) -> Option<&MemoryDisk> {
         match &self.disk {
             Some(named) => named.disk.returned(),
             None => None,

@@ -15,7 +15,7 @@ returns-in-Ok-clause-ran g c =
         taken.0,
         taken.1,
         subst (λ n. Obeyed _ _ _ n _ _ _ _) c.back_farm_file.ensures.refusals
-        (Obeyed-same _ (g.H.House.lends c.back_farm_file.new.self) _ _ _ _ _ _ _ _ (record { disk = rw lends refl; console = rw lends refl; clock = rw lends refl; draws = rw lends refl })
-        (record { disk = refl; console = refl; clock = refl; draws = refl }) c.obey.ensures.obeyed),
+            (Obeyed-same _ (g.H.House.lends c.back_farm_file.new.self) _ _ _ _ _ _ _ _ (record { disk = rw lends refl; console = rw lends refl; clock = rw lends refl; draws = rw lends refl })
+            (record { disk = refl; console = refl; clock = refl; draws = refl }) c.obey.ensures.obeyed),
       ),
     )

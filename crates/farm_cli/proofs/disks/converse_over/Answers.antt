@@ -2,7 +2,7 @@
 use Rattle.std.proofs.Common.{sym, ap, ◌∙◌, subst, inl, inr}
 use Rattle.farm_core.specs.Farm.{state_of}
 use Rattle.farm_cli.proofs.RunLemmas.{WereLent-from_calls, LentOver-from, has_opening, has_held, HasHistory-from_turns, ConversedOver-from}
-use Rattle.farm_cli.proofs.commands.converse_over.Goals as goal
+use Rattle.farm_cli.proofs.disks.converse_over.Goals as goal
 
 pub returns-in-Err-clause-conversed : goal.returns-in-Err-clause-conversed
 returns-in-Err-clause-conversed g c = elim c.in-Err.ensures [ inl missing ↦ inr (inr missing) | inr unopened ↦ inr (inl unopened) ]

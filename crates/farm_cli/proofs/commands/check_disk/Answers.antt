@@ -1,2 +1,0 @@
--- TODO (not seen by a check)
-use Rattle.farm_cli.proofs.commands.check_disk.Goals as goal
