@@ -1,5 +1,5 @@
 -- What the calls of a run leave together.
-use Rattle.std.proofs.Common.{◌≡◌, ℕ, ◌+◌, suc, false, List, [], ◌∷◌, ◌++◌, length, Option, Some, None, refl, sym, ap, subst, ◌∙◌, inl, inr}
+use Rattle.std.proofs.Common.{◌≡◌, ℕ, ◌+◌, suc, false, Bool, List, [], ◌∷◌, ◌++◌, length, Option, Some, None, refl, sym, ap, subst, ◌∙◌, inl, inr}
 use Rattle.std.proofs.lemmas.List.{append-nil}
 use Rattle.history.specs.Asks.{AsksInTurn, LeadsAlone}
 use Rattle.history.specs.Histories.{end_state}
@@ -25,14 +25,17 @@ use Rattle.farm_machine.specs.Step.{farm_rules}
 use Rattle.farm_machine.specs.declared.reply.Reply.{Reply}
 use Rattle.farm_server.specs.Served.{Ask, questions_of, Spoke}
 use Rattle.farm_server.specs.declared.served.Served.{Served}
-use Rattle.farm_cli.specs.Checking.{CheckedOver}
+use Rattle.farm_cli.specs.Checking.{CheckedOver, counts_disk_text}
+use Rattle.farm_cli.specs.Inputs.{Tells}
+use Rattle.farm_machine.specs.Config.{counts_of}
+use Rattle.farm_machine.specs.declared.config.ConfigCounts.{ConfigCounts}
 use Rattle.farm_cli.specs.Disks.{BeginsFrom, DiskHolds, HasFarm, IsMissing, WasUnopened}
 use Rattle.farm_cli.specs.House.{CanGive, after_giving, after_return, WasLent, after_opened, after_closing, CanOpenAmong, WasOpened, Lendings}
 use Rattle.farm_cli.specs.Used.{LeavesConsole, UsedConsole}
 use Rattle.farm_cli.specs.Run.{DidOver, Obeyed, RanOverFile, RanSigning, RanCommand, Ran}
 use Rattle.farm_cli.specs.Serving.{IsHistoryOf, Conversed, ConversedOver, status_over}
 use Rattle.http_wire.specs.Calls.{LinkState}
-use Rattle.farm_cli.specs.Views.{Views, outside_of}
+use Rattle.farm_cli.specs.Views.{Views, outside_of, talk_of}
 use Rattle.farm_cli.specs.declared.status.Status.{Status}
 use Rattle.std.specs.Prelude.{Ok}
 
@@ -212,6 +215,37 @@ module _ {F S C N T I : Type 0} (views : Views F S C N T I) (old l0 new : Lendin
     holds = subst (λ (s : State). DiskHolds views back s (has_opening views old l0 before now0 name set_up config contents recorded has) h.history.history) h.ends h.holds;
     status_is = status_is ∙ ap (λ (s : State). status_over s.halted served) h.ends;
   }
+
+module _ {F S C N T I : Type 0} (views : Views F S C N T I) (old l0 l1 l2 new : Lendings F S C N T I) (before now0 now : ℕ) (name : List ℕ) (set_up config : Config) (contents : Contents) (recorded : Recorded S)
+    (has : HasFarm views old l0 before now0 name set_up config contents recorded) (console console' : C) where
+  -- the farm of a disk was counted, and the disk came back before the console was asked for
+  pub CheckedOver-from : l1 ≡ record l0 { disk = after_closing l0.disk recorded.disk } → CanGive l1.console console → l2 ≡ record l1 { console = after_giving l1.console }
+      → new ≡ record l2 { console = after_return l2.console console' } → now ≡ now0 → (counts : ConfigCounts) (records tasks : ℕ) (status : Status) → counts ≡ counts_of set_up → records ≡ recorded.count → tasks ≡ length contents.rows
+      → Tells (counts_disk_text counts records tasks) (talk_of views console) (talk_of views console') status → CheckedOver views old new before now set_up name status
+  CheckedOver-from closes gives asks returns openings counts records tasks status counts_is records_is tasks_is told =
+      let opens = has.lends in
+      let opening : Opening = has_opening views old l0 before now0 name set_up config contents recorded has in
+      let counted = records_is ∙ has_counted views old l0 before now0 name set_up config contents recorded has in
+      record {
+        openings = openings ∙ has.openings;
+        disk_given = has.given;
+        disk_back = recorded.disk;
+        disk = record { could = has.could; returned = rw (returns, asks, closes, opens) refl };
+        given = console;
+        back = console';
+        console = record { could = rw (closes, opens) at gives; returned = rw (returns, asks, closes, opens) refl };
+        clock = rw (returns, asks, closes, opens) refl;
+        draws = rw (returns, asks, closes, opens) refl;
+        opening = opening;
+        begins = has_begun views old l0 before now0 name set_up config contents recorded has;
+        kept = has.kept;
+        holds = record {
+          end = recorded.end;
+          holds = subst (λ (b : Bool). HoldsHistory views.disk_tells (views.disk_contents recorded.disk) recorded.end (views.disk_faults recorded.disk) (state_of config contents b) opening []) has.at_work
+              (has_held views old l0 before now0 name set_up config contents recorded has);
+        };
+        did = rw (← counts_is, ← counted, ← tasks_is) told;
+      }
 
 -- ---- what was done with the console is said of any lendings that tell the same of it
 
