@@ -1,13 +1,17 @@
 -- What a farm holds of a history goes on by the entries of its asks.
-use Rattle.std.proofs.Common.{◌≡◌, ◌⊎◌, ℕ, true, false, Bool, List, [], ◌∷◌, ◌++◌, refl, sym, ap, ◌∙◌, subst, append_assoc, inl, inr}
+use Rattle.std.proofs.Common.{◌≡◌, ◌⊎◌, ℕ, true, false, Bool, List, [], ◌∷◌, ◌++◌, None, refl, sym, ap, ◌∙◌, subst, append_assoc, inl, inr}
 use Rattle.std.proofs.lemmas.List.{append-nil}
 use Rattle.std.proofs.lemmas.Grind.{flat_map-append}
 use Rattle.history.specs.Asks.{IsAsk}
 use Rattle.history.specs.Histories.{entries, end_state, Leads}
 use Rattle.history.proofs.HistoriesLemmas.{end_state-append}
 use Rattle.disk_base.specs.Contents.{Contents as Disk}
+use Rattle.disk_journal.specs.Images.{IsImage}
 use Rattle.disk_journal.specs.Keeping.{Keeps}
+use Rattle.disk_journal.proofs.AppendLemmas.{ready_image}
 use Rattle.farm_record.specs.declared.change.Change.{Change}
+use Rattle.farm_rows.specs.Contents.{Contents}
+use Rattle.farm_machine.specs.declared.config.Config.{Config}
 use Rattle.farm_machine.specs.declared.reply.Asked.{Asked}
 use Rattle.farm_machine.specs.declared.reply.Reply.TheVariants.{Halted}
 use Rattle.farm_machine.specs.Entry.{Asking, Entry, call, disk_failed, was_halted}
@@ -15,9 +19,10 @@ use Rattle.farm_machine.specs.Law.{Opening, opened}
 use Rattle.farm_machine.specs.Replay.{records_by, records_of}
 use Rattle.farm_machine.specs.State.{State}
 use Rattle.farm_machine.specs.Step.{IsToKeep, farm_rules, ticks_before}
-use Rattle.farm_core.specs.Farm.{AsksDisk, AreFailedBy, TellsFaults, HoldsHistory}
+use Rattle.farm_core.specs.Farm.{AsksDisk, AreFailedBy, TellsFaults, HoldsHistory, state_of}
+use Rattle.farm_core.specs.Opened.{HasOpened}
 use Rattle.farm_core.specs.Records.{AreRecords, KeepsRecords, HasRecords, IsFailed}
-use Rattle.farm_core.proofs.FaultLemmas.{tells-then}
+use Rattle.farm_core.proofs.FaultLemmas.{tells-kept, tells-then}
 use Rattle.farm_core.proofs.RecordLemmas.{records-append}
 
 -- ---- a farm that has halted
@@ -122,3 +127,23 @@ halted-asked state now asking answer halted same is =
 pub entries-halted : (state : State) (asking : Asking) (answer : Asked) (entry : Entry) → answer ≡ record { reply = Halted; ticked = false } → entries farm_rules state asking answer entry ≡ entry ∷ []
 unfolding farm_rules
 entries-halted state asking answer entry is = ap (λ (a : Asked). entries farm_rules state asking a entry) is
+
+-- ---- a farm that was opened holds what it was opened from
+
+pub holds-opened : (tells : Type 0) (file : List ℕ) (disk : Disk) (end count faults : ℕ) (config : Config) (contents : Contents) (o : HasOpened tells file disk end count contents)
+    → HoldsHistory tells disk end faults (state_of config contents false) (record { state = state_of config contents false; records = o.replays.changes; faults = faults }) []
+holds-opened tells file disk end count faults config contents o = record {
+  counts = tells-kept faults faults false refl refl;
+  failed = [];
+  failed_in = inl refl;
+  records = λ told.
+      let ready = o.ready told in
+      record {
+        bodies = o.bodies;
+        others = [];
+        recorded = subst (λ (l : List Change). AreRecords l o.bodies) (sym (append-nil o.replays.changes)) o.replays.recorded;
+        pending = refl;
+        at_work = λ still. (refl, ready);
+        images = λ image left. subst (IsImage [] o.bodies None) (sym (ready.settled image left)) (ready_image [] disk end o.bodies ready);
+      };
+}

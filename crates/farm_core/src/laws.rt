@@ -1,5 +1,5 @@
 //! Laws of what a farm's disk has. The functions do nothing: their contracts are the laws.
-ghost use Rattle.std.specs.Prelude.{ℕ, List, ◌++◌, []};
+ghost use Rattle.std.specs.Prelude.{false, ℕ, List, ◌++◌, []};
 ghost use Rattle.disk_base.specs.Contents.{LeftNow};
 ghost use Rattle.disk_journal.specs.Images.{IsWithin};
 ghost use Rattle.history.specs.Histories.{Leads};
@@ -9,8 +9,9 @@ ghost use Rattle.farm_machine.specs.Law.{Opening};
 ghost use Rattle.farm_machine.specs.Replay.{Restores};
 ghost use Rattle.farm_machine.specs.State.{State};
 ghost use Rattle.farm_machine.specs.Step.{farm_rules};
-ghost use Rattle.farm_core.specs.Farm.{HoldsHistory};
-ghost use Rattle.farm_core.specs.Opened.{Replays, IsFarmDamaged};
+ghost use Rattle.farm_machine.specs.declared.config.Config.{Config as AnyConfig};
+ghost use Rattle.farm_core.specs.Farm.{HoldsHistory, state_of};
+ghost use Rattle.farm_core.specs.Opened.{HasOpened, Replays, IsFarmDamaged};
 
 use disk_base::Disk;
 use farm_record::a_record_is_of_one_change;
@@ -33,3 +34,11 @@ pub fn images_are_never_damaged<D: Disk>()
 {
     a_record_is_of_one_change();
 }
+
+/// A farm that was opened from a disk holds the history that begins from the records it was replayed from, and has no entry yet.
+pub fn an_opened_farm_holds_its_records<D: Disk>()
+    ensures { (file : List ℕ) (disk : D) (end count : ℕ) (config : AnyConfig) (contents : Contents)
+        → (opened : HasOpened D.tells file (D.contents disk) end count contents)
+        → HoldsHistory D.tells (D.contents disk) end (D.faults disk) (state_of config contents false)
+        (record { state = state_of config contents false; records = opened.replays.changes; faults = D.faults disk }) [] }
+{}

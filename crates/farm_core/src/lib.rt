@@ -13,7 +13,9 @@ mod restoring;
 
 pub use bare::Bare;
 pub use farm::{Counts, Farm};
-pub use laws::{images_are_never_damaged, what_replays_is_never_damaged};
+pub use laws::{
+    an_opened_farm_holds_its_records, images_are_never_damaged, what_replays_is_never_damaged,
+};
 
 #[cfg(test)]
 mod tests;
