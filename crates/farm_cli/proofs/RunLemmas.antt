@@ -1,15 +1,12 @@
 -- What the calls of a run leave together.
 use Rattle.std.proofs.Common.{◌≡◌, ℕ, ◌+◌, suc, false, Bool, List, [], ◌∷◌, ◌++◌, length, Option, Some, None, refl, sym, ap, subst, ◌∙◌, inl, inr}
-use Rattle.std.proofs.lemmas.List.{append-nil}
 use Rattle.history.specs.Asks.{AsksInTurn, LeadsAlone}
 use Rattle.history.specs.Histories.{end_state}
-use Rattle.disk_journal.specs.Images.{IsImage}
-use Rattle.disk_journal.proofs.AppendLemmas.{ready_image}
 use Rattle.farm_record.specs.declared.change.Change.{Change}
 use Rattle.farm_rows.specs.Contents.{Contents}
 use Rattle.farm_core.specs.Farm.{HoldsHistory, state_of}
 use Rattle.farm_core.specs.Records.{AreRecords, Recorded}
-use Rattle.farm_core.proofs.FaultLemmas.{tells-kept}
+use Rattle.farm_core.proofs.HoldLemmas.{holds-opened}
 use Rattle.command_line.specs.declared.command.Command.{Command}
 use Rattle.command_line.specs.declared.command.Command.TheVariants.{OverFarm, Sign}
 use Rattle.command_line.specs.declared.command.Work.{Work}
@@ -112,23 +109,11 @@ module _ {F S C N T I : Type 0} (views : Views F S C N T I) (old new : Lendings 
   -- it holds its history, which is empty
   pub has_held : HoldsHistory views.disk_tells (views.disk_contents recorded.disk) recorded.end (views.disk_faults recorded.disk) (state_of config contents recorded.halted) has_opening []
   unfolding has_opening
-  has_held = record {
-    counts = tells-kept (views.disk_faults has.given) (views.disk_faults recorded.disk) recorded.halted has.at_work has.kept;
-    failed = [];
-    failed_in = inl refl;
-    records = λ told.
-        let ready = has.opened.ready told in
-        let all : has.opened.replays.changes ++ [] ≡ has.opened.replays.changes = append-nil has.opened.replays.changes in
-        let none : has.opened.bodies ++ [] ≡ has.opened.bodies = append-nil has.opened.bodies in
-        record {
-          bodies = has.opened.bodies;
-          others = [];
-          recorded = subst (λ (l : List Change). AreRecords l has.opened.bodies) (sym all) has.opened.replays.recorded;
-          pending = refl;
-          at_work = λ working. (refl, ready);
-          images = λ image left. subst (IsImage [] has.opened.bodies None) (sym (ready.settled image left)) (ready_image [] (views.disk_contents recorded.disk) recorded.end has.opened.bodies ready);
-        };
-  }
+  has_held =
+      let P : ℕ → Bool → Type 0 = λ n b. HoldsHistory views.disk_tells (views.disk_contents recorded.disk) recorded.end n (state_of config contents b) has_opening [] in
+      let begun : P (views.disk_faults has.given) false =
+      holds-opened views.disk_tells (views.disk_contents has.given).bytes (views.disk_contents recorded.disk) recorded.end recorded.count (views.disk_faults has.given) config contents has.opened in
+      subst (λ (n : ℕ). P n recorded.halted) (sym has.kept) (subst (P (views.disk_faults has.given)) (sym has.at_work) begun)
 
   -- so many records were told of
   pub has_counted : recorded.count ≡ length has_opening.records
