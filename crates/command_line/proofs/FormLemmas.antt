@@ -15,20 +15,23 @@ use Rattle.clap.proofs.OnLiterals.{clap_on_literals}
 use Rattle.clap.specs.declared.error.ErrorKind.TheVariants.{UnknownArgument, InvalidSubcommand}
 use Rattle.command_line.proofs.DiskFormLemmas.{Says, args, both_read, end_of, faults, found, reads, start, start_said}
 use Rattle.command_line.proofs.FlagLemmas.{IsFlag, value_cases, word_kind}
-use Rattle.command_line.proofs.LawLemmas.{answer_stops, check_stops, empty_read, expand_stops, fails_below, help_first, no_reading, other_first, sign_stops}
+use Rattle.command_line.proofs.LawLemmas.{answer_stops, bulk_stops, check_stops, empty_read, expand_stops, fails_below, help_first, no_reading, other_first, sign_stops}
 use Rattle.command_line.specs.Forms.{Gives, GivesValue, IsValue, SaysWork}
 use Rattle.command_line.specs.Words.{IsPlain, command_in, farm_app, reading, with_farm}
+use Rattle.command_line.specs.Load.{load_in}
 use Rattle.command_line.specs.Signing.{signing_in}
 use Rattle.command_line.specs.declared.command.Command.{Command}
-use Rattle.command_line.specs.declared.command.Command.TheVariants.{OverFarm, Sign}
+use Rattle.command_line.specs.declared.command.Command.TheVariants.{OverFarm, Sign, Bulk}
 use Rattle.command_line.specs.declared.command.Work.{Work}
 use Rattle.command_line.specs.declared.command.Work.TheVariants.{Answer, Expand, Check}
+use Rattle.command_line.specs.declared.load.Load.{Load}
 use Rattle.command_line.specs.declared.signing.Signing.{Signing}
 
 -- the words say the command, if it is work over a farm
 abbrev SaysCommand : Command → List Text → Type 0
 SaysCommand (OverFarm farm work) words = SaysWork farm work words
 SaysCommand (Sign signing) words = Unit {0}
+SaysCommand (Bulk load) words = Unit {0}
 
 none_some : (command : Command) → None ≡ Some command → ⊥
 none_some command e = cc
@@ -188,23 +191,24 @@ dash_unread rest = refl
 -- the first word of words that have a reading is a command's name
 abbrev IsName : Text → Type 0
 IsName w =
-    (bytes_eq (codes "answer") w ≡ true) ⊎ ((bytes_eq (codes "expand") w ≡ true) ⊎ ((bytes_eq (codes "check") w ≡ true) ⊎ (bytes_eq (codes "sign") w ≡ true)))
+    (bytes_eq (codes "answer") w ≡ true) ⊎ ((bytes_eq (codes "expand") w ≡ true) ⊎ ((bytes_eq (codes "check") w ≡ true) ⊎ ((bytes_eq (codes "sign") w ≡ true) ⊎ (bytes_eq (codes "bulk") w ≡ true))))
 
-value_named : (w : Text) (rest : List Text) (command : Command) → IsPlain w → reading (w ∷ rest) ≡ Some command → (a e c s h : Bool) → bytes_eq (codes "answer") w ≡ a
-    → bytes_eq (codes "expand") w ≡ e → bytes_eq (codes "check") w ≡ c → bytes_eq (codes "sign") w ≡ s → bytes_eq (codes "help") w ≡ h → IsName w
-value_named w rest command plain read true e c s h is_a is_e is_c is_s is_h = inl is_a
-value_named w rest command plain read false true c s h is_a is_e is_c is_s is_h = inr (inl is_e)
-value_named w rest command plain read false false true s h is_a is_e is_c is_s is_h = inr (inr (inl is_c))
-value_named w rest command plain read false false false true h is_a is_e is_c is_s is_h = inr (inr (inr is_s))
-value_named w rest command plain read false false false false true is_a is_e is_c is_s is_h =
+value_named : (w : Text) (rest : List Text) (command : Command) → IsPlain w → reading (w ∷ rest) ≡ Some command → (a e c s b h : Bool) → bytes_eq (codes "answer") w ≡ a
+    → bytes_eq (codes "expand") w ≡ e → bytes_eq (codes "check") w ≡ c → bytes_eq (codes "sign") w ≡ s → bytes_eq (codes "bulk") w ≡ b → bytes_eq (codes "help") w ≡ h → IsName w
+value_named w rest command plain read true e c s b h is_a is_e is_c is_s is_b is_h = inl is_a
+value_named w rest command plain read false true c s b h is_a is_e is_c is_s is_b is_h = inr (inl is_e)
+value_named w rest command plain read false false true s b h is_a is_e is_c is_s is_b is_h = inr (inr (inl is_c))
+value_named w rest command plain read false false false true b h is_a is_e is_c is_s is_b is_h = inr (inr (inr (inl is_s)))
+value_named w rest command plain read false false false false true h is_a is_e is_c is_s is_b is_h = inr (inr (inr (inr is_b)))
+value_named w rest command plain read false false false false false true is_a is_e is_c is_s is_b is_h =
     let none = help_first w rest is_h in absurd (none_some command (sym none ∙ read))
-value_named w rest command plain read false false false false false is_a is_e is_c is_s is_h =
-    let none = other_first w rest plain is_a is_e is_c is_s is_h in absurd (none_some command (sym none ∙ read))
+value_named w rest command plain read false false false false false false is_a is_e is_c is_s is_b is_h =
+    let none = other_first w rest plain is_a is_e is_c is_s is_b is_h in absurd (none_some command (sym none ∙ read))
 
 first_named : (w : Text) (rest : List Text) (command : Command) → IsUtf8 w → reading (w ∷ rest) ≡ Some command → IsName w
 first_named w rest command utf8 read = elim (word_kind w utf8) [
   | inl v ↦ elim v [
-    | inl plain ↦ value_named w rest command plain read _ _ _ _ _ refl refl refl refl refl
+    | inl plain ↦ value_named w rest command plain read _ _ _ _ _ _ refl refl refl refl refl refl
     | inr dash ↦ let none = no_reading ((45 ∷ []) ∷ rest) (ap is_empty (dash_unread rest)) in
         absurd (none_some command (sym none ∙ subst (λ a. reading (a ∷ rest) ≡ Some command) dash read))
   ]
@@ -362,11 +366,12 @@ met_at name = record { held = nothing_held; waiting = idle; position = 1; is_tra
 -- the words of a command that takes a disk are read from its own words
 command_goes : (name : Text) (rest : List Text) → stop_after top.rules top_names (name ∷ rest) ≡ Some (name, rest) → turn_fault top top_names (walk_from nothing_held) name ≡ []
     → walked top.rules top_names (walk_from nothing_held) name ≡ met_at name → entered_fault (built farm_app) (Some (name, rest)) ≡ faults name start rest
-    → entered (built farm_app) (Some (name, rest)) ≡ Some (name, finished (args name) (end_of name start rest)) → bytes_eq name (codes "sign") ≡ false
+    → entered (built farm_app) (Some (name, rest)) ≡ Some (name, finished (args name) (end_of name start rest)) → bytes_eq name (codes "sign") ≡ false → bytes_eq name (codes "bulk") ≡ false
     → reading (name ∷ rest) ≡ reads name start rest
-command_goes name rest stops none goes below met other =
+command_goes name rest stops none goes below met other another =
     let app : App = built farm_app in
     let words : List Text = name ∷ rest in
+    let rows : List Row = finished (args name) (end_of name start rest) in
     let fault : fault_of farm_app words ≡ faults name start rest =
     ap (λ (stop : Option (Text × List Text)). level_fault top top_names nothing_held words (is_some (entered app stop)) (entered_fault app stop)) stops
     ∙ (ap (λ (o : Option (Text × List Row)). level_fault top top_names nothing_held words (is_some o) (entered_fault app (Some (name, rest)))) met
@@ -374,29 +379,32 @@ command_goes name rest stops none goes below met other =
     let read : option_and_then command_in (subcommand_of farm_app words) ≡ found name start rest =
     ap (λ (stop : Option (Text × List Text)). option_and_then command_in (entered app stop)) stops
     ∙ (ap (option_and_then command_in) met
-    ∙ ap (λ (b : Bool). cond b (option_map (λ signing. Sign signing) (signing_in (finished (args name) (end_of name start rest)))) (found name start rest)) other) in
+    ∙ (ap (λ (b : Bool). cond b (option_map (λ signing. Sign signing) (signing_in rows)) (cond (bytes_eq name (codes "bulk")) (option_map (λ load. Bulk load) (load_in rows)) (found name start rest))) other
+    ∙ ap (λ (b : Bool). cond b (option_map (λ load. Bulk load) (load_in rows)) (found name start rest)) another)) in
     ap (λ (k : Kinds). cond (is_empty k) (option_and_then command_in (subcommand_of farm_app words)) None) fault
     ∙ ap (λ (o : Option Command). cond (is_empty (faults name start rest)) o None) read
 
 answer_goes : (rest : List Text) → reading (codes "answer" ∷ rest) ≡ reads (codes "answer") start rest
 unfolding clap_on_literals
-answer_goes rest = command_goes (codes "answer") rest (answer_stops rest) refl refl refl refl refl
+answer_goes rest = command_goes (codes "answer") rest (answer_stops rest) refl refl refl refl refl refl
 
 check_goes : (rest : List Text) → reading (codes "check" ∷ rest) ≡ reads (codes "check") start rest
 unfolding clap_on_literals
-check_goes rest = command_goes (codes "check") rest (check_stops rest) refl refl refl refl refl
+check_goes rest = command_goes (codes "check") rest (check_stops rest) refl refl refl refl refl refl
 
 answer_says : (rest : List Text) (command : Command) → Says (codes "answer") command rest → SaysCommand command (codes "answer" ∷ rest)
 answer_says rest (OverFarm farm (Answer disk)) says = let is : says.0 ≡ disk = cc in (refl, subst (λ (d : Option Text). Gives farm d rest) is says.2)
 answer_says rest (OverFarm farm Expand) says = cc
 answer_says rest (OverFarm farm (Check disk)) says = cc
 answer_says rest (Sign signing) says = tt
+answer_says rest (Bulk load) says = tt
 
 check_says : (rest : List Text) (command : Command) → Says (codes "check") command rest → SaysCommand command (codes "check" ∷ rest)
 check_says rest (OverFarm farm (Answer disk)) says = cc
 check_says rest (OverFarm farm Expand) says = cc
 check_says rest (OverFarm farm (Check disk)) says = let is : says.0 ≡ disk = cc in (refl, subst (λ (d : Option Text). Gives farm d rest) is says.2)
 check_says rest (Sign signing) says = tt
+check_says rest (Bulk load) says = tt
 
 answer_said : (rest : List Text) (command : Command) → All IsUtf8 rest → reading (codes "answer" ∷ rest) ≡ Some command → SaysCommand command (codes "answer" ∷ rest)
 answer_said rest command utf8 read = answer_says rest command (start_said (codes "answer") rest command utf8 (sym (answer_goes rest) ∙ read))
@@ -414,12 +422,27 @@ sign_command : (o : Option Signing) (words : List Text) (command : Command) → 
 sign_command None words command e = absurd (none_some command e)
 sign_command (Some s) words (OverFarm farm work) e = cc
 sign_command (Some s) words (Sign signing) e = tt
+sign_command (Some s) words (Bulk load) e = tt
 
 sign_said : (rest : List Text) (command : Command) → reading (codes "sign" ∷ rest) ≡ Some command → SaysCommand command (codes "sign" ∷ rest)
 unfolding clap_on_literals
 sign_said rest command read =
     let met = taken (is_empty (fault_of farm_app (codes "sign" ∷ rest))) (option_and_then command_in (subcommand_of farm_app (codes "sign" ∷ rest))) command read in
     sign_command _ (codes "sign" ∷ rest) command (sym (ap (λ stop. option_and_then command_in (entered (built farm_app) stop)) (sign_stops rest)) ∙ met)
+
+-- ---- bulk
+
+bulk_command : (o : Option Load) (words : List Text) (command : Command) → option_map (λ l. Bulk l) o ≡ Some command → SaysCommand command words
+bulk_command None words command e = absurd (none_some command e)
+bulk_command (Some l) words (OverFarm farm work) e = cc
+bulk_command (Some l) words (Sign signing) e = tt
+bulk_command (Some l) words (Bulk load) e = tt
+
+bulk_said : (rest : List Text) (command : Command) → reading (codes "bulk" ∷ rest) ≡ Some command → SaysCommand command (codes "bulk" ∷ rest)
+unfolding clap_on_literals
+bulk_said rest command read =
+    let met = taken (is_empty (fault_of farm_app (codes "bulk" ∷ rest))) (option_and_then command_in (subcommand_of farm_app (codes "bulk" ∷ rest))) command read in
+    bulk_command _ (codes "bulk" ∷ rest) command (sym (ap (λ stop. option_and_then command_in (entered (built farm_app) stop)) (bulk_stops rest)) ∙ met)
 
 -- ---- both ways
 
@@ -429,7 +452,8 @@ reading_says (w ∷ rest) command utf8 read = elim (first_named w rest command (
   | inl a ↦ named (codes "answer") a (answer_said rest command others)
   | inr (inl e) ↦ named (codes "expand") e (rest_said (codes "expand") (λ f. OverFarm f Expand) expand_is rest command others)
   | inr (inr (inl c)) ↦ named (codes "check") c (check_said rest command others)
-  | inr (inr (inr s)) ↦ named (codes "sign") s (sign_said rest command)
+  | inr (inr (inr (inl s))) ↦ named (codes "sign") s (sign_said rest command)
+  | inr (inr (inr (inr b))) ↦ named (codes "bulk") b (bulk_said rest command)
 ]
   where
     others : All IsUtf8 rest

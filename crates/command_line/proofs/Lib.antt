@@ -1,6 +1,7 @@
 mod FlagLemmas
 mod FormLemmas
 mod LawLemmas
+mod LoadLemmas
 mod MatchLemmas
 mod OptionLemmas
 mod ReadingLemmas

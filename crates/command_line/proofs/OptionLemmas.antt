@@ -1,7 +1,7 @@
 -- Options that are added to a command one by one.
-use Rattle.std.proofs.Common.{◌≡◌, ◌∙◌, List, ℕ, Bool, false, ap, ap₂}
+use Rattle.std.proofs.Common.{◌≡◌, ◌∙◌, Bool, false, ap₂}
 use Rattle.std.specs.Prelude.{◌||◌}
-use Rattle.clap.specs.Words.{AddsArg, App, Rule, app_of, rule_of, with_rule}
+use Rattle.clap.specs.Words.{AddsArg, App, Rule, rule_of, with_rule}
 use Rattle.clap.specs.declared.builder.Arg.{Arg}
 use Rattle.clap.specs.declared.builder.Command.{Command as Program}
 use Rattle.command_line.specs.Parts.{IsPlainLeaf}

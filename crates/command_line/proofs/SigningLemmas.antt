@@ -1,7 +1,6 @@
 -- What the values of `sign` ask to be signed.
-use Rattle.std.proofs.Common.{◌≡◌, ◌∙◌, ℕ, Bool, true, false, cond, refl, sym, ap, ap₂, List, ◌∷◌, Option, Some, None, codes}
+use Rattle.std.proofs.Common.{◌≡◌, ◌∙◌, ℕ, Bool, true, false, cond, sym, ap, List, ◌∷◌, Option, Some, None, codes}
 use Rattle.std.specs.Prelude.{◌&&◌, not}
-use Rattle.std.specs.List.{list_all}
 use Rattle.std.specs.Str.Parse.{digits_value}
 use Rattle.std.proofs.lemmas.Bool.{and_left, and_right, not-false, not-true, and_from}
 use Rattle.std.proofs.lemmas.List.Folds.{list_all-append}

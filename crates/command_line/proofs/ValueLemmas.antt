@@ -1,7 +1,7 @@
 -- Tests of values, and the facts that they decide.
-use Rattle.std.proofs.Common.{◌≡◌, ◌≢◌, ◌⊎◌, ◌↔◌, ◌∙◌, ℕ, ◌<◌, ◌≤◌, ◌^◌, zero, suc, Bool, true, false, cond, refl, sym, ap, subst, arith, inl, inr, List, [], ◌∷◌, length, get_or, codes, Result, Err}
-use Rattle.std.specs.Prelude.{◌==◌, ◌&&◌, ◌||◌, IsTrue, nat_le, All}
-use Rattle.std.specs.List.{list_all, list_any}
+use Rattle.std.proofs.Common.{◌≡◌, ◌⊎◌, ◌↔◌, ℕ, ◌<◌, ◌≤◌, ◌^◌, zero, suc, Bool, true, false, refl, sym, subst, arith, inl, inr, List, [], ◌∷◌, length, get_or, codes, Result, Err}
+use Rattle.std.specs.Prelude.{◌==◌, ◌||◌, IsTrue, All}
+use Rattle.std.specs.List.{list_all}
 use Rattle.std.specs.Char.{IsAsciiAlphanumeric}
 use Rattle.std.specs.Str.Parse.{AllDigits, IsNumeral, ParsesUnsigned, digits_value, without_leading_plus}
 use Rattle.std.proofs.lemmas.Bool.{and_from, and_parts, eq-eqb, eqb-true, false_from_ne_true, false≢true, le-leb, leb-true, ne_eqb, or_cases, or_left, or_right}
@@ -110,14 +110,14 @@ no_plus (b ∷ text) e =
     let other : (b == 43) ≡ false = ne_eqb b 43 (λ same. omega arith) in
     simp other refl
 
--- digits of which no port can be read are none of a port
-pub no_port : {E : Type 0} (text : List ℕ) (r : Result ℕ E) (e : E) → r ≡ Err e → is_between 1 19 (length text) ≡ true → list_all is_digit text ≡ true
-    → ParsesUnsigned 16 10 text r → is_number 1 65535 text ≡ false
-no_port {E} text r e failed long digits parses =
-    let refused = subst (λ (x : Result ℕ E). ParsesUnsigned 16 10 text x) failed parses in
-    false_from_ne_true (is_number 1 65535 text)
-    (λ is. let value = between_to 1 65535 (digits_value 10 text) (and_parts (has_form 1 19 is_digit text) (is_between 1 65535 (digits_value 10 text)) is).1 in
+-- digits of which no number of so many bits can be read are none within the bounds
+pub no_number : {E : Type 0} (bits least most : ℕ) → most < 2 ^ bits → (text : List ℕ) (r : Result ℕ E) (e : E) → r ≡ Err e → is_between 1 19 (length text) ≡ true
+    → list_all is_digit text ≡ true → ParsesUnsigned bits 10 text r → is_number least most text ≡ false
+no_number {E} bits least most fits text r e failed long digits parses =
+    let refused = subst (λ (x : Result ℕ E). ParsesUnsigned bits 10 text x) failed parses in
+    false_from_ne_true (is_number least most text)
+    (λ is. let value = between_to least most (digits_value 10 text) (and_parts (has_form 1 19 is_digit text) (is_between least most (digits_value 10 text)) is).1 in
     let size = between_to 1 19 (length text) long in
     let numeral : IsNumeral 10 text = (omega (arith, size), are_digits text digits) in
-    let small : digits_value 10 text < 2 ^ 16 = omega (arith, value) in
-    subst (λ (t : List ℕ). IsNumeral 10 t × (digits_value 10 t < 2 ^ 16) → ⊥) (no_plus text digits) refused (numeral, small))
+    let small : digits_value 10 text < 2 ^ bits = omega (arith, value.1, fits) in
+    subst (λ (t : List ℕ). IsNumeral 10 t × (digits_value 10 t < 2 ^ bits) → ⊥) (no_plus text digits) refused (numeral, small))

@@ -1,4 +1,5 @@
 pub mod Forms
+pub mod Load
 pub mod Parts
 pub mod Refusal
 pub mod Signing

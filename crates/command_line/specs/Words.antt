@@ -3,9 +3,10 @@ use Rattle.std.specs.Prelude.{◌≢◌, ℕ, Bool, true, false, List, Option, S
 use Rattle.std.specs.Str.{bytes_eq}
 use Rattle.clap.specs.Words.{App, Row, Rule, first_of, new_app, new_rule, subcommand_of, with_rule, with_subcommand, fault_of}
 use Rattle.clap.specs.Walk.{is_empty}
+use Rattle.command_line.specs.Load.{bulk_app, load_in}
 use Rattle.command_line.specs.Signing.{option_rule, sign_app, signing_in}
 use Rattle.command_line.specs.declared.command.Command.{Command}
-use Rattle.command_line.specs.declared.command.Command.TheVariants.{OverFarm, Sign}
+use Rattle.command_line.specs.declared.command.Command.TheVariants.{OverFarm, Sign, Bulk}
 use Rattle.command_line.specs.declared.command.Work.{Work}
 use Rattle.command_line.specs.declared.command.Work.TheVariants.{Answer, Expand, Check}
 
@@ -25,13 +26,17 @@ disk_option = option_rule (codes "disk") false
 abbrev pub with_disk : List ℕ → App
 with_disk name = with_rule (with_farm name) disk_option
 
--- the program: its words come without its name, and name one of four commands
+-- the program without its commands: its words come without its name, and have to name a command
+abbrev pub bare_app : App
+bare_app =
+    let program = new_app (codes "farm") in
+    record program { top = record program.top { no_binary_name = true; subcommand_required = true; arg_required_else_help = true } }
+
+-- the program with its five commands
 abbrev pub farm_app : App
 farm_app =
-    let program = new_app (codes "farm") in
-    let bare = record program { top = record program.top { no_binary_name = true; subcommand_required = true; arg_required_else_help = true } } in
-    with_subcommand (with_subcommand (with_subcommand (with_subcommand bare (with_disk (codes "answer")).top) (with_farm (codes "expand")).top) (with_disk (codes "check")).top)
-    sign_app.top
+    with_subcommand (with_subcommand (with_subcommand (with_subcommand (with_subcommand bare_app (with_disk (codes "answer")).top) (with_farm (codes "expand")).top) (with_disk (codes "check")).top)
+    sign_app.top) bulk_app.top
 
 -- the work of a name, with this disk
 abbrev pub work_named : List ℕ → Option (List ℕ) → Option Work
@@ -50,6 +55,7 @@ work_in name rows =
 abbrev pub command_in : List ℕ × List Row → Option Command
 command_in met =
     if bytes_eq met.0 (codes "sign") then option_map (λ signing. Sign signing) (signing_in met.1)
+    else if bytes_eq met.0 (codes "bulk") then option_map (λ load. Bulk load) (load_in met.1)
     else work_in met.0 met.1
 
 -- clap finds no fault in the words, and no request for help

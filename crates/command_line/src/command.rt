@@ -1,3 +1,4 @@
+use crate::load::Load;
 use crate::signing::Signing;
 use farm_text::Text;
 
@@ -8,6 +9,8 @@ pub enum Command {
     OverFarm { farm: Text, work: Work },
     /// The header that signs a request.
     Sign { signing: Signing },
+    /// A generated load over a farm in memory.
+    Bulk { load: Load },
 }
 
 /// What is done over a farm. A disk has a name, and keeps the farm; without one nothing does.

@@ -3,6 +3,7 @@
 
 mod command;
 mod laws;
+mod load;
 mod program;
 mod reading;
 mod signing;
@@ -10,5 +11,6 @@ mod values;
 
 pub use command::{Command, Work};
 pub use laws::{plain_words_are_read, words_that_say_a_command_are_read};
+pub use load::Load;
 pub use reading::{WordsFault, read_words};
 pub use signing::Signing;

@@ -1,9 +1,10 @@
 //! The command line, as clap reads it and tells it to the user.
 ghost use Rattle.std.specs.Prelude.{◌≡◌, false, IfOk, codes};
 ghost use Rattle.clap.specs.Words.{app_of, new_app, rule_of};
+ghost use Rattle.command_line.specs.Load.{bulk_app};
 ghost use Rattle.command_line.specs.Parts.{IsDiskLeaf, IsLeaf, IsPlainLeaf};
 ghost use Rattle.command_line.specs.Signing.{option_rule, request_fields, sign_app, with_fields};
-ghost use Rattle.command_line.specs.Words.{disk_option, farm_app, farm_argument};
+ghost use Rattle.command_line.specs.Words.{bare_app, disk_option, farm_app, farm_argument};
 
 use clap::{Arg, Command};
 use std::alloc::{AllocError, Global};
@@ -109,18 +110,37 @@ fn sign<'a>(alloc: Global) -> Result<Command<'a>, AllocError>
         ))
 }
 
-/// The program with its commands. Its words come without its name.
+fn bulk<'a>(alloc: Global) -> Result<Command<'a>, AllocError>
+    ensures { IfOk result (IsPlainLeaf bulk_app) }
+{
+    Command::new(alloc, "bulk")
+        .about("Runs a generated load over a farm in memory, and writes how its tasks ended.")
+        .arg(option(alloc, "seed", true, "What its numbers begin with."))?
+        .arg(option(alloc, "tasks", true, "How many tasks it creates."))
+}
+
+/// The program without its commands. Its words come without its name.
+fn without_commands<'a>(alloc: Global) -> Result<Command<'a>, AllocError>
+    ensures { IfOk result (λ program. app_of program ≡ bare_app) }
+{
+    Ok(
+        Command::new(alloc, "farm")
+            .bin_name("farm")?
+            .about("A build farm's server.")
+            .no_binary_name(true)
+            .subcommand_required(true)
+            .arg_required_else_help(true),
+    )
+}
+
+/// The program with its commands.
 pub(crate) fn farm<'a>(alloc: Global) -> Result<Command<'a>, AllocError>
     ensures { IfOk result (λ program. app_of program ≡ farm_app) }
 {
-    Command::new(alloc, "farm")
-        .bin_name("farm")?
-        .about("A build farm's server.")
-        .no_binary_name(true)
-        .subcommand_required(true)
-        .arg_required_else_help(true)
+    without_commands(alloc)?
         .subcommand(answer(alloc)?)?
         .subcommand(expand(alloc)?)?
         .subcommand(check(alloc)?)?
-        .subcommand(sign(alloc)?)
+        .subcommand(sign(alloc)?)?
+        .subcommand(bulk(alloc)?)
 }

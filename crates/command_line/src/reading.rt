@@ -6,6 +6,7 @@ ghost use Rattle.command_line.specs.Refusal.{Refuses, RefusesWords};
 ghost use Rattle.command_line.specs.Words.{command_in, work_in, work_named, reading};
 
 use crate::command::{Command, Work};
+use crate::load::read_load;
 use crate::program;
 use crate::signing::read_signing;
 use clap::ArgMatches;
@@ -70,6 +71,12 @@ fn command_of(alloc: Global, matches: &ArgMatches<'_>) -> Result<Command, WordsF
     if name == "sign" {
         return match read_signing(alloc, inner) {
             Ok(signing) => Ok(Command::Sign { signing }),
+            Err(fault) => Err(fault),
+        };
+    }
+    if name == "bulk" {
+        return match read_load(alloc, inner) {
+            Ok(load) => Ok(Command::Bulk { load }),
             Err(fault) => Err(fault),
         };
     }

@@ -124,7 +124,7 @@ fn signing_of(alloc: Global, matches: &ArgMatches<'_>, port: u16) -> Result<Sign
 }
 
 /// The value of an option, the empty one where it is not there.
-fn value<'a>(matches: &ArgMatches<'a>, name: &str) -> &'a str
+pub(crate) fn value<'a>(matches: &ArgMatches<'a>, name: &str) -> &'a str
     ensures { result.now ≡ value_in (rows_of (found_of matches.now)) name.now }
 {
     match matches.get_str(name) {

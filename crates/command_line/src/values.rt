@@ -96,6 +96,34 @@ pub(crate) fn is_nonce(text: &str) -> bool
     1 <= text.len() && are_value_bytes(text)
 }
 
+/// The number that a text of 1 to 19 digits says, up to 9,223,372,036,854,775,807.
+pub(crate) fn seed_of(text: &str) -> Option<u64>
+    ensures { MatchOption result (forms.is_number 0 9223372036854775807 text.now ≡ false)
+        (λ seed. (forms.is_number 0 9223372036854775807 text.now ≡ true) × (seed ≡ digits_value 10 text.now)) }
+{
+    if !has_length(text, 1, 19) || !are_digits(text) {
+        return None;
+    }
+    match text.parse::<u64>() {
+        Ok(seed) if seed <= 9_223_372_036_854_775_807 => Some(seed),
+        _ => None,
+    }
+}
+
+/// The number that a text of 1 to 19 digits says, up to 100,000.
+pub(crate) fn tasks_of(text: &str) -> Option<u32>
+    ensures { MatchOption result (forms.is_number 0 100000 text.now ≡ false)
+        (λ tasks. (forms.is_number 0 100000 text.now ≡ true) × (tasks ≡ digits_value 10 text.now)) }
+{
+    if !has_length(text, 1, 19) || !are_digits(text) {
+        return None;
+    }
+    match text.parse::<u32>() {
+        Ok(tasks) if tasks <= 100_000 => Some(tasks),
+        _ => None,
+    }
+}
+
 /// The port that a text of 1 to 19 digits says, from 1 to 65,535.
 pub(crate) fn port_of(text: &str) -> Option<u16>
     ensures { MatchOption result (forms.is_number 1 65535 text.now ≡ false)

@@ -4,9 +4,10 @@ use Rattle.std.specs.Prelude.{IfSome}
 use Rattle.std.specs.Io.KnownBytes.{Appends}
 use Rattle.causes.specs.Causes.{Rose}
 use Rattle.command_line.specs.declared.command.Command.{Command}
-use Rattle.command_line.specs.declared.command.Command.TheVariants.{OverFarm, Sign}
+use Rattle.command_line.specs.declared.command.Command.TheVariants.{OverFarm, Sign, Bulk}
 use Rattle.command_line.specs.declared.command.Work.{Work}
 use Rattle.command_line.specs.declared.command.Work.TheVariants.{Answer, Expand, Check}
+use Rattle.command_line.specs.declared.load.Load.{Load}
 use Rattle.command_line.specs.declared.signing.Signing.{Signing}
 use Rattle.command_line.specs.Words.{disk_of}
 use Rattle.disk_journal.specs.Records.{Opens}
@@ -16,6 +17,8 @@ use Rattle.farm_record.specs.declared.change.Change.{Change}
 use Rattle.farm_rows.specs.Contents.{Contents, no_contents}
 use Rattle.farm_core.specs.Opened.{IsFarmDamaged, Replays}
 use Rattle.farm_core.specs.Records.{AreRecords}
+use Rattle.farm_core.specs.Diskless.{HaveNoDisk}
+use Rattle.farm_core.proofs.DisklessLemmas.{HaveNoDisk-at_work}
 use Rattle.farm_core.proofs.OpenLemmas.{OneChange, image-sound}
 use Rattle.history.specs.Histories.{end_state}
 use Rattle.farm_machine.specs.Law.{Opening as History}
@@ -39,13 +42,14 @@ use Rattle.farm_cli.specs.declared.status.Status.{Status}
 use Rattle.farm_cli.specs.declared.status.Status.TheVariants.{Done, Usage, FarmFile, Input, Opening, Disk, Read, Write, NoMemory, Wire, Damaged}
 use Rattle.farm_cli.specs.Checking.{CheckedOver, Checks, check_text, disk_text}
 use Rattle.farm_cli.specs.Disks.{BeginsFrom, IsRefusedFor, status_of_fault}
-use Rattle.farm_cli.specs.Complete.{stop_status, status_for, own_text, HasFile, NoFileFault, HasDisk, NoDiskFault, HasSoundDisk, NoConsoleFault, AnswersAll, Answers, WritesAll, Finishes, FinishesSigning, Completes, CompletesSigning, RefusesFile, RefusesDisk, MissesFile, MissesDisk, TellsUsage}
+use Rattle.farm_cli.specs.Complete.{stop_status, status_for, own_text, HasFile, NoFileFault, HasDisk, NoDiskFault, HasSoundDisk, NoConsoleFault, AnswersAll, Answers, WritesAll, Finishes, FinishesSigning, Completes, CompletesLoad, CompletesSigning, RefusesFile, RefusesDisk, MissesFile, MissesDisk, TellsUsage}
 use Rattle.farm_cli.specs.Expanding.{IsExpansion, IsBadInput, Expands}
 use Rattle.farm_cli.specs.FarmFile.{SetsUp, HasFault, FileRefused}
 use Rattle.farm_cli.specs.House.{Files, Held, holds, refuses, unopened, back, WasLent, WasOpened, Lendings}
 use Rattle.farm_cli.specs.Inputs.{Tells, Turns}
 use Rattle.farm_cli.specs.Run.{DidOver, Obeyed, RanOverFile, RanOver, RanCommand, Ran}
 use Rattle.farm_cli.specs.Serving.{status_of, status_over, IsHistoryOf, ConversedOver}
+use Rattle.farm_cli.specs.Loading.{IsLoadLine, Loads}
 use Rattle.farm_cli.specs.Signing.{IsSigned, IsTooLong, Signs, SignsAs, signed_line}
 use Rattle.farm_cli.specs.Views.{Views, outside_of, talk_of}
 
@@ -116,10 +120,10 @@ finished bytes asks replies messages ending before after served.NoMemory list li
 
 answers_all : {F S C N T I : Type 0} (views : Views F S C N T I) (old new : Lendings F S C N T I) (start : State) (status : Status) (console given console' : C) (clock clock' : T) (draws draws' : I) (asks : List Ask) (replies : List Reply) (served : Served)
     (bytes : List ℕ) (messages : List Message) (ending : Ending)
-    → WasLent old.console new.console given console' → Spoke (outside_of views given clock draws) (outside_of views console' clock' draws') asks replies served → IsHistoryOf start asks replies → status ≡ status_of served
+    → WasLent old.console new.console given console' → Spoke (outside_of views given clock draws) (outside_of views console' clock' draws') asks replies served → (history : IsHistoryOf start asks replies) → HaveNoDisk history.history → status ≡ status_of served
     → old.console ≡ Ready console → views.console_left console ≡ Some bytes → Messages REQUESTS bytes messages ending → NoConsoleFault views new console
     → (status ≡ NoMemory) ⊎ AnswersAll views new console start messages ending status
-answers_all {C} views old new start status console given console' clock clock' draws draws' asks replies served bytes messages ending lent spoke history status_is ready known list well =
+answers_all {C} views old new start status console given console' clock clock' draws draws' asks replies served bytes messages ending lent spoke history no_disk status_is ready known list well =
     let same = rw ready at lent.could in
     let came_back = rw ready at lent.returned in
     let taken = rw (same, known) at spoke.taken in
@@ -135,6 +139,7 @@ answers_all {C} views old new start status console given console' clock clock' d
         replies = replies;
         all = done.all;
         history = history;
+        no_disk = no_disk;
         written = subst (λ (x : C). Appends (views.console_written x) (views.console_written console') (reply_texts REQUESTS asks replies ++ own_text ending)) same done.written;
       })
     ]
@@ -195,6 +200,10 @@ opens_soundly {S} views old new before now name disk status Did sound (inr (inl 
     by faults.NoMemory why is = is
 opens_soundly views old new before now name disk status Did sound (inr (inr ran)) = absurd (rw (sound.has.disks, sound.has.there) at ran.could)
 
+not_true : (b : Bool) → (b ≡ true → ⊥) → b ≡ false
+not_true true no_ = absurd (no_ refl)
+not_true false no_ = refl
+
 finishes_answer : {F S C N T I : Type 0} (views : Views F S C N T I) (old new : Lendings F S C N T I) (before now : ℕ) (config : Config) (name : List ℕ) (status : Status) (console : C) (disk : S)
     → status ≢ NoMemory → HasSoundDisk views old new name disk → ConversedOver views old new before now config name status → old.console ≡ Ready console → NoConsoleFault views new console
     → (opening : History) × BeginsFrom views disk config opening × Answers views new console opening.state status
@@ -202,7 +211,7 @@ finishes_answer {F} {S} views old new before now config name status console disk
   ran.opening,
   subst (λ (d : S). BeginsFrom views d config ran.opening) met.0 ran.begins,
   λ bytes messages ending known list. elim (answers_all views old new ran.opening.state status console ran.console_given ran.console_back ran.clock_given ran.clock_back ran.draws_given ran.draws_back ran.asks ran.replies ran.served bytes messages ending
-      ran.console ran.spoke ran.history (by _ refl) ready known list well) [
+      ran.console ran.spoke ran.history (HaveNoDisk-at_work ran.opening.state ran.history.history ran.history.legal at_work) (ran.status_is ∙ ap (λ (b : Bool). status_over b ran.served) at_work) ready known list well) [
         | inl none ↦ absurd (some none)
         | inr all ↦ all
       ],
@@ -211,11 +220,11 @@ finishes_answer {F} {S} views old new before now config name status console disk
     met : (ran.disk_given ≡ disk) × (new.disk ≡ back ran.disk_back)
     met = given_is old.disk new.disk name sound.has.at disk ran.disk_given ran.disk_back sound.has.disks sound.has.there ran.disk
 
-    by : (halted : Bool) → (end_state farm_rules ran.opening.state ran.history.history).halted ≡ halted → status ≡ status_of ran.served
-    by true fell =
-        let rose = ran.holds.holds.counts.rose fell in
-        absurd (sound.well ran.disk_back met.1 (subst (λ (n : ℕ). Rose n (views.disk_faults ran.disk_back)) (ran.begins.faults ∙ ap views.disk_faults met.0) rose))
-    by false still = ran.status_is ∙ ap (λ (b : Bool). status_over b ran.served) still
+    rose_by : (end_state farm_rules ran.opening.state ran.history.history).halted ≡ true → Rose (views.disk_faults disk) (views.disk_faults ran.disk_back)
+    rose_by fell = subst (λ (n : ℕ). Rose n (views.disk_faults ran.disk_back)) (ran.begins.faults ∙ ap views.disk_faults met.0) (ran.holds.holds.counts.rose fell)
+
+    at_work : (end_state farm_rules ran.opening.state ran.history.history).halted ≡ false
+    at_work = not_true (end_state farm_rules ran.opening.state ran.history.history).halted (λ fell. sound.well ran.disk_back met.1 (rose_by fell))
 
 finishes_check : {F S C N T I : Type 0} (views : Views F S C N T I) (old new : Lendings F S C N T I) (before now : ℕ) (config : Config) (name : List ℕ) (status : Status) (console : C) (disk : S)
     → status ≢ NoMemory → HasSoundDisk views old new name disk → CheckedOver views old new before now config name status → old.console ≡ Ready console → NoConsoleFault views new console
@@ -236,7 +245,7 @@ finishes : {F S C N T I : Type 0} (views : Views F S C N T I) (old new : Lending
 finishes views old new before now config (Answer None) status console some ran ready well = λ bytes messages ending known list.
     let did = ran.1 in
     elim (answers_all views old new (empty_state config) status console did.console_given did.console_back did.clock_given did.clock_back did.draws_given did.draws_back did.asks did.replies did.served bytes messages ending
-    did.console did.spoke did.history did.status_is ready known list well) [
+    did.console did.spoke did.history did.no_disk did.status_is ready known list well) [
       | inl none ↦ absurd (some none)
       | inr all ↦ all
     ]
@@ -270,6 +279,31 @@ finishes_signing views new signing None status console console' some came_back w
     tells_all views new (signed_line signing None) status console console' some came_back (well.writes console' came_back) did
 finishes_signing views new signing (Some content_type) status console console' some came_back well did = λ body known.
     turns_all views new (IsSigned signing content_type) IsTooLong status console console' body some came_back known (well.reads console' came_back) (well.writes console' came_back) did
+
+finishes_load : {F S C N T I : Type 0} (views : Views F S C N T I) (new : Lendings F S C N T I) (load : Load) (status : Status) (console console' : C)
+    → status ≢ NoMemory → new.console ≡ Back console' → NoConsoleFault views new console → Loads load (talk_of views console) (talk_of views console') status
+    → (text : List ℕ) × IsLoadLine load text × WritesAll views new console text status
+finishes_load views new load NoMemory console console' some came_back well did = absurd (some refl)
+finishes_load views new load Done console console' some came_back well did =
+    (did.0, did.1, tells_all views new did.0 Done console console' some came_back (well.writes console' came_back) did.2)
+finishes_load views new load Usage console console' some came_back well did =
+    (did.0, did.1, tells_all views new did.0 Usage console console' some came_back (well.writes console' came_back) did.2)
+finishes_load views new load FarmFile console console' some came_back well did =
+    (did.0, did.1, tells_all views new did.0 FarmFile console console' some came_back (well.writes console' came_back) did.2)
+finishes_load views new load Input console console' some came_back well did =
+    (did.0, did.1, tells_all views new did.0 Input console console' some came_back (well.writes console' came_back) did.2)
+finishes_load views new load Opening console console' some came_back well did =
+    (did.0, did.1, tells_all views new did.0 Opening console console' some came_back (well.writes console' came_back) did.2)
+finishes_load views new load Disk console console' some came_back well did =
+    (did.0, did.1, tells_all views new did.0 Disk console console' some came_back (well.writes console' came_back) did.2)
+finishes_load views new load Damaged console console' some came_back well did =
+    (did.0, did.1, tells_all views new did.0 Damaged console console' some came_back (well.writes console' came_back) did.2)
+finishes_load views new load Read console console' some came_back well did =
+    (did.0, did.1, tells_all views new did.0 Read console console' some came_back (well.writes console' came_back) did.2)
+finishes_load views new load Write console console' some came_back well did =
+    (did.0, did.1, tells_all views new did.0 Write console console' some came_back (well.writes console' came_back) did.2)
+finishes_load views new load Wire console console' some came_back well did =
+    (did.0, did.1, tells_all views new did.0 Wire console console' some came_back (well.writes console' came_back) did.2)
 
 -- ---- a farm file that is there
 
@@ -485,6 +519,23 @@ CompletesSigning-from_run {F} {C} views old new before now said status ran = λ 
             let came_back = rw ready at used.console.returned in
             finishes_signing views new signing signing.content_type status console used.back some came_back well
             (subst (λ (x : C). Signs signing (talk_of views x) (talk_of views used.back) status) given used.did)
+            )
+      ]
+    ]
+
+pub CompletesLoad-from_run : {F S C N T I : Type 0} (views : Views F S C N T I) (old new : Lendings F S C N T I) (before now : ℕ) (said : Option Command) (status : Status)
+    → Ran views old new before now said status → CompletesLoad views old new said status
+CompletesLoad-from_run {F} {C} views old new before now said status ran = λ load console asked ready well.
+    elim (run_of views old new before now said (Bulk load) status asked ran) [
+      | inl none ↦ inl none
+      | inr loaded ↦ elim (is_memory status) [
+        | inl none ↦ inl none
+        | inr some ↦ inr (
+            let used = loaded.used in
+            let given = rw ready at used.console.could in
+            let came_back = rw ready at used.console.returned in
+            finishes_load views new load status console used.back some came_back well
+            (subst (λ (x : C). Loads load (talk_of views x) (talk_of views used.back) status) given used.did)
             )
       ]
     ]

@@ -1,7 +1,6 @@
 -- What notes are told.
-use Rattle.std.proofs.Common.{◌≡◌, ℕ, List, ◌++◌, ◌∷◌, [], All, inl, inr, refl, subst, sym, append_assoc}
-use Rattle.std.specs.Prelude.{codes}
-use Rattle.std.proofs.lemmas.List.Elements.{All-nil, All-cons, All-push, All-weaker}
+use Rattle.std.proofs.Common.{ℕ, List, [], All, inl, inr, refl, subst, sym}
+use Rattle.std.proofs.lemmas.List.Elements.{All-push, All-weaker}
 use Rattle.scope_sets.specs.Scopes.{IsPrintable}
 use Rattle.plain_text.specs.Plain.{IsPlain}
 use Rattle.farm_cli.specs.Notes.{IsLineOf, IsOneLine}

@@ -2,9 +2,10 @@
 use Rattle.std.proofs.Common.{◌≡◌, ℕ, ◌≤◌, ◌⊎◌, Bool, true, false, List, length, Option, Some, None, refl, ap, ◌∙◌, subst, inl, inr}
 use Rattle.std.specs.Prelude.{IfSome}
 use Rattle.command_line.specs.declared.command.Command.{Command}
-use Rattle.command_line.specs.declared.command.Command.TheVariants.{OverFarm, Sign}
+use Rattle.command_line.specs.declared.command.Command.TheVariants.{OverFarm, Sign, Bulk}
 use Rattle.command_line.specs.declared.command.Work.{Work}
 use Rattle.command_line.specs.declared.command.Work.TheVariants.{Answer, Expand, Check}
+use Rattle.command_line.specs.declared.load.Load.{Load}
 use Rattle.command_line.specs.declared.signing.Signing.{Signing}
 use Rattle.farm_machine.specs.declared.config.Config.{Config}
 use Rattle.causes.specs.Causes.{Rose}
@@ -29,9 +30,10 @@ use Rattle.farm_cli.specs.Inputs.{Tells, longest_input}
 use Rattle.farm_cli.specs.Expanding.{IsExpansion, Expands}
 use Rattle.farm_cli.specs.FarmFile.{SetsUp, FileRefused}
 use Rattle.farm_cli.specs.House.{WasLent, WasOpened, Lendings}
-use Rattle.farm_cli.specs.Reasons.{DiskMet, FileLent, FileTaken, KeepsDisk, SigningTaken, ConsoleFailed, EndsWith, IsDone, IsRefused, IsCut, IsSigningDone, IsSigningRefused, IsSigningUnread, HasReason}
+use Rattle.farm_cli.specs.Reasons.{DiskMet, FileLent, FileTaken, KeepsDisk, SigningTaken, LoadTaken, ConsoleFailed, EndsWith, IsDone, IsRefused, IsCut, IsSigningDone, IsSigningRefused, IsSigningUnread, HasReason}
 use Rattle.farm_cli.specs.Run.{DidOver, Obeyed, RanOverFile, RanCommand, Ran}
 use Rattle.farm_cli.specs.Serving.{status_of, status_over, Conversed, ConversedOver}
+use Rattle.farm_cli.specs.Loading.{Loads}
 use Rattle.farm_cli.specs.Signing.{IsSigned, Signs, SignsAs}
 use Rattle.farm_cli.specs.Views.{Views, outside_of, talk_of}
 
@@ -82,9 +84,9 @@ FileTaken-from views old new before now said config farm work IsSo taken so = (
   },
 )
 
--- the same, where it may also be that a request was to be signed
-FileTaken-or : {F S C N T I : Type 0} (views : Views F S C N T I) (old new : Lendings F S C N T I) (before now : ℕ) (said : Option Command) (config : Config) (farm : List ℕ) (work : Work) (IsSo : Config → Work → Type 0) (Other : Signing → Type 0)
-    → Taken views old new before now said config farm work → IsSo config work → (now ≡ before) × (FileTaken views old new said IsSo ⊎ SigningTaken old new said Other)
+-- the same, where something else may also be
+FileTaken-or : {F S C N T I : Type 0} (views : Views F S C N T I) (old new : Lendings F S C N T I) (before now : ℕ) (said : Option Command) (config : Config) (farm : List ℕ) (work : Work) (IsSo : Config → Work → Type 0) (Other : Type 0)
+    → Taken views old new before now said config farm work → IsSo config work → (now ≡ before) × (FileTaken views old new said IsSo ⊎ Other)
 FileTaken-or views old new before now said config farm work IsSo Other taken so =
     let file = FileTaken-from views old new before now said config farm work IsSo taken so in (file.0, inl file.1)
 
@@ -349,7 +351,7 @@ never_wire signing (Some content_type) before after did = did.4
 HasReason-signed : {F S C N T I : Type 0} (views : Views F S C N T I) (old new : Lendings F S C N T I) (before now : ℕ) (said : Option Command) (signing : Signing) (given back : C) (status : Status)
     → Signed old new before now said signing given back → Signs signing (talk_of views given) (talk_of views back) status → HasReason views old new before now said status
 HasReason-signed views old new before now said signing given back Done ran did =
-    (ran.openings, inr (SigningTaken-from old new before now said signing given back _ ran (signing_done views old new signing given back ran.lent signing.content_type did)))
+    (ran.openings, inr (inl (SigningTaken-from old new before now said signing given back _ ran (signing_done views old new signing given back ran.lent signing.content_type did))))
 HasReason-signed views old new before now said signing given back Usage ran did = absurd (never_usage signing signing.content_type _ _ did)
 HasReason-signed views old new before now said signing given back FarmFile ran did = absurd (never_farm_file signing signing.content_type _ _ did)
 HasReason-signed views old new before now said signing given back Input ran did =
@@ -360,9 +362,44 @@ HasReason-signed views old new before now said signing given back Damaged ran di
 HasReason-signed views old new before now said signing given back Read ran did =
     (ran.openings, inr (inr (SigningTaken-from old new before now said signing given back _ ran (signing_unread views old new signing given back ran.lent signing.content_type did))))
 HasReason-signed views old new before now said signing given back Write ran did =
-    (ran.openings, inr (SigningTaken-from old new before now said signing given back _ ran (signing_unwritten views old new signing given back ran.lent signing.content_type did)))
+    (ran.openings, inr (inl (SigningTaken-from old new before now said signing given back _ ran (signing_unwritten views old new signing given back ran.lent signing.content_type did))))
 HasReason-signed views old new before now said signing given back NoMemory ran did = tt
 HasReason-signed views old new before now said signing given back Wire ran did = absurd (never_wire signing signing.content_type _ _ did)
+
+-- ---- a generated load is run
+
+-- what is known of its run
+record Loaded {F S C N T I : Type 0} (old new : Lendings F S C N T I) (before now : ℕ) (said : Option Command) (load : Load) (given back : C) : Type 0 where
+  openings : now ≡ before
+  asked : said ≡ Some (Bulk load)
+  file : new.file ≡ old.file
+  lent : WasLent old.console new.console given back
+
+LoadTaken-from : {F S C N T I : Type 0} (old new : Lendings F S C N T I) (before now : ℕ) (said : Option Command) (load : Load) (given back : C) (IsSo : Type 0)
+    → Loaded old new before now said load given back → IsSo → LoadTaken old new said IsSo
+LoadTaken-from old new before now said load given back IsSo ran so = record { load = load; asked = ran.asked; file = ran.file; is_so = so }
+
+HasReason-loaded : {F S C N T I : Type 0} (views : Views F S C N T I) (old new : Lendings F S C N T I) (before now : ℕ) (said : Option Command) (load : Load) (given back : C) (status : Status)
+    → Loaded old new before now said load given back → Loads load (talk_of views given) (talk_of views back) status → HasReason views old new before now said status
+HasReason-loaded views old new before now said load given back Done ran did = (
+  ran.openings,
+  inr (inr (LoadTaken-from old new before now said load given back _ ran
+      (record { given = given; back = back; lent = ran.lent; reads_kept = did.2.0.faults; writes_kept = did.2.1.1; held = anything (views.console_left given) }))),
+)
+HasReason-loaded views old new before now said load given back Usage ran did = absurd did.2.1
+HasReason-loaded views old new before now said load given back FarmFile ran did = absurd did.2.1
+HasReason-loaded views old new before now said load given back Input ran did = absurd did.2.1
+HasReason-loaded views old new before now said load given back Opening ran did = absurd did.2.1
+HasReason-loaded views old new before now said load given back Disk ran did = absurd did.2.1
+HasReason-loaded views old new before now said load given back Damaged ran did = absurd did.2.1
+HasReason-loaded views old new before now said load given back Read ran did = absurd did.2.1
+HasReason-loaded views old new before now said load given back Write ran did = (
+  ran.openings,
+  inr (inr (LoadTaken-from old new before now said load given back _ ran
+      (record { given = given; back = back; lent = ran.lent; rose = did.2.1.1; kept = did.2.0.faults }))),
+)
+HasReason-loaded views old new before now said load given back NoMemory ran did = tt
+HasReason-loaded views old new before now said load given back Wire ran did = absurd did.2.1
 
 -- ---- a run
 
@@ -373,6 +410,9 @@ HasReason-command views old new before now said (OverFarm farm work) status aske
     HasReason-over views old new before now said farm work ran.opened ran.closed status asked ran.file ran.ran
 HasReason-command views old new before now said (Sign signing) status asked ran =
     HasReason-signed views old new before now said signing ran.used.given ran.used.back status
+    (record { openings = ran.openings; asked = asked; file = ran.file; lent = ran.used.console }) ran.used.did
+HasReason-command views old new before now said (Bulk load) status asked ran =
+    HasReason-loaded views old new before now said load ran.used.given ran.used.back status
     (record { openings = ran.openings; asked = asked; file = ran.file; lent = ran.used.console }) ran.used.did
 
 HasReason-words : {F S C N T I : Type 0} (views : Views F S C N T I) (old new : Lendings F S C N T I) (before now : ℕ) (said : Option Command) (status : Status)

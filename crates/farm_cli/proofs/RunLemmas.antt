@@ -8,9 +8,10 @@ use Rattle.farm_core.specs.Farm.{HoldsHistory, state_of}
 use Rattle.farm_core.specs.Records.{AreRecords, Recorded}
 use Rattle.farm_core.proofs.HoldLemmas.{holds-opened}
 use Rattle.command_line.specs.declared.command.Command.{Command}
-use Rattle.command_line.specs.declared.command.Command.TheVariants.{OverFarm, Sign}
+use Rattle.command_line.specs.declared.command.Command.TheVariants.{OverFarm, Sign, Bulk}
 use Rattle.command_line.specs.declared.command.Work.{Work}
 use Rattle.command_line.specs.declared.command.Work.TheVariants.{Answer, Expand, Check}
+use Rattle.command_line.specs.declared.load.Load.{Load}
 use Rattle.command_line.specs.declared.signing.Signing.{Signing}
 use Rattle.farm_files.specs.declared.reading.TheConstants.{LONGEST_FILE}
 use Rattle.http_wire.specs.Whole.{piece_size, LosesWithin}
@@ -20,6 +21,7 @@ use Rattle.farm_machine.specs.Law.{Opening, opened}
 use Rattle.farm_machine.specs.State.{State}
 use Rattle.farm_machine.specs.Step.{farm_rules}
 use Rattle.farm_machine.specs.declared.reply.Reply.{Reply}
+use Rattle.farm_core.specs.Diskless.{HaveNoDisk}
 use Rattle.farm_server.specs.Served.{Ask, questions_of, Spoke}
 use Rattle.farm_server.specs.declared.served.Served.{Served}
 use Rattle.farm_cli.specs.Checking.{CheckedOver, counts_disk_text}
@@ -29,7 +31,7 @@ use Rattle.farm_machine.specs.declared.config.ConfigCounts.{ConfigCounts}
 use Rattle.farm_cli.specs.Disks.{BeginsFrom, DiskHolds, HasFarm, IsMissing, WasUnopened}
 use Rattle.farm_cli.specs.House.{CanGive, after_giving, after_return, WasLent, after_opened, after_closing, CanOpenAmong, WasOpened, Lendings}
 use Rattle.farm_cli.specs.Used.{LeavesConsole, UsedConsole}
-use Rattle.farm_cli.specs.Run.{DidOver, Obeyed, RanOverFile, RanSigning, RanCommand, Ran}
+use Rattle.farm_cli.specs.Run.{DidOver, Obeyed, RanOverFile, RanLoad, RanSigning, RanCommand, Ran}
 use Rattle.farm_cli.specs.Serving.{IsHistoryOf, Conversed, ConversedOver, status_over}
 use Rattle.http_wire.specs.Calls.{LinkState}
 use Rattle.farm_cli.specs.Views.{Views, outside_of, talk_of}
@@ -124,21 +126,30 @@ module _ {F S C N T I : Type 0} (views : Views F S C N T I) (old new : Lendings 
 abbrev pub begun : State → Opening
 begun state = record { state = state; records = []; faults = 0 }
 
--- the asks of one that stood for nothing, and stands only for what leads alone to a state, are a history of its own
-pub IsHistoryOf-from_turns : (start state : State) (old new : Opening → List Entry → List ℕ → Type 0) (asks : List Ask) (replies : List Reply)
+-- a history of its own, in which no disk had a part
+pub record IsOwnHistory (start : State) (asks : List Ask) (replies : List Reply) : Type 0 where
+  pub history : IsHistoryOf start asks replies
+  pub no_disk : HaveNoDisk history.history
+
+-- the asks of one that stood for nothing, and stands only for what leads alone to a state without a disk, are such a history
+pub IsOwnHistory-from_turns : (start state : State) (old new : Opening → List Entry → List ℕ → Type 0) (asks : List Ask) (replies : List Reply)
     → old (begun start) [] []
     → AsksInTurn farm_rules opened old new (questions_of asks) replies
-    → ((seen : List Entry) (mine : List ℕ) → new (begun start) seen mine → LeadsAlone farm_rules start seen mine state)
-    → IsHistoryOf start asks replies
-IsHistoryOf-from_turns start state old new asks replies fresh turns alone =
+    → ((seen : List Entry) (mine : List ℕ) → new (begun start) seen mine → LeadsAlone farm_rules start seen mine state × HaveNoDisk seen)
+    → IsOwnHistory start asks replies
+IsOwnHistory-from_turns start state old new asks replies fresh turns alone =
     let gains = turns (begun start) [] [] fresh in
-    let leads = alone gains.since gains.gained gains.stands_now in
+    let both = alone gains.since gains.gained gains.stands_now in
+    let leads = both.0 in
     record {
-      history = gains.since;
-      legal = leads.legal;
-      made = leads.made;
-      asked = rw (← leads.all) gains.asked;
-      replied = rw (← leads.all) gains.replied;
+      history = record {
+        history = gains.since;
+        legal = leads.legal;
+        made = leads.made;
+        asked = rw (← leads.all) gains.asked;
+        replied = rw (← leads.all) gains.replied;
+      };
+      no_disk = both.1;
     }
 
 -- the same of one that a disk keeps, and what the disk holds of it
@@ -252,6 +263,7 @@ Conversed-same views old old' new new' config status before after h = record {
   served = h.served;
   spoke = h.spoke;
   history = h.history;
+  no_disk = h.no_disk;
   status_is = h.status_is;
 }
 
@@ -389,6 +401,11 @@ pub RanCommand-signed : {F S C N T I : Type 0} (views : Views F S C N T I) (old 
     → command ≡ Sign signing → RanSigning views old new before now signing status → RanCommand views old new before now command status
 RanCommand-signed views old new before now command signing status is ran = subst (λ c. RanCommand views old new before now c status) (sym is) ran
 
+-- a generated load was run
+pub RanCommand-loaded : {F S C N T I : Type 0} (views : Views F S C N T I) (old new : Lendings F S C N T I) (before now : ℕ) (command : Command) (load : Load) (status : Status)
+    → command ≡ Bulk load → RanLoad views old new before now load status → RanCommand views old new before now command status
+RanCommand-loaded views old new before now command load status is ran = subst (λ c. RanCommand views old new before now c status) (sym is) ran
+
 -- ---- a run is the same run where later only what is said of notes changes
 
 RanCommand-notes : {F S C N T I : Type 0} (views : Views F S C N T I) (old new new' : Lendings F S C N T I) (before now : ℕ) (command : Command) (status : Status)
@@ -408,6 +425,11 @@ RanCommand-notes views old new new' before now (OverFarm farm work) status file 
   ran = RanOverFile-same views old old new new' before now work h.opened h.closed status (LeavesConsole-none old) after h.ran;
 })
 RanCommand-notes views old new new' before now (Sign signing) status file after h = record {
+  openings = h.openings;
+  file = file ∙ h.file;
+  used = UsedConsole-same views old old new new' _ (LeavesConsole-none old) after h.used;
+}
+RanCommand-notes views old new new' before now (Bulk load) status file after h = record {
   openings = h.openings;
   file = file ∙ h.file;
   used = UsedConsole-same views old old new new' _ (LeavesConsole-none old) after h.used;

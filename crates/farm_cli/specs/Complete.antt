@@ -3,9 +3,10 @@ use Rattle.std.specs.Prelude.{◌≡◌, ℕ, ◌⊎◌, List, [], ◌++◌, len
 use Rattle.std.specs.Io.KnownBytes.{Appends}
 use Rattle.causes.specs.Causes.{Rose}
 use Rattle.command_line.specs.declared.command.Command.{Command}
-use Rattle.command_line.specs.declared.command.Command.TheVariants.{OverFarm, Sign}
+use Rattle.command_line.specs.declared.command.Command.TheVariants.{OverFarm, Sign, Bulk}
 use Rattle.command_line.specs.declared.command.Work.{Work}
 use Rattle.command_line.specs.declared.command.Work.TheVariants.{Answer, Expand, Check}
+use Rattle.command_line.specs.declared.load.Load.{Load}
 use Rattle.command_line.specs.declared.signing.Signing.{Signing}
 use Rattle.command_line.specs.Words.{disk_of}
 use Rattle.farm_core.specs.Opened.{IsFarmDamaged}
@@ -18,6 +19,7 @@ use Rattle.farm_machine.specs.declared.config.Config.{Config}
 use Rattle.farm_machine.specs.declared.reply.Reply.{Reply}
 use Rattle.farm_machine.specs.State.{State, empty_state}
 use Rattle.api_routes.specs.ReplyText.{wire_text}
+use Rattle.farm_core.specs.Diskless.{HaveNoDisk}
 use Rattle.farm_server.specs.Served.{Ask, messages_of, reply_texts}
 use Rattle.farm_server.specs.declared.served.TheConstants.{REQUESTS}
 use Rattle.farm_cli.specs.declared.lending.Lending.TheVariants.{Ready, Back}
@@ -28,6 +30,7 @@ use Rattle.farm_cli.specs.Disks.{BeginsFrom}
 use Rattle.farm_cli.specs.Expanding.{IsExpansion, IsBadInput}
 use Rattle.farm_cli.specs.FarmFile.{SetsUp, HasFault}
 use Rattle.farm_cli.specs.House.{Held, holds, refuses, unopened, back, Lendings}
+use Rattle.farm_cli.specs.Loading.{IsLoadLine}
 use Rattle.farm_cli.specs.Serving.{IsHistoryOf}
 use Rattle.farm_cli.specs.Signing.{signed_line, IsSigned, IsTooLong}
 use Rattle.farm_cli.specs.Views.{Views}
@@ -93,6 +96,7 @@ pub record AnswersAll {F S C N T I : Type 0} (views : Views F S C N T I) (new : 
   pub replies : List Reply
   pub all : messages_of asks ≡ messages
   pub history : IsHistoryOf start asks replies
+  pub no_disk : HaveNoDisk history.history
   pub written : Appends (views.console_written console) (views.console_written console') (reply_texts REQUESTS asks replies ++ own_text ending)
 
 -- the console came back, this text was written there, and the run is done
@@ -137,6 +141,12 @@ abbrev pub CompletesSigning : {F S C N T I : Type 0} → Views F S C N T I → L
 CompletesSigning {F} {C} views old new said status =
     (signing : Signing) (console : C) → said ≡ Some (Sign signing) → old.console ≡ Ready console → NoConsoleFault views new console
     → (status ≡ NoMemory) ⊎ FinishesSigning views new console signing signing.content_type status
+
+-- Over a console that does not fail a run writes the line of the load that its words ask for, or memory runs out.
+abbrev pub CompletesLoad : {F S C N T I : Type 0} → Views F S C N T I → Lendings F S C N T I → Lendings F S C N T I → Option Command → Status → Type 0
+CompletesLoad {F} {C} views old new said status =
+    (load : Load) (console : C) → said ≡ Some (Bulk load) → old.console ≡ Ready console → NoConsoleFault views new console
+    → (status ≡ NoMemory) ⊎ ((text : List ℕ) × IsLoadLine load text × WritesAll views new console text status)
 
 -- Over a farm file that breaks no rule and a console that does not fail, a run finishes its work, or memory runs out.
 abbrev pub Completes : {F S C N T I : Type 0} → Views F S C N T I → Lendings F S C N T I → Lendings F S C N T I → ℕ → ℕ → Option Command → Status → Type 0

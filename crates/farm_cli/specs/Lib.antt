@@ -7,6 +7,7 @@ pub mod Home
 pub mod House
 pub mod Inputs
 pub mod MemoryHouse
+pub mod Loading
 pub mod Notes
 pub mod Reasons
 pub mod Run

@@ -2,9 +2,10 @@
 use Rattle.std.specs.Prelude.{◌≡◌, ℕ, ◌≤◌, ◌⊎◌, List, length, Option, Some, None, IfSome}
 use Rattle.causes.specs.Causes.{Rose}
 use Rattle.command_line.specs.declared.command.Command.{Command}
-use Rattle.command_line.specs.declared.command.Command.TheVariants.{OverFarm, Sign}
+use Rattle.command_line.specs.declared.command.Command.TheVariants.{OverFarm, Sign, Bulk}
 use Rattle.command_line.specs.declared.command.Work.{Work}
 use Rattle.command_line.specs.declared.command.Work.TheVariants.{Answer, Expand, Check}
+use Rattle.command_line.specs.declared.load.Load.{Load}
 use Rattle.command_line.specs.declared.signing.Signing.{Signing}
 use Rattle.command_line.specs.Words.{disk_of}
 use Rattle.farm_core.specs.Opened.{IsFarmDamaged}
@@ -117,6 +118,13 @@ pub record SigningTaken {F S C N T I : Type 0} (old new : Lendings F S C N T I) 
   pub file : new.file ≡ old.file
   pub is_so : IsSo signing
 
+-- a generated load was to be run, no farm file was asked for, and this is so
+pub record LoadTaken {F S C N T I : Type 0} (old new : Lendings F S C N T I) (said : Option Command) (IsSo : Type 0) : Type 0 where
+  pub load : Load
+  pub asked : said ≡ Some (Bulk load)
+  pub file : new.file ≡ old.file
+  pub is_so : IsSo
+
 -- work over a farm is done: the messages of `answer` end well, the input of `expand` has an expansion
 abbrev pub IsDone : {F S C N T I : Type 0} → Views F S C N T I → Lendings F S C N T I → Lendings F S C N T I → Config → Work → Type 0
 IsDone views old new config (Answer disk) = ConsoleHeld views old new (λ bytes. EndsWith bytes Done)
@@ -154,7 +162,8 @@ IsCut views old new config (Check disk) = ⊥
 abbrev pub HasReason : {F S C N T I : Type 0} → Views F S C N T I → Lendings F S C N T I → Lendings F S C N T I → ℕ → ℕ → Option Command → Status → Type 0
 HasReason views old new before now said Done =
     (now ≡ before) × (FileTaken views old new said (IsDone views old new)
-    ⊎ SigningTaken old new said (λ signing. IsSigningDone views old new signing.content_type))
+    ⊎ (SigningTaken old new said (λ signing. IsSigningDone views old new signing.content_type)
+    ⊎ LoadTaken old new said (ConsoleHeld views old new (λ bytes. Unit {0}))))
 HasReason views old new before now said Usage = said ≡ None
 HasReason views old new before now said FarmFile = (now ≡ before) × FileHasFault views old new said
 HasReason views old new before now said Input =
@@ -168,7 +177,8 @@ HasReason views old new before now said Read =
     ⊎ SigningTaken old new said (λ signing. IsSigningUnread views old new signing.content_type)))
 HasReason views old new before now said Write =
     (now ≡ before) × (FileTaken views old new said (λ config work. ConsoleFailed views.console_write_faults views.console_read_faults old new)
-    ⊎ SigningTaken old new said (λ signing. ConsoleFailed views.console_write_faults views.console_read_faults old new))
+    ⊎ (SigningTaken old new said (λ signing. ConsoleFailed views.console_write_faults views.console_read_faults old new)
+    ⊎ LoadTaken old new said (ConsoleFailed views.console_write_faults views.console_read_faults old new)))
 HasReason views old new before now said NoMemory = Unit {0}
 HasReason views old new before now said Wire = (now ≡ before) × FileTaken views old new said (IsCut views old new)
 HasReason views old new before now said Damaged = (now ≡ before) × DiskDamaged views old new said

@@ -9,6 +9,7 @@ use Rattle.farm_machine.specs.State.{State, empty_state}
 use Rattle.farm_machine.specs.Step.{farm_rules}
 use Rattle.farm_machine.specs.Law.{Opening}
 use Rattle.farm_machine.specs.declared.reply.Reply.{Reply}
+use Rattle.farm_core.specs.Diskless.{HaveNoDisk}
 use Rattle.farm_server.specs.Served.{Ask, questions_of, Spoke}
 use Rattle.farm_server.specs.declared.served.Served.{Served}
 use Rattle.farm_server.specs.declared.served.Served.TheVariants as served
@@ -36,7 +37,7 @@ status_of served.ReadFault = Read
 status_of served.WriteFault = Write
 status_of served.NoMemory = NoMemory
 
--- The console was served over a farm that was set up so, and began without tasks.
+-- The console was served over a farm that was set up so, and began without tasks, and in no call of which a disk had a part.
 pub record Conversed {F S C N T I : Type 0} (views : Views F S C N T I) (old new : Lendings F S C N T I) (config : Config) (status : Status) : Type 0 where
   pub disk : new.disk ≡ old.disk
   pub console_given : C
@@ -53,6 +54,7 @@ pub record Conversed {F S C N T I : Type 0} (views : Views F S C N T I) (old new
   pub served : Served
   pub spoke : Spoke (outside_of views console_given clock_given draws_given) (outside_of views console_back clock_back draws_back) asks replies served
   pub history : IsHistoryOf (empty_state config) asks replies
+  pub no_disk : HaveNoDisk history.history
   pub status_is : status ≡ status_of served
 
 -- over a disk that failed the disk is the first cause

@@ -14,6 +14,7 @@ mod house;
 mod inputs;
 mod laws;
 mod lending;
+mod loading;
 mod memory_house;
 #[cfg(test)]
 mod note_tests;

@@ -218,6 +218,20 @@ fn roles_are_counted(rt: HostRuntime) -> Result<(), Fail> {
     Ok(())
 }
 
+/// The line is a worked row; `bench/bulk_model.py` prints it, too.
+#[test]
+fn a_load_is_run(rt: HostRuntime) -> Result<(), Fail> {
+    let case = Case {
+        words: &["bulk", "--seed", "0", "--tasks", "3"],
+        ..Case::over(b"")
+    };
+    let done = outcome_of(rt.alloc(), &case)?;
+    assert_eq!(rt; done.status.code(), 0);
+    let output: &[u8] = b"tasks=3 completed=2 failed=1 exception=0 unscheduled=0 runs=4\n";
+    assert_eq!(rt; done.output.as_slice(), output);
+    Ok(())
+}
+
 /// The words of `sign` for Hawk's own example, without an ext.
 const SIGN: [&str; 17] = [
     "sign",
@@ -315,12 +329,13 @@ fn a_body_that_is_too_long_is_not_signed(rt: HostRuntime) -> Result<(), Fail> {
 
 #[test]
 fn untaken_words(rt: HostRuntime) -> Result<(), Fail> {
-    let rows: [&[&str]; 5] = [
+    let rows: [&[&str]; 6] = [
         &[],
         &["answer"],
         &["answer", "a", "b"],
         &["--help"],
         &SIGN[..15],
+        &["bulk", "--seed", "0", "--tasks", "100001"],
     ];
     for words in rows {
         let case = Case {
@@ -368,6 +383,11 @@ fn what_fails_ends_with_its_status(rt: HostRuntime) -> Result<(), Fail> {
         failing_writes: &[0],
         ..Case::over(PING)
     };
+    let unsummed = Case {
+        words: &["bulk", "--seed", "0", "--tasks", "0"],
+        failing_writes: &[0],
+        ..Case::over(b"")
+    };
     let cases = [
         refused,
         no_scope,
@@ -376,6 +396,7 @@ fn what_fails_ends_with_its_status(rt: HostRuntime) -> Result<(), Fail> {
         unread,
         unwritten,
         unanswered,
+        unsummed,
     ];
     let mut codes = Vec::new(rt.alloc());
     for case in &cases {
@@ -383,7 +404,7 @@ fn what_fails_ends_with_its_status(rt: HostRuntime) -> Result<(), Fail> {
         assert_eq!(rt; outcome.output.len(), 0);
         codes.push(outcome.status.code())?;
     }
-    let expected: &[u8] = &[3, 3, 4, 5, 5, 6, 6];
+    let expected: &[u8] = &[3, 3, 4, 5, 5, 6, 6, 6];
     assert_eq!(rt; codes.as_slice(), expected);
     Ok(())
 }

@@ -7,3 +7,4 @@ pub mod HoldLemmas
 pub mod ImageLemmas
 pub mod FaultLemmas
 pub mod OpenedLemmas
+pub mod DisklessLemmas

@@ -1,4 +1,5 @@
 pub mod Bare
+pub mod Diskless
 pub mod Records
 pub mod Opened
 pub mod Reading

@@ -1,4 +1,7 @@
 //! The forms and ranges of values, in words.
+ghost use Rattle.std.specs.Prelude.{◌↔◌, IsNone, All};
+ghost use Rattle.scope_sets.specs.Scopes.{IsPrintable, HasHandedInForm};
+ghost use Rattle.scope_sets.specs.declared.scopes.TheConstants.{LONGEST_SCOPE};
 
 use crate::fault::Table;
 use crate::settings::has_host_form;
@@ -54,8 +57,10 @@ pub(crate) fn scope_words(text: &str, takes_parameter: bool) -> Option<&'static 
     }
 }
 
-/// The rule that keeps a text from being a scope which may be handed in, in words, or `None` where it keeps all.
-pub fn scope_fault(text: &[u8]) -> Option<&'static str> {
+/// The rule that keeps a text from being a scope which may be handed in, in words; `None` exactly where the text is such a scope.
+pub fn scope_fault(text: &[u8]) -> Option<&'static str>
+    ensures { IsNone result ↔ (All IsPrintable text.now × HasHandedInForm LONGEST_SCOPE text.now) }
+{
     if !is_printable(text) {
         return Some("a scope is printable ASCII");
     }

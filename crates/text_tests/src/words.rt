@@ -1,4 +1,4 @@
-use command_line::{Command, WordsFault, Work, read_words};
+use command_line::{Command, Load, WordsFault, Work, read_words};
 use farm_text::Text;
 use std::alloc::{AllocError, Global};
 use std::test::Fail;
@@ -18,20 +18,62 @@ fn usage(alloc: Global, words: &[&str]) -> Result<Option<Text>, AllocError> {
     }
 }
 
-/// Whether the words ask for this work over this farm file.
-fn asks_for(alloc: Global, words: &[&str], name: &str, wanted: Work) -> Result<bool, AllocError> {
-    let command = read(alloc, words)?;
-    Ok(
-        matches!(&command, Ok(Command::OverFarm { farm, work }) if farm.as_str() == name && *work == wanted),
-    )
+/// What the words ask for over a farm: the work, the farm file and the disk, of which `-` says none; or nothing.
+fn asked(alloc: Global, words: &[&str]) -> Result<String, AllocError> {
+    let Ok(Command::OverFarm { farm, work }) = read(alloc, words)? else {
+        return Ok(String::new(alloc));
+    };
+    let (name, disk) = match &work {
+        Work::Answer { disk } => ("answer", disk.as_ref()),
+        Work::Expand => ("expand", None),
+        Work::Check { disk } => ("check", disk.as_ref()),
+    };
+    let disk = match disk {
+        Some(disk) => disk.as_str(),
+        None => "-",
+    };
+    let farm = farm.as_str();
+    format!(in alloc; "{name} {farm} {disk}")
 }
 
 #[test]
 fn commands_are_read(rt: HostRuntime) -> Result<(), Fail> {
     let alloc = rt.alloc();
-    assert!(rt; asks_for(alloc, &["answer", "a.toml"], "a.toml", Work::Answer)?);
-    assert!(rt; asks_for(alloc, &["expand", "b.toml"], "b.toml", Work::Expand)?);
-    assert!(rt; asks_for(alloc, &["check", "c.toml"], "c.toml", Work::Check)?);
+    assert_eq!(rt;
+        asked(alloc, &["answer", "a.toml"])?.as_str(),
+        "answer a.toml -"
+    );
+    assert_eq!(rt;
+        asked(alloc, &["expand", "b.toml"])?.as_str(),
+        "expand b.toml -"
+    );
+    assert_eq!(rt;
+        asked(alloc, &["check", "c.toml"])?.as_str(),
+        "check c.toml -"
+    );
+    Ok(())
+}
+
+#[test]
+fn disks_are_read(rt: HostRuntime) -> Result<(), Fail> {
+    let alloc = rt.alloc();
+    assert_eq!(rt;
+        asked(alloc, &["answer", "a.toml", "--disk", "d"])?.as_str(),
+        "answer a.toml d"
+    );
+    assert_eq!(rt;
+        asked(alloc, &["check", "--disk=d", "--", "c.toml"])?.as_str(),
+        "check c.toml d"
+    );
+    assert_eq!(rt;
+        asked(alloc, &["expand", "b.toml", "--disk", "d"])?.as_str(),
+        ""
+    );
+    assert_eq!(rt; asked(alloc, &["answer", "a.toml", "--disk"])?.as_str(), "");
+    assert_eq!(rt;
+        asked(alloc, &["answer", "a.toml", "--disk", "d", "--disk", "e"])?.as_str(),
+        ""
+    );
     Ok(())
 }
 
@@ -118,8 +160,11 @@ fn sign_is_read(rt: HostRuntime) -> Result<(), Fail> {
 #[test]
 fn other_words_get_a_text(rt: HostRuntime) -> Result<(), Fail> {
     let alloc = rt.alloc();
-    let rows: [&[&str]; 7] = [
+    let rows: [&[&str]; 10] = [
         &[],
+        &["bulk"],
+        &["bulk", "--seed", "1"],
+        &["bulk", "--seed", "1", "--tasks", "1", "farm.toml"],
         &["answer"],
         &["answer", "a", "b"],
         &["serve", "a"],
@@ -185,12 +230,54 @@ fn a_value_off_its_form_is_told(rt: HostRuntime) -> Result<(), Fail> {
     Ok(())
 }
 
+/// Whether the words ask for this load.
+fn loads(alloc: Global, words: &[&str], wanted: Load) -> Result<bool, AllocError> {
+    let command = read(alloc, words)?;
+    Ok(matches!(&command, Ok(Command::Bulk { load }) if *load == wanted))
+}
+
+#[test]
+fn bulk_is_read(rt: HostRuntime) -> Result<(), Fail> {
+    let rows: [(&[&str], u64, u32); 3] = [
+        (&["bulk", "--seed", "0", "--tasks", "3"], 0, 3),
+        (
+            &["bulk", "--tasks=100000", "--seed=9223372036854775807"],
+            9_223_372_036_854_775_807,
+            100_000,
+        ),
+        (&["bulk", "--seed", "007", "--tasks", "0"], 7, 0),
+    ];
+    for (words, seed, tasks) in rows {
+        assert!(rt; loads(rt.alloc(), words, Load { seed, tasks })?);
+    }
+    Ok(())
+}
+
+#[test]
+fn a_load_off_its_form_is_told(rt: HostRuntime) -> Result<(), Fail> {
+    let rows = [
+        ("", "1", "--seed"),
+        ("9223372036854775808", "1", "--seed"),
+        ("+1", "1", "--seed"),
+        ("00000000000000000001", "1", "--seed"),
+        ("1", "", "--tasks"),
+        ("1", "100001", "--tasks"),
+        ("1", "1.5", "--tasks"),
+    ];
+    for (seed, tasks, name) in rows {
+        let words = ["bulk", "--seed", seed, "--tasks", tasks];
+        let told = usage(rt.alloc(), words.as_slice())?.ok_or("a text")?;
+        assert!(rt; told.as_str().contains(name));
+    }
+    Ok(())
+}
+
 #[test]
 fn help_names_the_commands(rt: HostRuntime) -> Result<(), Fail> {
     let alloc = rt.alloc();
     let help = usage(alloc, ["--help"].as_slice())?.ok_or("a text")?;
     assert!(rt; help.as_str().contains("A build farm's server."));
-    for name in ["answer", "expand", "check", "sign"] {
+    for name in ["answer", "expand", "check", "sign", "bulk"] {
         assert!(rt; help.as_str().contains(name));
     }
     let help = usage(alloc, ["check", "--help"].as_slice())?.ok_or("a text")?;

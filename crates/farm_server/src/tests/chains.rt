@@ -1,5 +1,5 @@
 //! A diamond and a chain of tasks, over connections in memory. The replies were written by hand after the queue service's reference, and by a model of it.
-use super::rows::first_other;
+use super::rows::first_other_in;
 use super::tasks::{CREATED, PLAIN, farm, written_at};
 use super::*;
 
@@ -25,9 +25,10 @@ const SECOND_HALF: &str =
 
 #[test]
 fn four_tasks_of_a_diamond_run_in_turn(rt: HostRuntime) -> Result<(), Fail> {
-    let mut desk = farm(rt.alloc(), &["*"], 1_000_000)?;
-    assert_eq!(rt; first_other(rt.alloc(), &mut desk, FIRST_HALF)?, "none");
-    assert_eq!(rt; first_other(rt.alloc(), &mut desk, SECOND_HALF)?, "none");
+    assert_eq!(rt;
+        first_other_in(rt.alloc(), FIRST_HALF, SECOND_HALF)?,
+        "none"
+    );
     Ok(())
 }
 
@@ -83,14 +84,27 @@ fn runs_chained(alloc: Global, desk: &mut Solo<Bare>, place: u64) -> Result<bool
     Ok(written.as_slice() == wanted.as_str().as_bytes())
 }
 
+/// How many of a hundred tasks of a chain run in turn at a desk.
+fn chained_at(alloc: Global, desk: &mut Solo<Bare>) -> Result<u64, Fail> {
+    for place in 0..100 {
+        make_chained(alloc, desk, place)?;
+    }
+    for place in 0..100 {
+        if !runs_chained(alloc, desk, place)? {
+            return Ok(place);
+        }
+    }
+    Ok(100)
+}
+
+/// The same of a new farm.
+fn chained_runs(alloc: Global) -> Result<u64, Fail> {
+    let mut desk = farm(alloc, &["*"], 100)?;
+    chained_at(alloc, &mut desk)
+}
+
 #[test]
 fn a_hundred_tasks_of_a_chain_run_in_turn(rt: HostRuntime) -> Result<(), Fail> {
-    let mut desk = farm(rt.alloc(), &["*"], 100)?;
-    for place in 0..100 {
-        make_chained(rt.alloc(), &mut desk, place)?;
-    }
-    for place in 0..100 {
-        assert!(rt; runs_chained(rt.alloc(), &mut desk, place)?);
-    }
+    assert_eq!(rt; chained_runs(rt.alloc())?, 100);
     Ok(())
 }

@@ -244,15 +244,20 @@ fn denied<'a>(id: &'a str, request: &'a str, mac: &'a str, reply: &'a str) -> Si
     }
 }
 
-/// The place of the first call that is answered otherwise, or how many there are.
-fn first_other(alloc: Global, calls: &[Signed]) -> Result<usize, Fail> {
-    let mut desk = farm(alloc)?;
+/// The place of the first call that a desk answers otherwise, or how many there are.
+fn first_other_at(alloc: Global, desk: &mut Solo<Bare>, calls: &[Signed]) -> Result<usize, Fail> {
     for (place, call) in calls.iter().enumerate() {
-        if !is_answered(alloc, &mut desk, call)? {
+        if !is_answered(alloc, desk, call)? {
             return Ok(place);
         }
     }
     Ok(calls.len())
+}
+
+/// The same of a new farm with the clients.
+fn first_other(alloc: Global, calls: &[Signed]) -> Result<usize, Fail> {
+    let mut desk = farm(alloc)?;
+    first_other_at(alloc, &mut desk, calls)
 }
 
 #[test]

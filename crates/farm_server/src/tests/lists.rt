@@ -1,7 +1,6 @@
 //! Lists of tasks, page by page, over connections in memory. The replies were written by hand after the queue service's reference, and by a
 //! model of it.
-use super::rows::first_other;
-use super::tasks::farm;
+use super::rows::{first_other_at, first_otherwise};
 use super::*;
 
 /// A group of two tasks and another of one: pages with their tokens, and tokens that name no task of the group.
@@ -24,8 +23,7 @@ const GROUP: &str =
 
 #[test]
 fn a_group_is_told_page_by_page(rt: HostRuntime) -> Result<(), Fail> {
-    let mut desk = farm(rt.alloc(), &["*"], 1_000_000)?;
-    assert_eq!(rt; first_other(rt.alloc(), &mut desk, GROUP)?, "none");
+    assert_eq!(rt; first_otherwise(rt.alloc(), GROUP)?, "none");
     Ok(())
 }
 
@@ -45,8 +43,7 @@ const DEPENDANTS: &str =
 
 #[test]
 fn who_waits_for_a_task_is_told(rt: HostRuntime) -> Result<(), Fail> {
-    let mut desk = farm(rt.alloc(), &["*"], 1_000_000)?;
-    assert_eq!(rt; first_other(rt.alloc(), &mut desk, DEPENDANTS)?, "none");
+    assert_eq!(rt; first_otherwise(rt.alloc(), DEPENDANTS)?, "none");
     Ok(())
 }
 
@@ -67,8 +64,7 @@ const PENDING: &str =
 
 #[test]
 fn what_waits_in_a_queue_is_counted(rt: HostRuntime) -> Result<(), Fail> {
-    let mut desk = farm(rt.alloc(), &["*"], 1_000_000)?;
-    assert_eq!(rt; first_other(rt.alloc(), &mut desk, PENDING)?, "none");
+    assert_eq!(rt; first_otherwise(rt.alloc(), PENDING)?, "none");
     Ok(())
 }
 
@@ -85,7 +81,9 @@ const DENIED: &str =
 #[test]
 fn who_may_make_tasks_may_not_list_them(rt: HostRuntime) -> Result<(), Fail> {
     let scopes = ["queue:create-task:*", "queue:scheduler-id:*"];
-    let mut desk = farm(rt.alloc(), scopes.as_slice(), 1_000_000)?;
-    assert_eq!(rt; first_other(rt.alloc(), &mut desk, DENIED)?, "none");
+    assert_eq!(rt;
+        first_other_at(rt.alloc(), scopes.as_slice(), 1_000_000, DENIED)?,
+        "none"
+    );
     Ok(())
 }

@@ -1,5 +1,5 @@
 //! Requests over connections in memory, line by line, with the replies that are wanted.
-use super::tasks::{CREATED, written_at};
+use super::tasks::{CREATED, farm, written_at};
 use super::*;
 
 /// A line of a conversation, cut at its bars.
@@ -59,11 +59,7 @@ fn is_answered(alloc: Global, desk: &mut Solo<Bare>, row: &Row) -> Result<bool, 
 }
 
 /// The first line of a conversation that is answered otherwise, or `none`.
-pub(super) fn first_other<'a>(
-    alloc: Global,
-    desk: &mut Solo<Bare>,
-    talk: &'a str,
-) -> Result<&'a str, Fail> {
+fn first_other<'a>(alloc: Global, desk: &mut Solo<Bare>, talk: &'a str) -> Result<&'a str, Fail> {
     for line in talk.split('\n') {
         let row = row_of(line).ok_or("a row")?;
         if !is_answered(alloc, desk, &row)? {
@@ -71,4 +67,45 @@ pub(super) fn first_other<'a>(
         }
     }
     Ok("none")
+}
+
+/// The same of a conversation in two halves.
+fn first_other_of_two<'a>(
+    alloc: Global,
+    desk: &mut Solo<Bare>,
+    first: &'a str,
+    second: &'a str,
+) -> Result<&'a str, Fail> {
+    let other = first_other(alloc, desk, first)?;
+    if other != "none" {
+        return Ok(other);
+    }
+    first_other(alloc, desk, second)
+}
+
+/// The first line of a conversation with a new farm that is answered otherwise, or `none`. The farm takes so many tasks, and whoever gives no
+/// credentials has these scopes. A desk is owned here and in the next function alone, so that the proofs of the tests are short.
+pub(super) fn first_other_at<'a>(
+    alloc: Global,
+    scopes: &[&str],
+    max_tasks: u32,
+    talk: &'a str,
+) -> Result<&'a str, Fail> {
+    let mut desk = farm(alloc, scopes, max_tasks)?;
+    first_other(alloc, &mut desk, talk)
+}
+
+/// The same of a farm that takes a million tasks and allows all, and of two halves.
+pub(super) fn first_other_in<'a>(
+    alloc: Global,
+    first: &'a str,
+    second: &'a str,
+) -> Result<&'a str, Fail> {
+    let mut desk = farm(alloc, &["*"], 1_000_000)?;
+    first_other_of_two(alloc, &mut desk, first, second)
+}
+
+/// The same of one part.
+pub(super) fn first_otherwise<'a>(alloc: Global, talk: &'a str) -> Result<&'a str, Fail> {
+    first_other_at(alloc, &["*"], 1_000_000, talk)
 }

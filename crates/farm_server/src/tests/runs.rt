@@ -1,5 +1,5 @@
 //! The runs of one task over connections in memory. The replies were written by hand after the queue service's reference, and by a model of it.
-use super::rows::first_other;
+use super::rows::first_otherwise;
 use super::tasks::{CREATED, farm, written_at};
 use super::*;
 
@@ -11,8 +11,7 @@ const AGAIN: &str =
 
 #[test]
 fn a_task_that_runs_is_made_again(rt: HostRuntime) -> Result<(), Fail> {
-    let mut desk = farm(rt.alloc(), &["*"], 1_000_000)?;
-    assert_eq!(rt; first_other(rt.alloc(), &mut desk, AGAIN)?, "none");
+    assert_eq!(rt; first_otherwise(rt.alloc(), AGAIN)?, "none");
     Ok(())
 }
 
@@ -26,8 +25,7 @@ const LAPSE: &str =
 
 #[test]
 fn a_claim_lapses_at_its_end(rt: HostRuntime) -> Result<(), Fail> {
-    let mut desk = farm(rt.alloc(), &["*"], 1_000_000)?;
-    assert_eq!(rt; first_other(rt.alloc(), &mut desk, LAPSE)?, "none");
+    assert_eq!(rt; first_otherwise(rt.alloc(), LAPSE)?, "none");
     Ok(())
 }
 
@@ -39,8 +37,7 @@ const LAST: &str =
 
 #[test]
 fn without_retries_a_lapsed_claim_ends_the_task(rt: HostRuntime) -> Result<(), Fail> {
-    let mut desk = farm(rt.alloc(), &["*"], 1_000_000)?;
-    assert_eq!(rt; first_other(rt.alloc(), &mut desk, LAST)?, "none");
+    assert_eq!(rt; first_otherwise(rt.alloc(), LAST)?, "none");
     Ok(())
 }
 
@@ -52,8 +49,7 @@ const DEADLINE_FIRST: &str =
 
 #[test]
 fn a_deadline_comes_before_a_claim(rt: HostRuntime) -> Result<(), Fail> {
-    let mut desk = farm(rt.alloc(), &["*"], 1_000_000)?;
-    assert_eq!(rt; first_other(rt.alloc(), &mut desk, DEADLINE_FIRST)?, "none");
+    assert_eq!(rt; first_otherwise(rt.alloc(), DEADLINE_FIRST)?, "none");
     Ok(())
 }
 
@@ -67,8 +63,7 @@ const RETRY: &str =
 
 #[test]
 fn an_intermittent_fault_is_retried_once(rt: HostRuntime) -> Result<(), Fail> {
-    let mut desk = farm(rt.alloc(), &["*"], 1_000_000)?;
-    assert_eq!(rt; first_other(rt.alloc(), &mut desk, RETRY)?, "none");
+    assert_eq!(rt; first_otherwise(rt.alloc(), RETRY)?, "none");
     Ok(())
 }
 
@@ -162,13 +157,27 @@ fn rounds(alloc: Global, desk: &mut Solo<Bare>) -> Result<u32, Fail> {
     Ok(50)
 }
 
+/// What a desk writes to a request once a task ran fifty times there.
+fn fifty_and(alloc: Global, desk: &mut Solo<Bare>, request: &str) -> Result<Vec<u8>, Fail> {
+    if !is_done(alloc, desk, MAKE, ONCE)? {
+        return Err(Fail::from("the task is not made"));
+    }
+    if rounds(alloc, desk)? != 50 {
+        return Err(Fail::from("it did not run fifty times"));
+    }
+    answer(alloc, desk, request, "")
+}
+
+/// The same of a new farm.
+fn after_fifty(alloc: Global, request: &str) -> Result<Vec<u8>, Fail> {
+    let mut desk = farm(alloc, &["*"], 1_000_000)?;
+    fifty_and(alloc, &mut desk, request)
+}
+
 #[test]
 fn a_task_runs_fifty_times_at_most(rt: HostRuntime) -> Result<(), Fail> {
     let alloc = rt.alloc();
-    let mut desk = farm(alloc, &["*"], 1_000_000)?;
-    assert!(rt; is_done(alloc, &mut desk, MAKE, ONCE)?);
-    assert_eq!(rt; rounds(alloc, &mut desk)?, 50);
-    let refused = answer(alloc, &mut desk, RERUN, "")?;
+    let refused = after_fifty(alloc, RERUN)?;
     let wanted = fifty_told(
         alloc,
         "409 Conflict",
@@ -182,12 +191,61 @@ fn a_task_runs_fifty_times_at_most(rt: HostRuntime) -> Result<(), Fail> {
 #[test]
 fn the_last_of_fifty_runs_is_told_of_again(rt: HostRuntime) -> Result<(), Fail> {
     let alloc = rt.alloc();
-    let mut desk = farm(alloc, &["*"], 1_000_000)?;
-    assert!(rt; is_done(alloc, &mut desk, MAKE, ONCE)?);
-    assert_eq!(rt; rounds(alloc, &mut desk)?, 50);
     let report = report_of(alloc, 49)?;
-    let told = answer(alloc, &mut desk, report.as_str(), "")?;
+    let told = after_fifty(alloc, report.as_str())?;
     let wanted = fifty_told(alloc, "200 OK", r#"{"status":"#, "}")?;
     assert_eq!(rt; told.as_slice(), wanted.as_str().as_bytes());
+    Ok(())
+}
+
+/// The task in full form.
+const FULL: &str =
+    r#"{"created":"2024-01-01T00:00:00.000Z","deadline":"2024-01-02T00:00:00.000Z","dependencies":[],"expires":"2025-01-01T00:00:00.000Z","extra":{},"metadata":{"description":"d","name":"n","owner":"o@example.com","source":"https://example.com/"},"payload":{},"priority":"lowest","projectId":"none","provisionerId":"prov","requires":"all-completed","retries":0,"routes":[],"schedulerId":"-","scopes":[],"tags":{},"taskGroupId":"AAAAAAAAQACAAAAAAAAAAA","taskQueueId":"prov/wt","workerType":"wt"}"#;
+
+#[test]
+fn fifty_runs_are_listed(rt: HostRuntime) -> Result<(), Fail> {
+    let alloc = rt.alloc();
+    let listed = after_fifty(
+        alloc,
+        "GET /api/queue/v1/task-group/AAAAAAAAQACAAAAAAAAAAA/list",
+    )?;
+    let back = format!(in alloc; r#","task":{FULL}}}]}}"#)?;
+    let wanted = fifty_told(
+        alloc,
+        "200 OK",
+        r#"{"taskGroupId":"AAAAAAAAQACAAAAAAAAAAA","tasks":[{"status":"#,
+        back.as_str(),
+    )?;
+    assert_eq!(rt; listed.as_slice(), wanted.as_str().as_bytes());
+    Ok(())
+}
+
+/// A reply with success and this body.
+fn success(alloc: Global, body: &str) -> Result<String, AllocError> {
+    let length = body.len();
+    format!(in alloc;
+        "HTTP/1.1 200 OK\r\nContent-Length: {length}\r\nContent-Type: application/json\r\n\r\n{body}"
+    )
+}
+
+#[test]
+fn who_ran_fifty_times_is_told(rt: HostRuntime) -> Result<(), Fail> {
+    let alloc = rt.alloc();
+    let rows = [
+        (
+            "GET /api/queue/v1/task/AAAAAAAAQACAAAAAAAAAAA/dependents",
+            r#"{"taskId":"AAAAAAAAQACAAAAAAAAAAA","tasks":[]}"#,
+        ),
+        ("GET /api/queue/v1/task/AAAAAAAAQACAAAAAAAAAAA", FULL),
+        (
+            "GET /api/queue/v1/pending/prov/wt",
+            r#"{"pendingTasks":0,"provisionerId":"prov","taskQueueId":"prov/wt","workerType":"wt"}"#,
+        ),
+    ];
+    for (request, body) in rows {
+        let told = after_fifty(alloc, request)?;
+        let wanted = success(alloc, body)?;
+        assert_eq!(rt; told.as_slice(), wanted.as_str().as_bytes());
+    }
     Ok(())
 }

@@ -158,6 +158,17 @@ fn first_other(
     Ok(exchanges.len())
 }
 
+/// The same at a new farm that takes so many tasks, where whoever gives no credentials has these scopes.
+fn first_other_at(
+    alloc: Global,
+    scopes: &[&str],
+    max_tasks: u32,
+    exchanges: &[Exchange],
+) -> Result<usize, Fail> {
+    let mut desk = farm(alloc, scopes, max_tasks)?;
+    first_other(alloc, &mut desk, exchanges)
+}
+
 /// A createTask at the moment of its making.
 const fn create<'a>(
     request: &'a str,
@@ -195,7 +206,6 @@ const ANOTHER: &str =
 
 #[test]
 fn a_task_is_made_once_under_three_scopes(rt: HostRuntime) -> Result<(), Fail> {
-    let mut desk = farm(rt.alloc(), &THREE_SCOPES, 1_000_000)?;
     let high = r#","priority":"high""#;
     let exchanges = [
         create(FIRST_TASK, "", "200 OK", "{\"status\":@}"),
@@ -212,13 +222,15 @@ fn a_task_is_made_once_under_three_scopes(rt: HostRuntime) -> Result<(), Fail> {
             r#"{"code":"InputError","details":{"path":"/payload/a","rule":21},"message":"the request breaks a rule"}"#,
         ),
     ];
-    assert_eq!(rt; first_other(rt.alloc(), &mut desk, &exchanges)?, 5);
+    assert_eq!(rt;
+        first_other_at(rt.alloc(), &THREE_SCOPES, 1_000_000, &exchanges)?,
+        5
+    );
     Ok(())
 }
 
 #[test]
 fn a_deadline_resolves_at_its_own_moment(rt: HostRuntime) -> Result<(), Fail> {
-    let mut desk = farm(rt.alloc(), &["*"], 1_000_000)?;
     let exchanges = [
         create(FIRST_TASK, "", "200 OK", "{\"status\":@}"),
         create(SECOND_TASK, r#","priority":"high""#, "200 OK", SECOND),
@@ -227,13 +239,15 @@ fn a_deadline_resolves_at_its_own_moment(rt: HostRuntime) -> Result<(), Fail> {
         status(0, EXCEEDED),
         create(FIRST_TASK, "", "200 OK", EXCEEDED),
     ];
-    assert_eq!(rt; first_other(rt.alloc(), &mut desk, &exchanges)?, 6);
+    assert_eq!(rt;
+        first_other_at(rt.alloc(), &["*"], 1_000_000, &exchanges)?,
+        6
+    );
     Ok(())
 }
 
 #[test]
 fn a_full_farm_still_answers_its_tasks(rt: HostRuntime) -> Result<(), Fail> {
-    let mut desk = farm(rt.alloc(), &["*"], 1)?;
     let exchanges = [
         create(FIRST_TASK, "", "200 OK", "{\"status\":@}"),
         create(
@@ -253,13 +267,12 @@ fn a_full_farm_still_answers_its_tasks(rt: HostRuntime) -> Result<(), Fail> {
             )
         },
     ];
-    assert_eq!(rt; first_other(rt.alloc(), &mut desk, &exchanges)?, 4);
+    assert_eq!(rt; first_other_at(rt.alloc(), &["*"], 1, &exchanges)?, 4);
     Ok(())
 }
 
 #[test]
 fn bodies_are_read_as_json(rt: HostRuntime) -> Result<(), Fail> {
-    let mut desk = farm(rt.alloc(), &["*"], 1)?;
     let no_json =
         r#"{"code":"InputError","details":{"rule":20},"message":"the request breaks a rule"}"#;
     let body = create(FIRST_TASK, "", "400 Bad Request", no_json);
@@ -276,6 +289,6 @@ fn bodies_are_read_as_json(rt: HostRuntime) -> Result<(), Fail> {
             ..body
         },
     ];
-    assert_eq!(rt; first_other(rt.alloc(), &mut desk, &exchanges)?, 3);
+    assert_eq!(rt; first_other_at(rt.alloc(), &["*"], 1, &exchanges)?, 3);
     Ok(())
 }

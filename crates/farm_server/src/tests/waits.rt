@@ -1,6 +1,5 @@
 //! Tasks that wait for others, over connections in memory. The replies were written by hand after the queue service's reference, and by a model of it.
-use super::rows::first_other;
-use super::tasks::farm;
+use super::rows::{first_other_at, first_other_in, first_otherwise};
 use super::*;
 
 /// A task waits for two others, of which one is completed and run again.
@@ -23,9 +22,7 @@ const BOTH: &str =
 
 #[test]
 fn a_rerun_takes_nothing_back(rt: HostRuntime) -> Result<(), Fail> {
-    let mut desk = farm(rt.alloc(), &["*"], 1_000_000)?;
-    assert_eq!(rt; first_other(rt.alloc(), &mut desk, TWO)?, "none");
-    assert_eq!(rt; first_other(rt.alloc(), &mut desk, BOTH)?, "none");
+    assert_eq!(rt; first_other_in(rt.alloc(), TWO, BOTH)?, "none");
     Ok(())
 }
 
@@ -41,8 +38,7 @@ const ITSELF: &str =
 
 #[test]
 fn a_task_may_wait_for_itself(rt: HostRuntime) -> Result<(), Fail> {
-    let mut desk = farm(rt.alloc(), &["*"], 1_000_000)?;
-    assert_eq!(rt; first_other(rt.alloc(), &mut desk, ITSELF)?, "none");
+    assert_eq!(rt; first_otherwise(rt.alloc(), ITSELF)?, "none");
     Ok(())
 }
 
@@ -56,8 +52,7 @@ const FULL: &str =
 
 #[test]
 fn what_a_task_waits_for_is_judged_before_the_farm_is_full(rt: HostRuntime) -> Result<(), Fail> {
-    let mut desk = farm(rt.alloc(), &["*"], 1)?;
-    assert_eq!(rt; first_other(rt.alloc(), &mut desk, FULL)?, "none");
+    assert_eq!(rt; first_other_at(rt.alloc(), &["*"], 1, FULL)?, "none");
     Ok(())
 }
 
@@ -73,8 +68,7 @@ const REFUSED: &str =
 
 #[test]
 fn a_task_is_refused_for_what_it_waits_for_and_for_its_group(rt: HostRuntime) -> Result<(), Fail> {
-    let mut desk = farm(rt.alloc(), &["*"], 1_000_000)?;
-    assert_eq!(rt; first_other(rt.alloc(), &mut desk, REFUSED)?, "none");
+    assert_eq!(rt; first_otherwise(rt.alloc(), REFUSED)?, "none");
     Ok(())
 }
 
@@ -90,8 +84,7 @@ const CANCELED: &str =
 
 #[test]
 fn a_canceled_task_is_resolved_and_not_completed(rt: HostRuntime) -> Result<(), Fail> {
-    let mut desk = farm(rt.alloc(), &["*"], 1_000_000)?;
-    assert_eq!(rt; first_other(rt.alloc(), &mut desk, CANCELED)?, "none");
+    assert_eq!(rt; first_otherwise(rt.alloc(), CANCELED)?, "none");
     Ok(())
 }
 
@@ -105,7 +98,6 @@ const ONE_TICK: &str =
 
 #[test]
 fn each_deadline_of_a_tick_comes_at_its_own_moment(rt: HostRuntime) -> Result<(), Fail> {
-    let mut desk = farm(rt.alloc(), &["*"], 1_000_000)?;
-    assert_eq!(rt; first_other(rt.alloc(), &mut desk, ONE_TICK)?, "none");
+    assert_eq!(rt; first_otherwise(rt.alloc(), ONE_TICK)?, "none");
     Ok(())
 }

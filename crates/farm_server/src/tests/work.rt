@@ -1,6 +1,5 @@
 //! Two workers over connections in memory, of whom one dies, with replies by a model of the rules that was written apart from this program.
-use super::rows::first_other;
-use super::tasks::farm;
+use super::rows::first_otherwise;
 use super::*;
 
 /// Each row: how many milliseconds after the first task is made, the request, its body, and the reply's status and body.
@@ -59,7 +58,6 @@ const TALK: &str =
 
 #[test]
 fn two_workers_share_a_queue(rt: HostRuntime) -> Result<(), Fail> {
-    let mut desk = farm(rt.alloc(), &["*"], 1_000_000)?;
-    assert_eq!(rt; first_other(rt.alloc(), &mut desk, TALK)?, "none");
+    assert_eq!(rt; first_otherwise(rt.alloc(), TALK)?, "none");
     Ok(())
 }

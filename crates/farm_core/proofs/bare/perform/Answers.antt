@@ -16,10 +16,11 @@ returns-in-Ok c =
       became = planned-finishes c.args.config.now c.args.tables.now c.args.question c.in-Ok.plan within planned;
       leads = rw (c.apply.ensures.applied, c.in-Ok.ensures.same, planned.at) refl;
       told = c.apply.ensures.reply;
+      no_disk = tt;
     }
 
 pub returns-in-Err : goal.returns-in-Err
 returns-in-Err c =
     let value = c.moment_of-moment.ensures.value in
     let told = c.moment_of-moment.ensures.told in
-    record { outcome = out_of_memory; became = record { at_work = refl; told = omega arith; nothing_due = c.requires; became = tt }; leads = search rules; told = search rules }
+    record { outcome = out_of_memory; became = record { at_work = refl; told = omega arith; nothing_due = c.requires; became = tt }; leads = search rules; told = search rules; no_disk = tt }

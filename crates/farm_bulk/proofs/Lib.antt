@@ -1,0 +1,11 @@
+mod BodyLemmas
+mod CallLemmas
+mod ConnectionLemmas
+mod DefinitionLemmas
+mod LineLemmas
+mod LoadLemmas
+mod OccursLemmas
+mod OneLemmas
+mod ReplyLemmas
+mod TextLemmas
+mod TurnLemmas
