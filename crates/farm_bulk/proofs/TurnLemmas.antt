@@ -1,5 +1,5 @@
 -- What turns were asked and told, of whose entries a history is made: the machine goes through them one by one.
-use Rattle.std.proofs.Common.{◌≡◌, ℕ, ◌+◌, List, [], ◌∷◌, ◌++◌, length, length-append, map, Option, Some, refl, sym, ◌∙◌, ap, subst, append_assoc}
+use Rattle.std.proofs.Common.{◌≡◌, ℕ, ◌+◌, List, [], ◌∷◌, ◌++◌, length, length-append, map, Option, Some, refl, sym, ◌∙◌, ap, append_assoc}
 use Rattle.history.specs.Rules.{Rules}
 use Rattle.history.specs.Histories.{entries, end_state, reply_at, asked_at, calls_of}
 use Rattle.history.specs.Asks.{IsAsk, AreEntries}
