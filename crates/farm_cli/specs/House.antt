@@ -91,14 +91,22 @@ after_closing (unopened at) file = untold
 after_closing (back x) file = untold
 after_closing untold file = untold
 
+-- the file, where it came back
+abbrev pub came_back : {T : Type 0} → Files T → Option T
+came_back (unopened at) = None
+came_back out = None
+came_back (back x) = Some x
+came_back untold = None
+
 -- a file of this name was opened, and came back
 pub record WasOpened {T : Type 0} (old new : Files T) (name : List ℕ) (opened closed : T) : Type 0 where
   pub could : CanOpenAmong old name (Ok opened)
   pub returned : new ≡ after_closing (after_opened old) closed
 
--- all that a house lends: files, console, notes, clock and draws
-pub record Lendings (F C N T I : Type 0) : Type 0 where
+-- all that a house lends: farm files, disks, console, notes, clock and draws
+pub record Lendings (F S C N T I : Type 0) : Type 0 where
   pub file : Files F
+  pub disk : Files S
   pub console : Lending C
   pub notes : Lending N
   pub clock : Lending T

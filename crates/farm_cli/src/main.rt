@@ -3,6 +3,9 @@
 
 mod checking;
 mod commands;
+#[cfg(test)]
+mod disk_tests;
+mod disks;
 mod ended;
 mod expanding;
 mod farm_file;
@@ -12,6 +15,8 @@ mod inputs;
 mod laws;
 mod lending;
 mod loading;
+#[cfg(test)]
+mod lost_tests;
 mod memory_house;
 #[cfg(test)]
 mod note_tests;
