@@ -7,3 +7,4 @@ pub mod NumberLemmas
 pub mod PhraseLemmas
 pub mod QueryLemmas
 pub mod QueueLemmas
+pub mod SaidLemmas

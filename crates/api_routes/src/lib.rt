@@ -4,6 +4,7 @@
 mod bodies;
 mod calls;
 mod head;
+mod laws;
 mod names;
 mod parts;
 mod queries;
@@ -12,5 +13,6 @@ mod routes;
 mod wire_replies;
 
 pub use head::{Head, reply_head};
+pub use laws::a_called_task_is_said;
 pub use routes::{call_of, caller_of};
 pub use wire_replies::own_reply;

@@ -5,3 +5,4 @@ pub mod FollowLemmas
 pub mod OpenLemmas
 pub mod LawLemmas
 pub mod MendLemmas
+pub mod KeepsLemmas

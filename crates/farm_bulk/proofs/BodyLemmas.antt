@@ -1,5 +1,5 @@
 -- The body of a reply is its last line.
-use Rattle.std.proofs.Common.{◌≡◌, ℕ, Bool, List, [], ◌∷◌, ◌++◌, length, codes, decimal, if◌then◌else◌, refl, sym, ◌∙◌, ap, append_assoc}
+use Rattle.std.proofs.Common.{◌≡◌, ℕ, Bool, List, [], ◌∷◌, ◌++◌, length, codes, decimal, if◌then◌else◌, refl, append_assoc}
 use Rattle.std.specs.List.{Contains}
 use Rattle.farm_machine.specs.Replies.{answer_of}
 use Rattle.farm_machine.specs.declared.reply.Reply.{Reply}

@@ -1,15 +1,17 @@
 -- A connection of the load, from what serving one says.
-use Rattle.std.proofs.Common.{◌≡◌, ◌≢◌, ◌⊎◌, inl, inr, ℕ, ◌+◌, ◌-◌, ◌^◌, ◌<◌, ◌||◌, ◌==◌, Bool, List, [], ◌∷◌, ◌++◌, length, map, codes, decimal, if◌then◌else◌, Some, Result, Ok, Err, IfOk, Vec, refl, sym, ◌∙◌, ap, subst, subst₂, arith, append_assoc}
+use Rattle.std.proofs.Common.{◌≡◌, ◌≢◌, ◌⊎◌, inl, inr, ℕ, ◌+◌, ◌-◌, ◌^◌, ◌<◌, ◌||◌, ◌==◌, Bool, true, false, List, [], ◌∷◌, ◌++◌, length, map, codes, decimal, if◌then◌else◌, Some, Result, Ok, Err, IfOk, Vec, refl, sym, ◌∙◌, ap, subst, subst₂, arith, append_assoc}
 use Rattle.std.proofs.lemmas.Bool.{lt-ltb}
 use Rattle.std.specs.List.{range_with_len}
 use Rattle.std.specs.declared.alloc.Global.{Global}
 use Rattle.std.specs.Io.KnownBytes.{Appends}
 use Rattle.causes.specs.Logs.{LogGrows}
-use Rattle.history.specs.Histories.{asked_at, reply_at}
-use Rattle.history.specs.Asks.{IsAsk, LeadsAlone, AsksInTurn}
+use Rattle.history.specs.Histories.{asked_at, reply_at, entries, end_state}
+use Rattle.history.specs.Asks.{IsAsk, AreEntries, LeadsAlone, AsksInTurn}
+use Rattle.history.proofs.HistoriesLemmas.{end_state-append}
 use Rattle.memchr.specs.Find.{OccursAt}
 use Rattle.farm_text.specs.Told.{told_by, first_uuid}
-use Rattle.farm_machine.specs.Entry.{Asking, Entry}
+use Rattle.farm_machine.specs.Changes.{moment_of}
+use Rattle.farm_machine.specs.Entry.{Asking, Entry, tick}
 use Rattle.farm_machine.specs.Law.{Opening, opened}
 use Rattle.farm_machine.specs.State.{State}
 use Rattle.farm_machine.specs.Step.{farm_rules}
@@ -18,6 +20,7 @@ use Rattle.farm_machine.specs.declared.reply.Reply.{Reply}
 use Rattle.farm_machine.specs.declared.reply.Reply.TheVariants.{OutOfMemory}
 use Rattle.api_routes.specs.ReplyText.{reply_text, line, phrase}
 use Rattle.farm_machine.specs.Replies.{no_memory}
+use Rattle.farm_core.specs.Diskless.{HasNoDisk, HaveNoDisk}
 use Rattle.farm_server.specs.Served.{Outside, Ask, messages_of, questions_of, reply_texts, EndsAs, Writes, SpokeWithin}
 use Rattle.farm_server.specs.declared.served.Served.{Served}
 use Rattle.farm_server.specs.declared.served.Served.TheVariants.{Closed, Full}
@@ -26,7 +29,7 @@ use Rattle.farm_bulk.specs.Complete.{out_of_memory, IsComplete}
 use Rattle.farm_bulk.specs.Connections.{AreAtMidnight, AreAnswered, Converses}
 use Rattle.farm_bulk.specs.Still.{midnight}
 use Rattle.farm_bulk.proofs.OccursLemmas.{OccursAt-front, OccursAt-later, OccursAt-earlier, never_found}
-use Rattle.farm_bulk.proofs.TurnLemmas.{Steps, Steps-of, asked_at-calls, reply_at-calls}
+use Rattle.farm_bulk.proofs.TurnLemmas.{asked_at-calls, reply_at-calls}
 
 -- ---- moments and ids
 
@@ -84,36 +87,51 @@ AreWithMemory-of room (ask ∷ asks) (reply ∷ replies) same never =
 
 -- ---- the farm
 
-AreAnswered-of : (before after : State) (turns : List (Asking × Asked)) (questions : List Asking) (replies : List Reply) → Steps farm_rules before turns after → map (λ (turn : Asking × Asked). Some turn.0) turns ≡ map Some questions → map (λ (turn : Asking × Asked). Some turn.1.reply) turns ≡ map Some replies → AreWithMemory replies → AreAnswered before questions replies after
-unfolding AreWithMemory Steps
-AreAnswered-of before after [] [] [] steps asked told plenty = steps
-AreAnswered-of before after [] [] (reply ∷ replies) steps asked told plenty = absurd cc
-AreAnswered-of before after [] (question ∷ questions) replies steps asked told plenty = absurd cc
-AreAnswered-of before after (turn ∷ turns) [] replies steps asked told plenty = absurd cc
-AreAnswered-of before after (turn ∷ turns) (question ∷ questions) [] steps asked told plenty = absurd cc
-AreAnswered-of before after (turn ∷ turns) (question ∷ questions) (reply ∷ replies) steps asked told plenty =
+-- of the entries of an ask and those behind them none had a disk
+no_disk_parts : (ticked : Bool) (moment : ℕ) (made : Entry) (rest : List Entry) → HaveNoDisk (((if ticked then tick moment ∷ [] else []) ++ made ∷ []) ++ rest) → HasNoDisk made × HaveNoDisk rest
+no_disk_parts true moment made rest none = (none.1.0, none.1.1)
+no_disk_parts false moment made rest none = (none.0, none.1)
+
+AreAnswered-of : (before after : State) (turns : List (Asking × Asked)) (seen : List Entry) (questions : List Asking) (replies : List Reply) → AreEntries farm_rules before turns seen → HaveNoDisk seen → after ≡ end_state farm_rules before seen
+    → map (λ (turn : Asking × Asked). Some turn.0) turns ≡ map Some questions → map (λ (turn : Asking × Asked). Some turn.1.reply) turns ≡ map Some replies → AreWithMemory replies → AreAnswered before questions replies after
+unfolding AreWithMemory farm_rules
+AreAnswered-of before after [] seen [] [] made none leads asked told plenty = leads ∙ ap (end_state farm_rules before) made
+AreAnswered-of before after [] seen [] (reply ∷ replies) made none leads asked told plenty = absurd cc
+AreAnswered-of before after [] seen (question ∷ questions) replies made none leads asked told plenty = absurd cc
+AreAnswered-of before after (turn ∷ turns) seen [] replies made none leads asked told plenty = absurd cc
+AreAnswered-of before after (turn ∷ turns) seen (question ∷ questions) [] made none leads asked told plenty = absurd cc
+AreAnswered-of before after (turn ∷ turns) seen (question ∷ questions) (reply ∷ replies) (entry, new, rest, step, is, more) none leads asked told plenty =
     let first : turn.0 ≡ question = cc in
     let given : turn.1.reply ≡ reply = cc in
-    let ask = subst₂ (λ q r. IsAsk farm_rules before q (record { reply = r; ticked = turn.1.ticked }) steps.0 steps.1) first given steps.2 in
+    let front : List Entry = entries farm_rules before turn.0 turn.1 entry in
+    let ask = subst₂ (λ q r. IsAsk farm_rules before q (record { reply = r; ticked = turn.1.ticked }) entry new) first given step in
     let asked_left : map (λ (turn : Asking × Asked). Some turn.0) turns ≡ map Some questions = cc in
     let told_left : map (λ (turn : Asking × Asked). Some turn.1.reply) turns ≡ map Some replies = cc in
-    (turn.1.ticked, steps.0, steps.1, ask, plenty.0, AreAnswered-of steps.1 after turns questions replies steps.3 asked_left told_left plenty.1)
+    let parts = no_disk_parts turn.1.ticked (moment_of before.contents turn.0) entry rest (subst HaveNoDisk is none) in
+    let behind : after ≡ end_state farm_rules new rest =
+    leads ∙ (ap (end_state farm_rules before) is ∙ (end_state-append farm_rules before front rest ∙ ap (λ (s : State). end_state farm_rules s rest) (sym step.leads))) in
+    (turn.1.ticked, entry, new, ask, parts.0, plenty.0, AreAnswered-of new after turns rest questions replies more parts.1 behind asked_left told_left plenty.1)
+
+-- the opening of a farm that begins so, on no disk
+abbrev pub begun : State → Opening
+begun state = record { state = state; records = []; faults = 0 }
 
 -- the asks of a desk that stood for nothing, and stands only for what leads alone to a state
 AreAnswered-turns : (before after : State) (old new : Opening → List Entry → List ℕ → Type 0) (questions : List Asking) (replies : List Reply)
-    → old (record { state = before }) [] []
+    → old (begun before) [] []
     → AsksInTurn farm_rules opened old new questions replies
-    → ((seen : List Entry) (mine : List ℕ) → new (record { state = before }) seen mine → LeadsAlone farm_rules before seen mine after)
+    → ((seen : List Entry) (mine : List ℕ) → new (begun before) seen mine → LeadsAlone farm_rules before seen mine after × HaveNoDisk seen)
     → AreWithMemory replies
     → AreAnswered before questions replies after
 unfolding farm_rules
 AreAnswered-turns before after old new questions replies fresh asks alone plenty =
-    let gains = asks (record { state = before }) [] [] fresh in
-    let leads = alone gains.since gains.gained gains.stands_now in
+    let gains = asks (begun before) [] [] fresh in
+    let both = alone gains.since gains.gained gains.stands_now in
+    let leads = both.0 in
     let made = leads.made in
     let asked : map (λ (turn : Asking × Asked). Some turn.0) made.0 ≡ map Some questions = sym (asked_at-calls farm_rules before made.0 gains.since made.1) ∙ (ap (map (asked_at farm_rules gains.since)) (sym leads.all) ∙ gains.asked) in
     let told : map (λ (turn : Asking × Asked). Some turn.1.reply) made.0 ≡ map Some replies = sym (reply_at-calls farm_rules before made.0 gains.since made.1) ∙ (ap (map (reply_at farm_rules before gains.since)) (sym leads.all) ∙ gains.replied) in
-    AreAnswered-of before after made.0 questions replies (subst (Steps farm_rules before made.0) (sym leads.leads) (Steps-of farm_rules before made.0 gains.since made.1)) asked told plenty
+    AreAnswered-of before after made.0 gains.since questions replies made.1 both.1 leads.leads asked told plenty
 
 -- ---- the connection
 
@@ -142,8 +160,8 @@ pub Converses-of : (before after : State) (sent written : List ℕ) (moments ids
     → SpokeWithin REQUESTS outside outside' asks replies served
     → AsksInTurn farm_rules opened old new (questions_of asks) replies
     → IsFresh sent outside → IsSpent written moments ids outside' → IsComplete served moments ids written
-    → old (record { state = before }) [] []
-    → ((seen : List Entry) (mine : List ℕ) → new (record { state = before }) seen mine → LeadsAlone farm_rules before seen mine after)
+    → old (begun before) [] []
+    → ((seen : List Entry) (mine : List ℕ) → new (begun before) seen mine → LeadsAlone farm_rules before seen mine after × HaveNoDisk seen)
     → Converses before after sent written
 Converses-of before after sent written moments ids old new outside outside' asks replies served spoke turns fresh spent complete empty alone =
     let texts : written ≡ reply_texts REQUESTS asks replies = rw (fresh.written, spent.written_is) at (written_whole served outside outside' asks replies complete.whole spoke) in

@@ -13,7 +13,8 @@ use Rattle.farm_rows.specs.Due.{is_due}
 use Rattle.farm_rows.specs.Summary.{summary_of}
 use Rattle.farm_rows.specs.declared.summary.Summary.{Summary}
 use Rattle.farm_machine.specs.Changes.{moment_of}
-use Rattle.farm_machine.specs.Entry.{Asking, finished, out_of_memory, Entry, tick, call}
+use Rattle.farm_machine.specs.Entry.{Asking, finished, out_of_memory, disk_failed, was_halted, Entry, tick, call}
+use Rattle.farm_core.specs.Diskless.{HasNoDisk}
 use Rattle.farm_machine.specs.Judgement.{Judgement}
 use Rattle.farm_machine.specs.State.{State, empty_state}
 use Rattle.farm_machine.specs.Step.{farm_rules, lawful, asked, reply as reply_in}
@@ -52,26 +53,33 @@ record IsJudged (state : State) (question : Asking) (reply : Reply) (made : Entr
   verdict : IsVerdict state question judgement
   told : reply ≡ Answered judgement.answer
 
-judged : (state : State) (question : Asking) (reply : Reply) (made : Entry) → lawful state made → asked made ≡ Some question → reply_in state made ≡ Some reply → reply ≢ OutOfMemory → IsJudged state question reply made
-judged state question reply (tick moment) may is told plenty = absurd cc
-judged state question reply (call asking out_of_memory) may is told plenty = absurd (plenty (sym (some_is OutOfMemory reply told)))
-judged state question reply (call asking (finished judgement)) may is told plenty =
+judged : (state : State) (question : Asking) (reply : Reply) (made : Entry) → lawful state made → asked made ≡ Some question → reply_in state made ≡ Some reply → HasNoDisk made → reply ≢ OutOfMemory → IsJudged state question reply made
+judged state question reply (tick moment) may is told none plenty = absurd cc
+judged state question reply (call asking out_of_memory) may is told none plenty = absurd (plenty (sym (some_is OutOfMemory reply told)))
+judged state question reply (call asking disk_failed) may is told none plenty = absurd none
+judged state question reply (call asking was_halted) may is told none plenty = absurd none
+judged state question reply (call asking (finished judgement)) may is told none plenty =
     let same = some_is asking question is in
     record {
       judgement = judgement;
       is = ap (λ (q : Asking). call q (finished judgement)) same;
-      verdict = subst (λ (q : Asking). IsVerdict state q judgement) same may.became;
+      verdict = subst (λ (q : Asking). IsVerdict state q judgement) same may.became.verdict;
       told = sym (some_is (Answered judgement.answer) reply told);
     }
 
+-- nothing is due at the moment of a question that is asked so
+due_at : (state : State) (question asking : Asking) → asking ≡ question → is_due state.contents (moment_of state.contents asking) ≡ false → false ≡ is_due state.contents (moment_of state.contents question)
+due_at state question asking same none = sym (subst (λ (q : Asking). is_due state.contents (moment_of state.contents q) ≡ false) same none)
+
 -- a tick came just where something was due
-due_by : (state : State) (question : Asking) (made : Entry) (ticked : Bool) → asked made ≡ Some question → IsLegal farm_rules state ((if ticked then tick (moment_of state.contents question) ∷ [] else []) ++ made ∷ []) → ticked ≡ is_due state.contents (moment_of state.contents question)
+due_by : (state : State) (question : Asking) (made : Entry) (ticked : Bool) → asked made ≡ Some question → HasNoDisk made → IsLegal farm_rules state ((if ticked then tick (moment_of state.contents question) ∷ [] else []) ++ made ∷ []) → ticked ≡ is_due state.contents (moment_of state.contents question)
 unfolding farm_rules
-due_by state question made true is legal = sym legal.0.due
-due_by state question (tick moment) false is legal = absurd cc
-due_by state question (call asking outcome) false is legal =
-    let same = some_is asking question is in
-    sym (subst (λ (q : Asking). is_due state.contents (moment_of state.contents q) ≡ false) same legal.0.nothing_due)
+due_by state question made true is none legal = sym legal.0.due
+due_by state question (tick moment) false is none legal = absurd cc
+due_by state question (call asking (finished judgement)) false is none legal = due_at state question asking (some_is asking question is) legal.0.nothing_due
+due_by state question (call asking out_of_memory) false is none legal = due_at state question asking (some_is asking question is) legal.0.nothing_due
+due_by state question (call asking disk_failed) false is none legal = absurd none
+due_by state question (call asking was_halted) false is none legal = absurd none
 
 -- the rest of a history is legal from where its front ends
 legal_last : (state : State) (front : List Entry) (made : Entry) → IsLegal farm_rules state (front ++ made ∷ []) → lawful (end_state farm_rules state front) made
@@ -85,18 +93,18 @@ record SameAsk (told other : Reply) (new another : State) : Type 0 where
   states : new ≡ another
 
 ask_one : Laws → (state : State) (question : Asking) (reply other : Reply) (ticked ticked' : Bool) (made made' : Entry) (new another : State)
-    → IsAsk farm_rules state question (record { reply = reply; ticked = ticked }) made new → reply ≢ OutOfMemory
-    → IsAsk farm_rules state question (record { reply = other; ticked = ticked' }) made' another → other ≢ OutOfMemory
+    → IsAsk farm_rules state question (record { reply = reply; ticked = ticked }) made new → HasNoDisk made → reply ≢ OutOfMemory
+    → IsAsk farm_rules state question (record { reply = other; ticked = ticked' }) made' another → HasNoDisk made' → other ≢ OutOfMemory
     → SameAsk reply other new another
 unfolding farm_rules
-ask_one laws state question reply other ticked ticked' made made' new another x plenty y plenty' =
+ask_one laws state question reply other ticked ticked' made made' new another x none plenty y none' plenty' =
     let moment = moment_of state.contents question in
     let ticks : Bool → List Entry = λ b. if b then tick moment ∷ [] else [] in
-    let same : ticked ≡ ticked' = due_by state question made ticked x.asked x.legal ∙ sym (due_by state question made' ticked' y.asked y.legal) in
+    let same : ticked ≡ ticked' = due_by state question made ticked x.asked none x.legal ∙ sym (due_by state question made' ticked' y.asked none' y.legal) in
     let at = end_state farm_rules state (ticks ticked) in
     let at' : end_state farm_rules state (ticks ticked') ≡ at = ap (λ b. end_state farm_rules state (ticks b)) (sym same) in
-    let first = judged at question reply made (legal_last state (ticks ticked) made x.legal) x.asked x.reply plenty in
-    let second = judged (end_state farm_rules state (ticks ticked')) question other made' (legal_last state (ticks ticked') made' y.legal) y.asked y.reply plenty' in
+    let first = judged at question reply made (legal_last state (ticks ticked) made x.legal) x.asked x.reply none plenty in
+    let second = judged (end_state farm_rules state (ticks ticked')) question other made' (legal_last state (ticks ticked') made' y.legal) y.asked y.reply none' plenty' in
     let judgements : first.judgement ≡ second.judgement = laws.verdict at question first.judgement second.judgement first.verdict (subst (λ s. IsVerdict s question second.judgement) at' second.verdict) in
     let mades : made ≡ made' = first.is ∙ (ap (λ j. call question (finished j)) judgements ∙ sym second.is) in
     record {
@@ -117,8 +125,8 @@ asks_one laws state [] (reply ∷ replies) others new another x y = absurd x
 asks_one laws state (question ∷ questions) [] others new another x y = absurd x
 asks_one laws state (question ∷ questions) (reply ∷ replies) [] new another x y = absurd y
 asks_one laws state (question ∷ questions) (reply ∷ replies) (other ∷ others) new another x y =
-    let first = ask_one laws state question reply other x.0 y.0 x.1 y.1 x.2 y.2 x.3 x.4 y.3 y.4 in
-    let rest = asks_one laws x.2 questions replies others new another x.5 (subst (λ s. AreAnswered s questions others another) (sym first.states) y.5) in
+    let first = ask_one laws state question reply other x.0 y.0 x.1 y.1 x.2 y.2 x.3 x.4 x.5 y.3 y.4 y.5 in
+    let rest = asks_one laws x.2 questions replies others new another x.6 (subst (λ s. AreAnswered s questions others another) (sym first.states) y.6) in
     record { replies = ap (λ r. r ∷ replies) first.replies ∙ ap (λ rs. other ∷ rs) rest.replies; states = rest.states }
 
 -- ---- one connection

@@ -1,23 +1,10 @@
 -- What turns were asked and told, of whose entries a history is made: the machine goes through them one by one.
-use Rattle.std.proofs.Common.{◌≡◌, ℕ, ◌+◌, List, [], ◌∷◌, ◌++◌, length, length-append, map, Option, Some, refl, sym, ◌∙◌, ap, subst, append_assoc}
+use Rattle.std.proofs.Common.{◌≡◌, ℕ, ◌+◌, List, [], ◌∷◌, ◌++◌, length, length-append, map, Option, Some, refl, sym, ◌∙◌, ap, append_assoc}
 use Rattle.history.specs.Rules.{Rules}
 use Rattle.history.specs.Histories.{entries, end_state, reply_at, asked_at, calls_of}
 use Rattle.history.specs.Asks.{IsAsk, AreEntries}
 use Rattle.history.proofs.HistoriesLemmas.{end_state-append, calls_of-append, asked_at-append_seam, reply_at-append_seam}
 use Rattle.history.proofs.AsksLemmas.{calls_of-ask}
-
--- turns one by one, from a state to another
-unfoldable pub Steps : {Q A S E R : Type 0} → Rules Q A S E R → S → List (Q × A) → S → Type 0
-Steps r before [] after = after ≡ before
-Steps {S = S} {E = E} r before (turn ∷ turns) after = (call : E) × (between : S) × IsAsk r before turn.0 turn.1 call between × Steps r between turns after
-
--- turns that made entries lead to the state after these
-pub Steps-of : {Q A S E R : Type 0} (r : Rules Q A S E R) (state : S) (turns : List (Q × A)) (made : List E) → AreEntries r state turns made → Steps r state turns (end_state r state made)
-unfolding Steps
-Steps-of r state [] made are = ap (end_state r state) are
-Steps-of r state (turn ∷ turns) made are =
-    let leads : end_state r state made ≡ end_state r are.1 are.2 = ap (end_state r state) are.4 ∙ (end_state-append r state (entries r state turn.0 turn.1 are.0) are.2 ∙ ap (λ s. end_state r s are.2) (sym are.3.leads)) in
-    (are.0, are.1, are.3, subst (Steps r are.1 turns) (sym leads) (Steps-of r are.1 turns are.2 are.5))
 
 -- both parts of two lists
 map-cons : {X Y : Type 0} (f : X → Y) (x : X) (xs : List X) (y : Y) (ys : List Y) → f x ≡ y → map f xs ≡ ys → map f (x ∷ xs) ≡ y ∷ ys

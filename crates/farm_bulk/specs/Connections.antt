@@ -7,6 +7,7 @@ use Rattle.farm_machine.specs.State.{State}
 use Rattle.farm_machine.specs.Step.{farm_rules}
 use Rattle.farm_machine.specs.declared.reply.Reply.{Reply}
 use Rattle.farm_machine.specs.declared.reply.Reply.TheVariants.{OutOfMemory}
+use Rattle.farm_core.specs.Diskless.{HasNoDisk}
 use Rattle.farm_server.specs.Served.{Ask, messages_of, questions_of, AreRouted, reply_texts, EndsAs}
 use Rattle.farm_server.specs.declared.served.Served.TheVariants.{Closed, Full}
 use Rattle.farm_server.specs.declared.served.TheConstants.{REQUESTS}
@@ -17,7 +18,7 @@ abbrev pub AreAtMidnight : List Ask → Type 0
 AreAtMidnight [] = Unit {0}
 AreAtMidnight (ask ∷ asks) = (ask.moment ≡ midnight) × (ask.id ≡ first_uuid) × AreAtMidnight asks
 
--- The questions were asked in turn, each in the state that those before it leave, and answered so, none for want of memory. This leads from the
+-- The questions were asked in turn, each in the state that those before it leave, and answered so, none for want of memory or of a disk. This leads from the
 -- first state to the last.
 abbrev pub AreAnswered : State → List Asking → List Reply → State → Type 0
 AreAnswered before [] [] after = after ≡ before
@@ -26,7 +27,7 @@ AreAnswered before (question ∷ questions) [] after = ⊥
 AreAnswered before (question ∷ questions) (reply ∷ replies) after =
     (ticked : Bool) × (call : Entry) × (between : State)
     × IsAsk farm_rules before question (record { reply = reply; ticked = ticked }) call between
-    × (reply ≢ OutOfMemory) × AreAnswered between questions replies after
+    × HasNoDisk call × (reply ≢ OutOfMemory) × AreAnswered between questions replies after
 
 -- These bytes were sent over a connection to a farm in the first state: all messages that they make, at most a thousand, were asked, this was written, and
 -- the farm is in the last state.

@@ -121,6 +121,7 @@ answers_all {C} views old new config status console bytes messages ending ran re
         replies = ran.replies;
         all = done.all;
         history = ran.history;
+        no_disk = ran.no_disk;
         written = subst (λ (x : C). Appends (views.console_written x) (views.console_written ran.console_back) (reply_texts REQUESTS ran.asks ran.replies ++ own_text ending)) given done.written;
       })
     ]

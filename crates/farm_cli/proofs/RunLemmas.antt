@@ -15,6 +15,7 @@ use Rattle.farm_machine.specs.Law.{Opening, opened}
 use Rattle.farm_machine.specs.State.{State}
 use Rattle.farm_machine.specs.Step.{farm_rules}
 use Rattle.farm_machine.specs.declared.reply.Reply.{Reply}
+use Rattle.farm_core.specs.Diskless.{HaveNoDisk}
 use Rattle.farm_server.specs.Served.{Ask, questions_of}
 use Rattle.farm_cli.specs.House.{CanGive, after_giving, after_return, WasLent, after_opened, after_closing, CanOpenAmong, Lendings}
 use Rattle.farm_cli.specs.Run.{LeavesConsole, UsedConsole, Obeyed, RanOverFile, RanLoad, RanSigning, RanCommand, Ran}
@@ -45,21 +46,34 @@ WereLent-from_calls l0 l1 l2 l3 l4 l5 l6 console console' clock clock' draws dra
   draws_lent = record { could = rw (e2, e1) at g3; returned = rw (e6, e5, e4, e3, e2, e1) refl };
 }
 
--- the asks of one that stood for nothing, and stands only for what leads alone to a state, are a history of its own
-pub IsHistoryOf-from_turns : (start state : State) (old new : Opening → List Entry → List ℕ → Type 0) (asks : List Ask) (replies : List Reply)
-    → old (record { state = start }) [] []
+-- the opening of a farm that begins in a state, on no disk
+abbrev pub begun : State → Opening
+begun state = record { state = state; records = []; faults = 0 }
+
+-- a history of its own, in which no disk had a part
+pub record IsOwnHistory (start : State) (asks : List Ask) (replies : List Reply) : Type 0 where
+  pub history : IsHistoryOf start asks replies
+  pub no_disk : HaveNoDisk history.history
+
+-- the asks of one that stood for nothing, and stands only for what leads alone to a state without a disk, are such a history
+pub IsOwnHistory-from_turns : (start state : State) (old new : Opening → List Entry → List ℕ → Type 0) (asks : List Ask) (replies : List Reply)
+    → old (begun start) [] []
     → AsksInTurn farm_rules opened old new (questions_of asks) replies
-    → ((seen : List Entry) (mine : List ℕ) → new (record { state = start }) seen mine → LeadsAlone farm_rules start seen mine state)
-    → IsHistoryOf start asks replies
-IsHistoryOf-from_turns start state old new asks replies fresh turns alone =
-    let gains = turns (record { state = start }) [] [] fresh in
-    let leads = alone gains.since gains.gained gains.stands_now in
+    → ((seen : List Entry) (mine : List ℕ) → new (begun start) seen mine → LeadsAlone farm_rules start seen mine state × HaveNoDisk seen)
+    → IsOwnHistory start asks replies
+IsOwnHistory-from_turns start state old new asks replies fresh turns alone =
+    let gains = turns (begun start) [] [] fresh in
+    let both = alone gains.since gains.gained gains.stands_now in
+    let leads = both.0 in
     record {
-      history = gains.since;
-      legal = leads.legal;
-      made = leads.made;
-      asked = rw (← leads.all) gains.asked;
-      replied = rw (← leads.all) gains.replied;
+      history = record {
+        history = gains.since;
+        legal = leads.legal;
+        made = leads.made;
+        asked = rw (← leads.all) gains.asked;
+        replied = rw (← leads.all) gains.replied;
+      };
+      no_disk = both.1;
     }
 
 -- ---- what was done with the console is said of any lendings that tell the same of it
@@ -81,6 +95,7 @@ Conversed-same views old old' new new' config status before after h = record {
   served = h.served;
   spoke = h.spoke;
   history = h.history;
+  no_disk = h.no_disk;
   status_is = h.status_is;
 }
 

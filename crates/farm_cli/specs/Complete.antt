@@ -16,6 +16,7 @@ use Rattle.farm_machine.specs.declared.config.Config.{Config}
 use Rattle.farm_machine.specs.declared.reply.Reply.{Reply}
 use Rattle.farm_machine.specs.State.{empty_state}
 use Rattle.api_routes.specs.ReplyText.{wire_text}
+use Rattle.farm_core.specs.Diskless.{HaveNoDisk}
 use Rattle.farm_server.specs.Served.{Ask, messages_of, reply_texts}
 use Rattle.farm_server.specs.declared.served.TheConstants.{REQUESTS}
 use Rattle.farm_cli.specs.declared.lending.Lending.TheVariants.{Ready, Back}
@@ -74,6 +75,7 @@ pub record AnswersAll {F C N T I : Type 0} (views : Views F C N T I) (new : Lend
   pub replies : List Reply
   pub all : messages_of asks ≡ messages
   pub history : IsHistoryOf (empty_state config) asks replies
+  pub no_disk : HaveNoDisk history.history
   pub written : Appends (views.console_written console) (views.console_written console') (reply_texts REQUESTS asks replies ++ own_text ending)
 
 -- the console came back, this text was written there, and the run is done

@@ -8,6 +8,7 @@ use Rattle.farm_machine.specs.Entry.{Asking, Entry}
 use Rattle.farm_machine.specs.State.{State, empty_state}
 use Rattle.farm_machine.specs.Step.{farm_rules}
 use Rattle.farm_machine.specs.declared.reply.Reply.{Reply}
+use Rattle.farm_core.specs.Diskless.{HaveNoDisk}
 use Rattle.farm_server.specs.Served.{Ask, questions_of, Spoke}
 use Rattle.farm_server.specs.declared.served.Served.{Served}
 use Rattle.farm_server.specs.declared.served.Served.TheVariants as served
@@ -34,7 +35,7 @@ status_of served.ReadFault = Read
 status_of served.WriteFault = Write
 status_of served.NoMemory = NoMemory
 
--- The console was served over a farm that was set up so, and began without tasks.
+-- The console was served over a farm that was set up so, and began without tasks, and in no call of which a disk had a part.
 pub record Conversed {F C N T I : Type 0} (views : Views F C N T I) (old new : Lendings F C N T I) (config : Config) (status : Status) : Type 0 where
   pub console_given : C
   pub console_back : C
@@ -50,4 +51,5 @@ pub record Conversed {F C N T I : Type 0} (views : Views F C N T I) (old new : L
   pub served : Served
   pub spoke : Spoke (outside_of views console_given clock_given draws_given) (outside_of views console_back clock_back draws_back) asks replies served
   pub history : IsHistoryOf (empty_state config) asks replies
+  pub no_disk : HaveNoDisk history.history
   pub status_is : status ≡ status_of served

@@ -8,8 +8,8 @@ use Rattle.farm_machine.specs.Changes.{moment_of}
 use Rattle.farm_rows.specs.Due.{is_due, advance}
 use Rattle.farm_machine.specs.Entry.{Asking, Outcome, call}
 use Rattle.farm_rows.specs.Contents.{Contents}
-use Rattle.farm_machine.specs.State.{working}
-use Rattle.farm_machine.specs.Step.{MayBecome, after_call, reply_to, farm_rules}
+use Rattle.farm_machine.specs.State.{State, working}
+use Rattle.farm_machine.specs.Step.{MayTick, MayBecome, after_call, reply_to, farm_rules}
 use Rattle.farm_rows.proofs.AdvanceLemmas.{advance-none}
 use Rattle.farm_core.specs.Bare.{IsResolved, IsPerformed}
 
@@ -27,10 +27,10 @@ IsResolved-nothing_due old moment true new asking resolved at =
     subst (λ (b : Contents). is_due b (moment_of b asking) ≡ false) (sym resolved.leads) (rw (advance-moment old moment asking at) (advance-none old moment))
 
 -- no tick came
-ask_alone : (config : Config) (old new : Contents) (asking : Asking) (outcome : Outcome) (reply : Reply) → asking.moment ≤ LAST_TOLD_MOMENT → is_due old (moment_of old asking) ≡ false → MayBecome (working config old) asking outcome → working config new ≡ after_call (working config old) asking outcome → reply ≡ reply_to outcome → IsAsk farm_rules (working config old) asking (record { reply = reply; ticked = false }) (call asking outcome) (working config new)
+pub ask-alone : (config : Config) (old : Contents) (now : State) (asking : Asking) (outcome : Outcome) (reply : Reply) → MayBecome (working config old) asking outcome → now ≡ after_call (working config old) asking outcome → reply ≡ reply_to outcome → IsAsk farm_rules (working config old) asking (record { reply = reply; ticked = false }) (call asking outcome) now
 unfolding farm_rules
-ask_alone config old new asking outcome reply told none became leads tells = record {
-  legal = (record { at_work = refl; told = told; nothing_due = none; became = became }, tt);
+ask-alone config old now asking outcome reply became leads tells = record {
+  legal = (became, tt);
   leads = leads;
   quiet = λ place. refl;
   asked = refl;
@@ -38,25 +38,28 @@ ask_alone config old new asking outcome reply told none became leads tells = rec
 }
 
 -- a tick came first
-ask_after_tick : (config : Config) (old new : Contents) (asking : Asking) (outcome : Outcome) (reply : Reply) → asking.moment ≤ LAST_TOLD_MOMENT → moment_of old asking ≤ LAST_TOLD_MOMENT → is_due old (moment_of old asking) ≡ true → is_due (advance old (moment_of old asking)) (moment_of (advance old (moment_of old asking)) asking) ≡ false → MayBecome (working config (advance old (moment_of old asking))) asking outcome → working config new ≡ after_call (working config (advance old (moment_of old asking))) asking outcome → reply ≡ reply_to outcome → IsAsk farm_rules (working config old) asking (record { reply = reply; ticked = true }) (call asking outcome) (working config new)
+pub ask-after_tick : (config : Config) (old : Contents) (now : State) (asking : Asking) (outcome : Outcome) (reply : Reply) → MayTick (working config old) (moment_of old asking) → MayBecome (working config (advance old (moment_of old asking))) asking outcome → now ≡ after_call (working config (advance old (moment_of old asking))) asking outcome → reply ≡ reply_to outcome → IsAsk farm_rules (working config old) asking (record { reply = reply; ticked = true }) (call asking outcome) now
 unfolding farm_rules
-ask_after_tick config old new asking outcome reply told within due none became leads tells = record {
-  legal = (record { at_work = refl; not_before = omega arith; told = within; due = due }, (record { at_work = refl; told = told; nothing_due = none; became = became }, tt));
+ask-after_tick config old now asking outcome reply ticks became leads tells = record {
+  legal = (ticks, (became, tt));
   leads = leads;
   quiet = λ place. refl;
   asked = refl;
   reply = ap Some (sym tells);
 }
 
+-- a tick may come at the moment of a call, where something is due at it
+pub may-tick : (config : Config) (old : Contents) (asking : Asking) → moment_of old asking ≤ LAST_TOLD_MOMENT → is_due old (moment_of old asking) ≡ true → MayTick (working config old) (moment_of old asking)
+may-tick config old asking within due = record { at_work = refl; not_before = omega arith; told = within; due = due }
+
 -- what was due goes, and the call is performed
-pub IsAsk-from_parts : (config : Config) (old between new : Contents) (asking : Asking) (moment : ℕ) (ticked : Bool) (reply : Reply) → asking.moment ≤ LAST_TOLD_MOMENT → moment ≤ LAST_TOLD_MOMENT → moment ≡ moment_of old asking → IsResolved old moment ticked between → (performed : IsPerformed config between asking reply new) → IsAsk farm_rules (working config old) asking (record { reply = reply; ticked = ticked }) (call asking performed.outcome) (working config new)
-IsAsk-from_parts config old between new asking moment false reply told within at resolved performed =
+pub IsAsk-from_parts : (config : Config) (old between new : Contents) (asking : Asking) (moment : ℕ) (ticked : Bool) (reply : Reply) → moment ≤ LAST_TOLD_MOMENT → moment ≡ moment_of old asking → IsResolved old moment ticked between → (performed : IsPerformed config between asking reply new) → IsAsk farm_rules (working config old) asking (record { reply = reply; ticked = ticked }) (call asking performed.outcome) (working config new)
+IsAsk-from_parts config old between new asking moment false reply within at resolved performed =
     let became = subst (λ (b : Contents). MayBecome (working config b) asking performed.outcome) resolved.leads performed.became in
     let leads = subst (λ (b : Contents). working config new ≡ after_call (working config b) asking performed.outcome) resolved.leads performed.leads in
-    ask_alone config old new asking performed.outcome reply told (rw (← at, ← resolved.tells) refl) became leads performed.told
-IsAsk-from_parts config old between new asking moment true reply told within at resolved performed =
+    ask-alone config old (working config new) asking performed.outcome reply became leads performed.told
+IsAsk-from_parts config old between new asking moment true reply within at resolved performed =
     let goes : between ≡ advance old (moment_of old asking) = rw (← at) resolved.leads in
-    let none = subst (λ (b : Contents). is_due b (moment_of b asking) ≡ false) goes (IsResolved-nothing_due old moment true between asking resolved at) in
     let became = subst (λ (b : Contents). MayBecome (working config b) asking performed.outcome) goes performed.became in
     let leads = subst (λ (b : Contents). working config new ≡ after_call (working config b) asking performed.outcome) goes performed.leads in
-    ask_after_tick config old new asking performed.outcome reply told (rw (← at) within) (rw (← at, ← resolved.tells) refl) none became leads performed.told
+    ask-after_tick config old (working config new) asking performed.outcome reply (may-tick config old asking (rw (← at) within) (rw (← at, ← resolved.tells) refl)) became leads performed.told

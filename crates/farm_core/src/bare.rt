@@ -6,6 +6,7 @@ ghost use Rattle.farm_rows.specs.Due.{is_due};
 ghost use Rattle.farm_rows.specs.Summary.{summary_of};
 ghost use Rattle.farm_machine.specs.State.{working, empty_state};
 ghost use Rattle.farm_core.specs.Bare.{IsResolved, IsPerformed};
+ghost use Rattle.farm_core.specs.Diskless.{HaveNoDisk};
 
 use farm_desk::Object;
 use farm_machine::config::Config;
@@ -19,7 +20,7 @@ use farm_text::Moment;
 use std::alloc::Global;
 use std::marker::Model;
 
-/// A farm that keeps all in memory. A contract sees it as its state.
+/// A farm that keeps all in memory. A contract sees it as its state. No reply of it tells of a disk.
 #[derive(Drop)]
 pub struct Bare {
     alloc: Global,
@@ -67,6 +68,8 @@ impl Object for Bare {
     type Law = Farm;
 
     ghost state = { λ bare. bare };
+
+    ghost holds = { λ bare opening seen. HaveNoDisk seen };
 
     fn ask(&mut self, question: Question) -> Asked {
         let moment = moment_of(&self.tables, &question);

@@ -38,7 +38,7 @@ use Rattle.farm_machine.specs.Calls.ClaimWork.{taking}
 use Rattle.farm_machine.specs.Case.{Setting}
 use Rattle.farm_machine.specs.Changes.{changed, moment_of}
 use Rattle.farm_machine.specs.Config.{claim_millis}
-use Rattle.farm_machine.specs.Entry.{Asking, Entry, tick, call, finished, out_of_memory}
+use Rattle.farm_machine.specs.Entry.{Asking, Entry, tick, call, finished, out_of_memory, disk_failed, was_halted}
 use Rattle.farm_machine.specs.Judgement.{Judgement}
 use Rattle.farm_machine.specs.Laws.{creation_of, creation_of_kind}
 use Rattle.farm_machine.specs.Order.{case_of}
@@ -349,7 +349,9 @@ changed-own state asking judgement own verdict = by judgement.change refl where
 entry-own : (state : State) (entry : Entry) → HaveOwnIds state.contents.rows → lawful state entry → HaveOwnIds (after state entry).contents.rows
 entry-own state (tick moment) own may = advance-ids state.contents moment own
 entry-own state (call asking out_of_memory) own may = own
-entry-own state (call asking (finished judgement)) own may = changed-own state asking judgement own may.became
+entry-own state (call asking disk_failed) own may = own
+entry-own state (call asking was_halted) own may = own
+entry-own state (call asking (finished judgement)) own may = changed-own state asking judgement own may.became.verdict
 
 -- ---- histories
 
@@ -359,7 +361,9 @@ entry-claims name state (tick moment) own may =
     claim-stays name state.contents.rows (after state (tick moment)).contents.rows (entry-stays state (tick moment)) in
     omega arith
 entry-claims name state (call asking out_of_memory) own may = omega arith
-entry-claims name state (call asking (finished judgement)) own may = verdict-claims name state asking judgement own may.became
+entry-claims name state (call asking disk_failed) own may = omega arith
+entry-claims name state (call asking was_halted) own may = omega arith
+entry-claims name state (call asking (finished judgement)) own may = verdict-claims name state asking judgement own may.became.verdict
 
 claimed-few : (name : RunName) (state : State) (history : List Entry) → HaveOwnIds state.contents.rows → IsLegal farm_rules state history → sum_by (claims_in name) history + one_if (has_claim name state.contents.rows) ≤ 1
 unfolding farm_rules

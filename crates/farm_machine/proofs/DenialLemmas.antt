@@ -156,4 +156,4 @@ denies-exactly opening before later asking judgement scopes policy is asked has 
     let at = setting_behind opening before asking in
     let may = entry-may opening before later (call asking (finished judgement)) is.legal in
     let access : HasAccess at.state.config at.moment asking.caller (Has scopes) = rw (entries-config opening before) has in
-    form-exactly at asking.caller (form_of asking.call) scopes policy judgement (call-other at asking.call) asked access may.became
+    form-exactly at asking.caller (form_of asking.call) scopes policy judgement (call-other at asking.call) asked access may.became.verdict

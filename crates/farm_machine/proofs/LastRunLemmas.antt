@@ -29,7 +29,7 @@ use Rattle.farm_rows.specs.Ready.{is_ready, started, settled}
 use Rattle.farm_rows.proofs.DueLemmas.{loses}
 use Rattle.farm_rows.proofs.IdLemmas.{after-holds}
 use Rattle.farm_machine.specs.Changes.{changed, moment_of}
-use Rattle.farm_machine.specs.Entry.{Entry, tick, call, finished as Finished, out_of_memory}
+use Rattle.farm_machine.specs.Entry.{Entry, tick, call, finished as Finished, out_of_memory, disk_failed, was_halted}
 use Rattle.farm_machine.specs.State.{State}
 use Rattle.farm_machine.specs.Step.{after, farm_rules}
 
@@ -281,6 +281,8 @@ changed-sound contents moment (Some change) all = applied-sound contents change 
 pub entry-sound : (state : State) (entry : Entry) → are_sound state.contents.rows ≡ true → are_sound (after state entry).contents.rows ≡ true
 entry-sound state (tick moment) all = advance-sound state.contents moment all
 entry-sound state (call asking out_of_memory) all = all
+entry-sound state (call asking disk_failed) all = all
+entry-sound state (call asking was_halted) all = all
 entry-sound state (call asking (Finished judgement)) all = changed-sound state.contents (moment_of state.contents asking) judgement.change all
 
 pub entries-sound : (state : State) (entries : List Entry) → are_sound state.contents.rows ≡ true → are_sound (end_state farm_rules state entries).contents.rows ≡ true

@@ -21,3 +21,6 @@ mod LastRunLemmas
 mod DeedLemmas
 mod InTimeLemmas
 mod ClaimLawLemmas
+pub mod BehindLemmas
+pub mod ReplayLemmas
+pub mod WrittenLemmas

@@ -24,7 +24,7 @@ use Rattle.farm_machine.specs.Access.{Has, HasAccess}
 use Rattle.farm_machine.specs.Calls.CreateTask.{standing, create_task}
 use Rattle.farm_machine.specs.Case.{Rule, IsFirstRule}
 use Rattle.farm_machine.specs.Changes.{changed, moment_of}
-use Rattle.farm_machine.specs.Entry.{Asking, Entry, tick, call, finished, out_of_memory}
+use Rattle.farm_machine.specs.Entry.{Asking, Entry, tick, call, finished, out_of_memory, disk_failed, was_halted}
 use Rattle.farm_machine.specs.Judgement.{Judgement, only_answer}
 use Rattle.farm_machine.specs.Laws.{Finished, setting_behind, created_by, has_id, creations}
 use Rattle.farm_machine.specs.Order.{IsFirst, in_order}
@@ -44,6 +44,8 @@ changed-stays contents moment (Some change) = applied-stays contents change
 pub entry-stays : (state : State) (entry : Entry) → RowsLater state.contents.rows (after state entry).contents.rows
 entry-stays state (tick moment) = advance-stays state.contents moment
 entry-stays state (call asking out_of_memory) = RowsLater-refl state.contents.rows
+entry-stays state (call asking disk_failed) = RowsLater-refl state.contents.rows
+entry-stays state (call asking was_halted) = RowsLater-refl state.contents.rows
 entry-stays state (call asking (finished judgement)) = changed-stays state.contents (moment_of state.contents asking) judgement.change
 
 pub entries-stay : (state : State) (entries : List Entry) → RowsLater state.contents.rows (end_state farm_rules state entries).contents.rows
@@ -54,6 +56,8 @@ entries-stay state (entry ∷ rest) = RowsLater-trans _ _ _ (entry-stays state e
 entry-config : (state : State) (entry : Entry) → (after state entry).config ≡ state.config
 entry-config state (tick moment) = refl
 entry-config state (call asking out_of_memory) = refl
+entry-config state (call asking disk_failed) = refl
+entry-config state (call asking was_halted) = refl
 entry-config state (call asking (finished judgement)) = refl
 
 pub entries-config : (state : State) (entries : List Entry) → (end_state farm_rules state entries).config ≡ state.config
@@ -104,8 +108,10 @@ pub record Created (state : State) (entry : Entry) (creation : Creation) : Type 
 entry-creates : (state : State) (entry : Entry) (creation : Creation) → lawful state entry → created_by entry ≡ Some creation → Created state entry creation
 entry-creates state (tick moment) creation may is = cc
 entry-creates state (call asking out_of_memory) creation may is = cc
+entry-creates state (call asking disk_failed) creation may is = cc
+entry-creates state (call asking was_halted) creation may is = cc
 entry-creates state (call asking (finished judgement)) creation may is =
-    let creates = verdict-creates state asking judgement creation may.became is in
+    let creates = verdict-creates state asking judgement creation may.became.verdict is in
     record {
       asking = asking;
       judgement = judgement;
@@ -218,5 +224,5 @@ answers-again opening before between later first creation asking judgement scope
     let found = found-later creation.id (after state first).contents.rows now.contents.rows made.found.0 stays made.found.1 in
     let may = entry-may opening history later (call asking (finished judgement)) is.legal in
     let access : HasAccess now.config (setting_of now asking).moment asking.caller (Has scopes) = rw (entries-config opening history) has in
-    let answered = again-first now asking creation judgement scopes found.0 called access held found.1 (found.2 ∙ made.found.2) may.became in
+    let answered = again-first now asking creation judgement scopes found.0 called access held found.1 (found.2 ∙ made.found.2) may.became.verdict in
     (found.0, found.1, found.2 ∙ made.found.2, answered)

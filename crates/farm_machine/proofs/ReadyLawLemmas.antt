@@ -12,7 +12,7 @@ use Rattle.farm_rows.proofs.AdvanceLemmas.{advance-ready}
 use Rattle.farm_rows.proofs.ReadyLemmas.{settled-none}
 use Rattle.farm_rows.proofs.StartLemmas.{starts-kind, starts-settled, once-advance, once-applied}
 use Rattle.farm_machine.specs.Changes.{changed, moment_of}
-use Rattle.farm_machine.specs.Entry.{Entry, tick, call, finished, out_of_memory}
+use Rattle.farm_machine.specs.Entry.{Entry, tick, call, finished, out_of_memory, disk_failed, was_halted}
 use Rattle.farm_machine.specs.ReadyLaws.{made_ready}
 use Rattle.farm_machine.specs.State.{State}
 use Rattle.farm_machine.specs.Step.{after, farm_rules}
@@ -40,6 +40,8 @@ changed-none contents moment (Some change) none = applied-none contents change n
 entry-none : (state : State) (entry : Entry) → has_ready state.contents ≡ false → has_ready (after state entry).contents ≡ false
 entry-none state (tick moment) none = advance-ready state.contents moment none
 entry-none state (call asking out_of_memory) none = none
+entry-none state (call asking disk_failed) none = none
+entry-none state (call asking was_halted) none = none
 entry-none state (call asking (finished judgement)) none = changed-none state.contents (moment_of state.contents asking) judgement.change none
 
 pub entries-none : (state : State) (entries : List Entry) → has_ready state.contents ≡ false → has_ready (end_state farm_rules state entries).contents ≡ false
@@ -56,6 +58,8 @@ changed-once contents moment (Some change) once = once-applied contents change o
 entry-once : (state : State) (entry : Entry) → starts_once state.contents.rows ≡ true → starts_once (after state entry).contents.rows ≡ true
 entry-once state (tick moment) once = once-advance state.contents moment once
 entry-once state (call asking out_of_memory) once = once
+entry-once state (call asking disk_failed) once = once
+entry-once state (call asking was_halted) once = once
 entry-once state (call asking (finished judgement)) once = changed-once state.contents (moment_of state.contents asking) judgement.change once
 
 pub entries-once : (state : State) (entries : List Entry) → starts_once state.contents.rows ≡ true → starts_once (end_state farm_rules state entries).contents.rows ≡ true

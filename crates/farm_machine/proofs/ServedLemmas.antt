@@ -23,7 +23,7 @@ use Rattle.farm_rows.specs.Ready.{id_serves, is_ready, started, settled}
 use Rattle.farm_rows.proofs.IdLemmas.{after-holds}
 use Rattle.farm_machine.specs.declared.config.Config.{Config}
 use Rattle.farm_machine.specs.Changes.{changed, moment_of}
-use Rattle.farm_machine.specs.Entry.{Entry, tick, call, finished, out_of_memory}
+use Rattle.farm_machine.specs.Entry.{Entry, tick, call, finished, out_of_memory, disk_failed, was_halted}
 use Rattle.farm_machine.specs.State.{State, empty_state}
 use Rattle.farm_machine.specs.Step.{after, farm_rules}
 use Rattle.farm_machine.proofs.LastRunLemmas.{is_sound, are_sound, runs-at, open-last, claimed-sound, change-sound, first-sound, entry-sound, entries-sound}
@@ -181,6 +181,8 @@ changed-kept contents moment (Some change) all = applied-kept contents change al
 entry-kept : (state : State) (entry : Entry) → are_sound state.contents.rows ≡ true → AreKept state.contents.rows (after state entry).contents.rows
 entry-kept state (tick moment) all = advance-kept state.contents moment all
 entry-kept state (call asking out_of_memory) all = all-same state.contents.rows
+entry-kept state (call asking disk_failed) all = all-same state.contents.rows
+entry-kept state (call asking was_halted) all = all-same state.contents.rows
 entry-kept state (call asking (finished judgement)) all = changed-kept state.contents (moment_of state.contents asking) judgement.change all
 
 entries-kept : (state : State) (entries : List Entry) → are_sound state.contents.rows ≡ true → AreKept state.contents.rows (end_state farm_rules state entries).contents.rows

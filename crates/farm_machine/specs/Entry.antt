@@ -11,10 +11,12 @@ pub record Asking : Type 0 where
   pub caller : Caller
   pub call : Call
 
--- what became of a call: it was judged so, or memory ran out
+-- what became of a call: it was judged so, memory ran out, a call of the disk failed in it, or one had failed before it
 pub data Outcome : Type 0 where
   finished : (judgement : Judgement) → Outcome
   out_of_memory : Outcome
+  disk_failed : Outcome
+  was_halted : Outcome
 
 -- an entry of a history: a tick at a moment, or a call
 pub data Entry : Type 0 where

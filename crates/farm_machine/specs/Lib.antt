@@ -16,6 +16,8 @@ pub mod Pages
 pub mod Planned
 pub mod ReadyLaws
 pub mod Refused
+pub mod Replay
+pub mod Replayed
 pub mod Replies
 pub mod RunLaws
 pub mod Shown
@@ -25,3 +27,4 @@ pub mod Tellings
 pub mod Told
 pub mod Verdict
 pub mod Works
+pub mod Written

@@ -12,7 +12,7 @@ use Rattle.farm_machine.specs.declared.question.BodyFault.{BodyFault}
 use Rattle.farm_machine.specs.declared.question.BodyFault.TheVariants.{NotJson, NotWhole, NoDefinition, NoWork, NoReason}
 use Rattle.farm_machine.specs.declared.reply.Answer.{Answer}
 use Rattle.farm_machine.specs.declared.reply.Reply.{Reply}
-use Rattle.farm_machine.specs.declared.reply.Reply.TheVariants.{Answered, OutOfMemory}
+use Rattle.farm_machine.specs.declared.reply.Reply.TheVariants.{Answered, OutOfMemory, DiskFault, Halted}
 
 -- the text of an object of these members
 abbrev pub object_text : List (List ℕ × Document) → List ℕ
@@ -142,7 +142,17 @@ insufficient_scopes missing =
 abbrev pub no_memory : Answer
 no_memory = record { status = 503; body = error_text (codes "OutOfMemory") no_members (codes "no memory") }
 
+-- a call of the disk failed
+abbrev pub disk_fault : Answer
+disk_fault = record { status = 500; body = error_text (codes "DiskFault") no_members (codes "the disk failed") }
+
+-- one failed earlier
+abbrev pub halted_earlier : Answer
+halted_earlier = record { status = 500; body = error_text (codes "Halted") no_members (codes "the disk failed earlier") }
+
 -- what a reply tells
 abbrev pub answer_of : Reply → Answer
 answer_of (Answered answer) = answer
 answer_of OutOfMemory = no_memory
+answer_of DiskFault = disk_fault
+answer_of Halted = halted_earlier

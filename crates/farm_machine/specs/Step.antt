@@ -1,13 +1,17 @@
 -- One step of a farm: which entries may come, the state after one, and its reply.
-use Rattle.std.specs.Prelude.{◌≡◌, ℕ, ◌≤◌, List, [], ◌∷◌, true, false, Option, Some, None, if◌then◌else◌}
+use Rattle.std.specs.Prelude.{◌≡◌, ◌⊎◌, ℕ, ◌≤◌, List, [], ◌∷◌, true, false, Option, Some, None, IfSome, if◌then◌else◌}
 use Rattle.history.specs.Rules.{Rules}
+use Rattle.farm_record.specs.declared.change.Change.{Change}
+use Rattle.farm_record.specs.Records.{tick_at}
 use Rattle.farm_text.specs.declared.moment.TheConstants.{LAST_TOLD_MOMENT}
 use Rattle.farm_machine.specs.declared.reply.Asked.{Asked}
 use Rattle.farm_machine.specs.declared.reply.Reply.{Reply}
-use Rattle.farm_machine.specs.declared.reply.Reply.TheVariants.{Answered, OutOfMemory}
+use Rattle.farm_machine.specs.declared.reply.Reply.TheVariants.{Answered, OutOfMemory, DiskFault, Halted}
+use Rattle.farm_rows.specs.Changes.{may_apply}
 use Rattle.farm_rows.specs.Due.{is_due, advance}
 use Rattle.farm_machine.specs.Changes.{moment_of, reached, changed}
-use Rattle.farm_machine.specs.Entry.{Asking, Outcome, finished, out_of_memory, Entry, tick, call}
+use Rattle.farm_machine.specs.Entry.{Asking, Outcome, finished, out_of_memory, disk_failed, was_halted, Entry, tick, call}
+use Rattle.farm_machine.specs.Judgement.{Judgement}
 use Rattle.farm_machine.specs.State.{State}
 use Rattle.farm_machine.specs.Verdict.{IsVerdict}
 
@@ -18,22 +22,36 @@ pub record MayTick (state : State) (moment : ℕ) : Type 0 where
   pub told : moment ≤ LAST_TOLD_MOMENT
   pub due : is_due state.contents moment ≡ true
 
--- a call may become this: a finished one has its verdict, and memory may run out at any
-abbrev pub MayBecome : State → Asking → Outcome → Type 0
-MayBecome state asking (finished judgement) = IsVerdict state asking judgement
-MayBecome state asking out_of_memory = Unit {0}
-
--- a call comes where nothing is due at its moment, and becomes what it may
-pub record MayCall (state : State) (asking : Asking) (outcome : Outcome) : Type 0 where
+-- a call at work comes where nothing is due at its moment, and becomes what it may
+pub record MayCall (state : State) (asking : Asking) (Became : Type 0) : Type 0 where
   pub at_work : state.halted ≡ false
   pub told : asking.moment ≤ LAST_TOLD_MOMENT
   pub nothing_due : is_due state.contents (moment_of state.contents asking) ≡ false
-  pub became : MayBecome state asking outcome
+  pub became : Became
+
+-- a finished call has its verdict, whose change may be made
+pub record MayFinish (state : State) (asking : Asking) (judgement : Judgement) : Type 0 where
+  pub verdict : IsVerdict state asking judgement
+  pub applies : IfSome judgement.change (λ change. may_apply state.contents change ≡ true)
+
+-- what a call is about to keep on the disk: the tick before it, or the change that it would finish with
+abbrev pub IsToKeep : State → Asking → Change → Type 0
+IsToKeep state asking change =
+    (MayTick state (moment_of state.contents asking) × (change ≡ tick_at (moment_of state.contents asking)))
+    ⊎ ((judgement : Judgement) × MayCall state asking (MayFinish state asking judgement) × (judgement.change ≡ Some change))
+
+-- Which calls may come, by what they became: memory may run out in any; the disk fails only where something is to be kept; and
+-- after that each call finds the farm halted, and no other does.
+abbrev pub MayBecome : State → Asking → Outcome → Type 0
+MayBecome state asking (finished judgement) = MayCall state asking (MayFinish state asking judgement)
+MayBecome state asking out_of_memory = MayCall state asking (Unit {0})
+MayBecome state asking disk_failed = (change : Change) × IsToKeep state asking change
+MayBecome state asking was_halted = state.halted ≡ true
 
 -- the entry may come in this state
 abbrev pub lawful : State → Entry → Type 0
 lawful state (tick moment) = MayTick state moment
-lawful state (call asking outcome) = MayCall state asking outcome
+lawful state (call asking outcome) = MayBecome state asking outcome
 
 -- the state after a call that became this
 abbrev pub after_call : State → Asking → Outcome → State
@@ -41,6 +59,8 @@ after_call state asking (finished judgement) =
     record state { contents = changed state.contents (moment_of state.contents asking) judgement.change }
 after_call state asking out_of_memory =
     record state { contents = reached state.contents (moment_of state.contents asking) }
+after_call state asking disk_failed = record state { halted = true }
+after_call state asking was_halted = state
 
 -- the state after an entry
 abbrev pub after : State → Entry → State
@@ -51,6 +71,8 @@ after state (call asking outcome) = after_call state asking outcome
 abbrev pub reply_to : Outcome → Reply
 reply_to (finished judgement) = Answered judgement.answer
 reply_to out_of_memory = OutOfMemory
+reply_to disk_failed = DiskFault
+reply_to was_halted = Halted
 
 -- the reply to an entry, where it is a call
 abbrev pub reply : State → Entry → Option Reply

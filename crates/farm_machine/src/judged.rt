@@ -1,5 +1,6 @@
-ghost use Rattle.std.specs.Prelude.{◌≡◌, Some, None};
+ghost use Rattle.std.specs.Prelude.{◌≡◌, Some, None, option_map};
 ghost use Rattle.farm_machine.specs.Judgement.{only_answer};
+ghost use Rattle.farm_machine.specs.Written.{AreWritten};
 
 use crate::reply::Answer;
 use farm_rows::TaskPlan;
@@ -9,6 +10,8 @@ use farm_rows::TaskPlan;
 pub(crate) struct Judged {
     pub(crate) answer: Answer,
     pub(crate) change: Option<TaskPlan>,
+    /// What is written of the change.
+    pub(crate) written: Option<Vec<u8>>,
 }
 
 impl Judged {
@@ -16,10 +19,12 @@ impl Judged {
     pub(crate) fn only(answer: Answer) -> Judged
         ensures answer { result.answer ≡ answer }
         ensures change { result.change ≡ None }
+        ensures written { AreWritten result.change (option_map (λ r. r.items) result.written) }
     {
         Judged {
             answer,
             change: None,
+            written: None,
         }
     }
 }

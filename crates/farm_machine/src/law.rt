@@ -8,6 +8,7 @@ ghost use Rattle.farm_machine.specs.State.{State};
 ghost use Rattle.farm_machine.specs.Judgement.{Judgement};
 ghost use Rattle.farm_machine.specs.Laws.{AccessIsExact, IsCreatedOnce, AnswersAgain};
 ghost use Rattle.farm_machine.specs.ReadyLaws.{LeavesNoneReady, IsScheduledOnce, StartsWhereReady, IsServedForGood};
+ghost use Rattle.farm_machine.specs.Replay.{RecordsRestore, KeptMayFollow, FrontsReplay};
 ghost use Rattle.farm_machine.specs.RunLaws.{IsClaimedOnce, EndsOnce, ReportsInTime};
 ghost use Rattle.farm_machine.specs.Step.{farm_rules};
 ghost use Rattle.farm_machine.specs.Verdict.{IsVerdict};
@@ -57,6 +58,7 @@ pub struct Openings {}
 impl Model for Openings {
     ghost use Rattle.std.specs.Coded.{codes};
     ghost use Rattle.task_defs.specs.Codes.{members_code};
+    ghost use Rattle.std.specs.Prelude.{[]};
     ghost use Rattle.farm_machine.specs.Law.{Opening};
     ghost use Rattle.farm_machine.specs.State.{empty_state, no_config};
 
@@ -64,7 +66,7 @@ impl Model for Openings {
 
     ghost coded = { Prim.hlevel (codes, members_code) };
 
-    ghost view = { λ _. record { state = empty_state no_config } };
+    ghost view = { λ _. record { state = empty_state no_config; records = []; faults = 0 } };
 }
 
 impl Machine for Farm {
@@ -151,4 +153,13 @@ pub fn a_task_is_scheduled_once()
 /// What a task serves those that wait for it, it serves whatever comes: a rerun of it takes nothing back.
 pub fn what_is_served_stays()
     ensures { IsServedForGood }
+{}
+
+/// The records that an opening was replayed from, and those of a legal history since, restore the history's end: its rows and its next
+/// number, with a last moment that is no greater. What a call there is about to keep may be replayed behind them; and so may a front of
+/// all these records alone.
+pub fn records_restore()
+    ensures restored { RecordsRestore }
+    ensures followed { KeptMayFollow }
+    ensures cut_short { FrontsReplay }
 {}

@@ -2,7 +2,7 @@
 //!
 //! A question is planned (`plan` takes all memory and leaves the tables as they were) and then applied (`apply` takes none).
 //! Each call has a file (`calls`), and `judge` asks its parts in the one order of refusals. What is due at a moment is resolved before,
-//! by `tick`.
+//! by `tick`. What a disk has the records of is made again by `replay`.
 #![tactic(auto)]
 
 mod access;
@@ -19,6 +19,7 @@ mod order;
 mod pages;
 pub mod plan;
 pub mod question;
+pub mod replay;
 pub mod reply;
 pub mod step;
 pub mod tables;

@@ -1,5 +1,5 @@
 //! The one order of refusals, for every call that asks something.
-ghost use Rattle.std.specs.Prelude.{◌≡◌, ◌&&◌, nat_le, min, length, true, Some, None, IfOk};
+ghost use Rattle.std.specs.Prelude.{◌≡◌, ◌&&◌, nat_le, min, length, true, Some, None, IfOk, option_map};
 ghost use Rattle.farm_text.specs.Document.{document_text};
 ghost use Rattle.farm_rows.specs.Changes.{may_apply};
 ghost use Rattle.farm_machine.specs.declared.question.Caller.{Caller};
@@ -11,6 +11,7 @@ ghost use Rattle.farm_machine.specs.Refused.{setting_at, IsRefusal, IsJudged, Is
 ghost use Rattle.farm_machine.specs.Replies.{ok, farm_full};
 ghost use Rattle.farm_machine.specs.Tellings.{told_by};
 ghost use Rattle.farm_machine.specs.Works.{at_moment};
+ghost use Rattle.farm_machine.specs.Written.{AreWritten, IsWritten};
 
 use crate::access::{Access, access_of};
 use crate::answers;
@@ -21,7 +22,7 @@ use crate::question::Caller;
 use crate::reply::Answer;
 use crate::tables::Tables;
 use crate::works::{Telling, telling_of, told};
-use farm_record::{Change, Kind};
+use farm_record::{Change, Kind, write_record};
 use farm_rows::TaskPlan;
 use farm_text::{Moment, SlugId};
 use run_states::TaskRow;
@@ -43,6 +44,7 @@ pub(crate) fn judge<C: Called + Drop>(
 ) -> Result<Judged, AllocError>
     requires { IsReady (setting_at config.now tables.old moment drawn) }
     ensures judged { IfOk result (IsJudged (setting_at config.now tables.old moment drawn) caller.now (asks (C.case call))) }
+    ensures written { IfOk result (λ judged. AreWritten judged.change (option_map (λ r. r.items) judged.written)) }
     ensures same { tables.new ≡ tables.old }
 {
     let at = Scene {
@@ -130,6 +132,7 @@ fn make(
     requires { full (setting_at config.now tables.old moment _drawn).state (changing moment kind).change ≡ None
         → may_apply tables.old (at_moment moment kind) ≡ true }
     ensures made { IfOk result (IsMade (setting_at config.now tables.old moment _drawn) kind) }
+    ensures written { IfOk result (λ judged. AreWritten judged.change (option_map (λ r. r.items) judged.written)) }
     ensures same { tables.new ≡ tables.old }
 {
     if is_full_for(config, tables, &kind) {
@@ -159,6 +162,7 @@ fn makes_task(kind: &Kind) -> bool
 fn refuse_full(alloc: Global, count: u32) -> Result<Judged, AllocError>
     ensures answer { IfOk result (λ judged. judged.answer ≡ farm_full count) }
     ensures change { IfOk result (λ judged. judged.change ≡ None) }
+    ensures written { IfOk result (λ judged. AreWritten judged.change (option_map (λ r. r.items) judged.written)) }
 {
     Ok(Judged::only(answers::farm_full(alloc, count)?))
 }
@@ -167,24 +171,34 @@ fn refuse_full(alloc: Global, count: u32) -> Result<Judged, AllocError>
 fn plan_change(alloc: Global, tables: &mut Tables, change: Change) -> Result<Judged, AllocError>
     requires { may_apply tables.old change ≡ true }
     ensures made { IfOk result (IsPlannedSo tables.old change) }
+    ensures written { IfOk result (λ judged. AreWritten judged.change (option_map (λ r. r.items) judged.written)) }
     ensures same { tables.new ≡ tables.old }
 {
     let telling = telling_of(&change.kind);
+    let text = write_record(alloc, &change)?;
     let Some(plan) = tables.plan(alloc, change)? else {
         unreachable!();
     };
-    tell(alloc, telling, plan)
+    tell(alloc, telling, plan, text)
 }
 
-/// The judgement of a planned change: what it leaves of the tasks that it names is told.
-fn tell(alloc: Global, telling: Telling, plan: TaskPlan) -> Result<Judged, AllocError>
+/// The judgement of a planned change that has this text: what it leaves of the tasks that it names is told.
+fn tell(
+    alloc: Global,
+    telling: Telling,
+    plan: TaskPlan,
+    text: Vec<u8>,
+) -> Result<Judged, AllocError>
+    requires { IsWritten plan.change text.items }
     ensures answer { IfOk result (λ judged. judged.answer ≡ ok (document_text (told_by telling plan.rows))) }
     ensures change { IfOk result (λ judged. judged.change ≡ Some plan) }
+    ensures written { IfOk result (λ judged. AreWritten judged.change (option_map (λ r. r.items) judged.written)) }
 {
     let answer = told_answer(alloc, telling, plan.rows())?;
     Ok(Judged {
         answer,
         change: Some(plan),
+        written: Some(text),
     })
 }
 

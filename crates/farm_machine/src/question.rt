@@ -1,5 +1,6 @@
 ghost use Rattle.std.specs.Prelude.{◌≡◌, ◌≤◌};
 ghost use Rattle.farm_text.specs.declared.moment.TheConstants.{LAST_TOLD_MOMENT};
+ghost use Rattle.farm_machine.specs.Written.{IsSaidCall};
 
 use farm_record::{Creation, Resolution, RunName};
 use farm_text::{Moment, SlugId, Text};
@@ -133,7 +134,7 @@ pub enum Call {
 
 /// One question to the farm: the moment that the clock told, the id that was drawn, who calls, and what.
 ///
-/// Its moment is at most the greatest that a clock tells.
+/// Its moment is at most the greatest that a clock tells, and some document says the definition of a task that it makes.
 #[derive(Debug, Drop)]
 pub struct Question {
     moment: Moment,
@@ -148,6 +149,7 @@ impl Model for Question {
     ghost use Rattle.std.specs.Prelude.{◌≤◌};
     ghost use Rattle.farm_text.specs.declared.moment.TheConstants.{LAST_TOLD_MOMENT};
     ghost use Rattle.farm_machine.specs.Entry.{Asking};
+    ghost use Rattle.farm_machine.specs.Written.{IsSaidCall};
 
     ghost Value = { Asking };
 
@@ -155,13 +157,14 @@ impl Model for Question {
 
     ghost view = { λ q. record { moment = q.moment; drawn = q.drawn; caller = q.caller; call = q.call } };
 
-    ghost invariant = { λ q. q.moment ≤ LAST_TOLD_MOMENT };
+    ghost invariant = { λ q. (q.moment ≤ LAST_TOLD_MOMENT) × IsSaidCall q.call };
 }
 
 impl Question {
     /// The question of a caller.
     pub fn new(moment: Moment, drawn: SlugId, caller: Caller, call: Call) -> Self
-        requires { moment ≤ LAST_TOLD_MOMENT }
+        requires told { moment ≤ LAST_TOLD_MOMENT }
+        requires said { IsSaidCall call }
         ensures { result ≡ record { moment = moment; drawn = drawn; caller = caller; call = call } }
     {
         Question {
@@ -191,6 +194,7 @@ impl Question {
     pub fn into_parts(self) -> (Caller, Call)
         ensures caller { result.0 ≡ self.caller }
         ensures call { result.1 ≡ self.call }
+        ensures said { IsSaidCall result.1 }
     {
         (self.caller, self.call)
     }

@@ -15,6 +15,10 @@ pub struct Answer {
 pub enum Reply {
     Answered(Answer),
     OutOfMemory,
+    /// A call of the disk failed: the farm has halted.
+    DiskFault,
+    /// A call of the disk failed earlier.
+    Halted,
 }
 
 /// The reply to a call, and whether a tick came before it.
@@ -27,6 +31,12 @@ pub struct Asked {
 /// The body of a reply for want of memory.
 const NO_MEMORY: &str = "{\"code\":\"OutOfMemory\",\"details\":{},\"message\":\"no memory\"}";
 
+/// The body of a reply where the disk failed.
+const DISK_FAULT: &str = "{\"code\":\"DiskFault\",\"details\":{},\"message\":\"the disk failed\"}";
+
+/// The body of a reply where the disk had failed.
+const HALTED: &str = "{\"code\":\"Halted\",\"details\":{},\"message\":\"the disk failed earlier\"}";
+
 impl Reply {
     ghost use Rattle.farm_machine.specs.Replies.{answer_of};
 
@@ -37,6 +47,7 @@ impl Reply {
         match self {
             Reply::Answered(answer) => answer.status,
             Reply::OutOfMemory => StatusCode::SERVICE_UNAVAILABLE,
+            Reply::DiskFault | Reply::Halted => StatusCode::INTERNAL_SERVER_ERROR,
         }
     }
 
@@ -47,6 +58,8 @@ impl Reply {
         match self {
             Reply::Answered(answer) => answer.body.as_str(),
             Reply::OutOfMemory => NO_MEMORY,
+            Reply::DiskFault => DISK_FAULT,
+            Reply::Halted => HALTED,
         }
     }
 }

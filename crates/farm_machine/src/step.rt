@@ -1,6 +1,6 @@
 //! A call in two steps: `plan` judges it and takes all its memory, `apply` makes its change and gives its reply.
 
-ghost use Rattle.std.specs.Prelude.{◌≡◌, ◌≤◌, false, None, IfOk};
+ghost use Rattle.std.specs.Prelude.{◌≡◌, ◌≤◌, false, None, IfOk, option_map};
 ghost use Rattle.farm_text.specs.declared.moment.TheConstants.{LAST_TOLD_MOMENT};
 ghost use Rattle.farm_rows.specs.Due.{is_due};
 ghost use Rattle.farm_machine.specs.Changes.{moment_of as moment_by, changed};
@@ -9,6 +9,7 @@ ghost use Rattle.farm_machine.specs.Planned.{IsPlanOf, IsPlanOn};
 ghost use Rattle.farm_machine.specs.Refused.{setting_at, IsJudged};
 ghost use Rattle.farm_machine.specs.Replies.{bad_body};
 ghost use Rattle.farm_machine.specs.Verdict.{form_of};
+ghost use Rattle.farm_machine.specs.Written.{AreWritten};
 
 use crate::answers;
 use crate::calls::cancel_task::CancelTask;
@@ -72,6 +73,7 @@ fn judgement_of(
 ) -> Result<Judged, AllocError>
     requires { IsReady (setting_at config.now tables.old moment drawn) }
     ensures judged { IfOk result (IsJudged (setting_at config.now tables.old moment drawn) caller.now (form_of call)) }
+    ensures written { IfOk result (λ judged. AreWritten judged.change (option_map (λ r. r.items) judged.written)) }
     ensures same { tables.new ≡ tables.old }
 {
     match call {
@@ -189,6 +191,7 @@ fn judgement_of(
 fn refused_body(alloc: Global, fault: BodyFault) -> Result<Judged, AllocError>
     ensures answer { IfOk result (λ judged. judged.answer ≡ bad_body fault) }
     ensures change { IfOk result (λ judged. judged.change ≡ None) }
+    ensures written { IfOk result (λ judged. AreWritten judged.change (option_map (λ r. r.items) judged.written)) }
 {
     Ok(Judged::only(answers::bad_body(alloc, &fault)?))
 }
@@ -199,10 +202,15 @@ pub fn apply(tables: &mut Tables, plan: Plan) -> Reply
     ensures applied { tables.new ≡ changed tables.old plan.moment plan.judgement.change }
     ensures reply { result ≡ Reply.Answered plan.judgement.answer }
 {
-    let Judged { answer, change } = plan.judged;
+    let Plan { moment, judged } = plan;
+    let Judged {
+        answer,
+        change,
+        written: _,
+    } = judged;
     match change {
         Some(tasks) => tables.make(tasks),
-        None => tables.reach(plan.moment),
+        None => tables.reach(moment),
     }
     Reply::Answered(answer)
 }

@@ -1,6 +1,7 @@
 //! One connection, message by message.
 ghost use Rattle.std.specs.Prelude.{◌≡◌, ◌-◌, ◌<◌, ◌≤◌};
 ghost use Rattle.std.specs.Io.KnownBytes.{prepend_known};
+ghost use Rattle.farm_machine.specs.Written.{IsSaidCall};
 ghost use Rattle.farm_server.specs.Served.{outside_of, Serves};
 ghost use Rattle.farm_server.specs.Turn.{telling_of, AsksOnce, Ends, Refuses, Turns};
 ghost use Rattle.farm_server.specs.declared.served.TheConstants.{REQUESTS};
@@ -8,7 +9,7 @@ ghost use Rattle.farm_server.specs.declared.served.TheConstants.{REQUESTS};
 use crate::gate::{Gate, When};
 use crate::served::{REQUESTS, Served};
 use crate::write::write_reply;
-use api_routes::{call_of, caller_of, own_reply};
+use api_routes::{a_called_task_is_said, call_of, caller_of, own_reply};
 use causes::Failed;
 use farm_desk::Desk;
 use farm_machine::law::Farm;
@@ -164,6 +165,7 @@ fn answer<
         Ok(call) => call,
         Err(_) => return Some(Served::NoMemory),
     };
+    a_called_task_is_said();
     let closes = message.closes;
     gate.at(When::Asked(place));
     let reply = ask(caller_of(message), call, desk, clock, draws);
@@ -187,6 +189,7 @@ fn ask<K: Desk<Question = Question, Answer = Asked, Law = Farm>, C: Clock, R: Dr
     draws: &mut R,
 ) -> Reply
     requires spare { 0 < K.spare desk.old }
+    requires said { IsSaidCall call }
     ensures home { K.home desk.new ≡ K.home desk.old }
     ensures once { AsksOnce
         (record { stands = K.stands desk.old; spare = K.spare desk.old })

@@ -1,4 +1,7 @@
 //! Questions that are asked of the machine itself, with replies worked out by hand.
+ghost use Rattle.std.specs.Prelude.{IfOk};
+ghost use Rattle.farm_machine.specs.Written.{IsSaidCall};
+
 use farm_machine::config::{Config, ConfigCounts};
 use farm_machine::grants::Grants;
 use farm_machine::question::{BodyFault, Call, Caller, Credentials, Parameter, Question};
@@ -69,19 +72,27 @@ const PLAIN: &[u8] =
     b"{\"created\":\"2024-01-01T00:00:00.000Z\",\"deadline\":\"2024-01-02T00:00:00.000Z\",\"metadata\":{\"description\":\"d\",\"name\":\"n\",\"owner\":\"o@example.com\",\"source\":\"https://example.com/\"},\"payload\":{},\"taskQueueId\":\"prov/wt\"}";
 
 /// The call that makes the first task.
-pub(crate) fn creation(alloc: Global, id: SlugId) -> Result<Call, Fail> {
+pub(crate) fn creation(alloc: Global, id: SlugId) -> Result<Call, Fail>
+    ensures { IfOk result IsSaidCall }
+{
     creation_of(alloc, PLAIN, id)
 }
 
 /// The call that makes a task of this definition.
-pub(crate) fn creation_of(alloc: Global, text: &[u8], id: SlugId) -> Result<Call, Fail> {
+pub(crate) fn creation_of(alloc: Global, text: &[u8], id: SlugId) -> Result<Call, Fail>
+    ensures { IfOk result IsSaidCall }
+{
     let doc = Doc::read(alloc, text).ok().ok_or("a document")?;
-    let definition = read_task(alloc, &doc, id).ok().ok_or("a definition")?;
-    Ok(Call::CreateTask(Creation { id, definition }))
+    match read_task(alloc, &doc, id) {
+        Ok(definition) => Ok(Call::CreateTask(Creation { id, definition })),
+        Err(_) => Err(Fail::from("a definition")),
+    }
 }
 
 /// The call of this word, about the first task; any other word is a target that has no route.
-fn call_of(alloc: Global, word: &str, id: SlugId) -> Result<Call, Fail> {
+fn call_of(alloc: Global, word: &str, id: SlugId) -> Result<Call, Fail>
+    ensures { IfOk result IsSaidCall }
+{
     match word {
         "ping" => Ok(Call::Ping),
         "status" => Ok(Call::Status(id)),
@@ -196,6 +207,18 @@ fn want_of_memory_is_told(rt: HostRuntime) {
     assert_eq!(rt;
         wanting.body(),
         r#"{"code":"OutOfMemory","details":{},"message":"no memory"}"#
+    );
+    let faulty = Reply::DiskFault;
+    assert_eq!(rt; faulty.status().as_u16(), 500);
+    assert_eq!(rt;
+        faulty.body(),
+        r#"{"code":"DiskFault","details":{},"message":"the disk failed"}"#
+    );
+    let halted = Reply::Halted;
+    assert_eq!(rt; halted.status().as_u16(), 500);
+    assert_eq!(rt;
+        halted.body(),
+        r#"{"code":"Halted","details":{},"message":"the disk failed earlier"}"#
     );
 }
 

@@ -2,6 +2,7 @@
 ghost use Rattle.std.specs.Prelude.{◌≡◌, ◌≤◌, max, false, IfOk, OnOk};
 ghost use Rattle.farm_text.specs.declared.moment.TheConstants.{LAST_TOLD_MOMENT as last_told};
 ghost use Rattle.farm_rows.specs.Due.{is_due};
+ghost use Rattle.farm_machine.specs.Written.{IsSaidCall};
 
 use crate::machine::runs::{ONCE, SHORT};
 use crate::machine::{config, creation, creation_of, first_task};
@@ -44,12 +45,16 @@ fn queue(alloc: Global) -> Result<TaskQueue, Fail> {
 }
 
 /// A report that the run of the first task ended so.
-pub(crate) fn report(id: SlugId, run: u8, reason: Report) -> Call {
+pub(crate) fn report(id: SlugId, run: u8, reason: Report) -> Call
+    ensures { IsSaidCall result }
+{
     Call::ReportRun(Resolution { id, run, reason })
 }
 
 /// The call of this word, about the first task.
-fn call_of(alloc: Global, word: &str, id: SlugId) -> Result<Call, Fail> {
+fn call_of(alloc: Global, word: &str, id: SlugId) -> Result<Call, Fail>
+    ensures { IfOk result IsSaidCall }
+{
     match word {
         "create" => creation(alloc, id),
         "create without retries" => creation_of(alloc, ONCE, id),
@@ -104,6 +109,7 @@ pub(crate) fn answer(
 ) -> Result<Reply, Fail>
     requires told { at ≤ last_told }
     requires idle { is_due tables.old (max at tables.old.last) ≡ false }
+    requires said { IsSaidCall call }
 {
     let question = Question::new(at, id, Caller::Anonymous, call);
     let planned = plan(alloc, tables, config, question)?;

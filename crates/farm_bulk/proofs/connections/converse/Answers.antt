@@ -21,5 +21,5 @@ returns-clause-conversed c =
     (record { written_is = sym c.written-written.ensures; moments_are = refl; ids_are = refl })
     (c.if-not-is_complete.ensures refl)
     (LeadsAlone-none farm_rules c.args.desk.now.0 c.args.desk.now.0 refl, tt)
-    (λ seen mine stood. stood.0) in
+    (λ seen mine stood. stood) in
     IfOk-written c.from_slice.result c.args.desk.now.0 c.serve_routed-served.new.desk.0 c.args.sent.items c.written-written.result.now c.from_slice.ensures.items talk

@@ -20,3 +20,7 @@ returns-in-Err-write_reply-clause-ends g c =
       rose = search rules;
       later = search rules;
     }
+
+-- the definition of a task that a message makes is said by its body
+pub ask-reply-requires-clause-said : goal.ask-reply-requires-clause-said
+ask-reply-requires-clause-said g c = c.a_called_task_is_said.ensures c.args.message c.in-Ok.call c.in-Ok.ensures

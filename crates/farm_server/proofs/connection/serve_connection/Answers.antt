@@ -1,4 +1,4 @@
-use Rattle.std.proofs.Common.{◌≡◌, ◌+◌, ◌-◌, ◌<◌, arith}
+use Rattle.std.proofs.Common.{arith}
 use Rattle.farm_server.specs.declared.served.TheConstants.{REQUESTS}
 use Rattle.farm_server.proofs.ServesLemmas.{ServesWithin-no_memory}
 use Rattle.farm_server.proofs.connection.serve_connection.Goals as goal

@@ -5,3 +5,11 @@ use Rattle.farm_machine.proofs.reply.Reply.body.Goals as goal
 pub returns-in-OutOfMemory : goal.returns-in-OutOfMemory
 unfolding escape_byte
 returns-in-OutOfMemory c = rw c.in-OutOfMemory.is refl
+
+pub returns-in-DiskFault : goal.returns-in-DiskFault
+unfolding escape_byte
+returns-in-DiskFault c = rw c.in-DiskFault.is refl
+
+pub returns-in-Halted : goal.returns-in-Halted
+unfolding escape_byte
+returns-in-Halted c = rw c.in-Halted.is refl

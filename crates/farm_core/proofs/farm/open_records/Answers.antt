@@ -1,0 +1,34 @@
+-- What the opening of the journal found is replayed.
+use Rattle.std.proofs.Common.{arith}
+use Rattle.disk_journal.specs.Opened.{opened_bodies}
+use Rattle.farm_core.proofs.OpenedLemmas.{has-opened, restored-damaged, restored-no_disk}
+use Rattle.farm_core.proofs.farm.open_records.Goals as goal
+
+pub new-requires : goal.new-requires
+new-requires g c = λ tells. (opened_bodies c.in-Ok.bodies, c.in-Ok.ensures.ready tells, omega arith)
+
+pub returns-in-Ok-restore-clause-opened : goal.returns-in-Ok-restore-clause-opened
+returns-in-Ok-restore-clause-opened g c =
+    rw c.new.ensures (has-opened g.D.Disk.tells _ _ _ _ (opened_bodies c.in-Ok.bodies) _ (λ tells. c.in-Ok.ensures.bodies tells) (λ tells. c.in-Ok.ensures.ready tells) (omega arith) c.in-Ok-restore.ensures)
+
+pub returns-in-Ok-restore-clause-any_moment : goal.returns-in-Ok-restore-clause-any_moment
+returns-in-Ok-restore-clause-any_moment g c = λ tells. rw c.new.ensures (c.in-Ok.ensures.any_moment tells)
+
+pub returns-in-Ok-restore-clause-later : goal.returns-in-Ok-restore-clause-later
+returns-in-Ok-restore-clause-later g c = rw c.new.ensures c.in-Ok.ensures.later
+
+pub returns-in-Ok-restore-clause-kept : goal.returns-in-Ok-restore-clause-kept
+returns-in-Ok-restore-clause-kept g c = rw c.new.ensures c.in-Ok.ensures.kept
+
+pub returns-clause-damaged : goal.returns-clause-damaged
+returns-clause-damaged g c = λ tells place is.
+    restored-damaged _ (opened_bodies c.in-Ok.bodies) _ place (c.in-Ok.ensures.bodies tells) c.in-Err-restore.ensures is
+
+pub returns-clause-any_moment : goal.returns-clause-any_moment
+returns-clause-any_moment g c = λ tells. rw c.into_disk.ensures (c.in-Ok.ensures.any_moment tells)
+
+pub returns-clause-cause : goal.returns-clause-cause
+returns-clause-cause g c = λ is. absurd (restored-no_disk (opened_bodies c.in-Ok.bodies) _ c.in-Err-restore.ensures is)
+
+pub returns-clause-later : goal.returns-clause-later
+returns-clause-later g c = rw c.into_disk.ensures c.in-Ok.ensures.later

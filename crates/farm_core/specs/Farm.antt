@@ -1,0 +1,51 @@
+-- What an ask of a farm does to its disk, and what the disk has of a history.
+use Rattle.std.specs.Prelude.{◌≡◌, ℕ, ◌≤◌, true, false, Bool, ◌⊎◌, List, [], ◌∷◌, ◌++◌}
+use Rattle.causes.specs.Causes.{Rose}
+use Rattle.disk_base.specs.Contents.{Contents as Disk}
+use Rattle.farm_record.specs.declared.change.Change.{Change}
+use Rattle.history.specs.Asks.{IsAsk}
+use Rattle.history.specs.Histories.{entries, end_state}
+use Rattle.farm_machine.specs.declared.config.Config.{Config}
+use Rattle.farm_machine.specs.declared.reply.Asked.{Asked}
+use Rattle.farm_machine.specs.Entry.{Asking, Entry, call, disk_failed}
+use Rattle.farm_machine.specs.Law.{Opening}
+use Rattle.farm_machine.specs.Replay.{records_of}
+use Rattle.farm_machine.specs.State.{State}
+use Rattle.farm_machine.specs.Step.{IsToKeep, farm_rules, ticks_before}
+use Rattle.farm_rows.specs.Contents.{Contents}
+use Rattle.farm_core.specs.Records.{KeepsRecords, HasRecords, IsFailed}
+
+-- the state of a farm
+abbrev pub state_of : Config → Contents → Bool → State
+state_of config contents halted = record { config = config; contents = contents; halted = halted }
+
+-- the changes whose record failed in one ask: none, or what the call in which the disk failed was about to keep
+abbrev pub AreFailedBy : State → Asking → Asked → Entry → List Change → Type 0
+AreFailedBy old asking answer entry failed =
+    (failed ≡ [])
+    ⊎ ((change : Change) × (entry ≡ call asking disk_failed) × IsToKeep (end_state farm_rules old (ticks_before old asking answer)) asking change
+    × (failed ≡ change ∷ []))
+
+-- One ask of a farm at work over a disk that tells what it holds: it is one step, or a tick and one; and the records of its entries, in
+-- their order, are kept on the disk, but for the one record in which the disk failed. Then the farm has halted, and only then.
+pub record AsksDisk (tells : Type 0) (old : State) (old_disk : Disk) (old_end : ℕ) (asking : Asking) (answer : Asked) (new : State) (new_disk : Disk) (new_end : ℕ) : Type 0 where
+  pub call : Entry
+  pub step : IsAsk farm_rules old asking answer call new
+  pub failed : List Change
+  pub failed_by : AreFailedBy old asking answer call failed
+  pub whole : new.halted ≡ false → failed ≡ []
+  pub keeps : tells → KeepsRecords old_disk old_end new_disk new_end (records_of (entries farm_rules old asking answer call)) failed
+
+-- The count of the disk's faults does not fall: it rose where the farm halted, and stays where it did not.
+pub record TellsFaults (opening now : ℕ) (halted : Bool) : Type 0 where
+  pub later : opening ≤ now
+  pub rose : halted ≡ true → Rose opening now
+  pub stays : halted ≡ false → now ≡ opening
+
+-- What a farm holds of a history since an opening: its disk's count, and where the disk tells it, the records of the opening and of the history,
+-- and perhaps the one that failed.
+pub record HoldsHistory (tells : Type 0) (disk : Disk) (end faults : ℕ) (state : State) (opening : Opening) (seen : List Entry) : Type 0 where
+  pub counts : TellsFaults opening.faults faults state.halted
+  pub failed : List Change
+  pub failed_in : (failed ≡ []) ⊎ ((change : Change) × IsFailed opening.state seen change × (failed ≡ change ∷ []))
+  pub records : tells → HasRecords disk end state (opening.records ++ records_of seen) failed

@@ -1,0 +1,45 @@
+-- What an opening of a farm finds on a disk.
+use Rattle.std.specs.Prelude.{◌≡◌, ℕ, false, ◌⊎◌, List, [], ◌∷◌, ◌++◌, length, Some, Result, Ok, Err}
+use Rattle.disk_base.specs.Contents.{Contents as Disk}
+use Rattle.disk_journal.specs.Keeping.{IsReady}
+use Rattle.disk_journal.specs.Records.{records, Opens, IsDamaged}
+use Rattle.farm_record.specs.declared.change.Change.{Change}
+use Rattle.farm_record.specs.Records.{IsRecord}
+use Rattle.farm_rows.specs.Contents.{Contents, no_contents}
+use Rattle.farm_machine.specs.Replay.{may_replay, replayed}
+use Rattle.farm_core.specs.Records.{AreRecords}
+
+-- the bodies are records of changes whose replay leaves these contents
+pub record Replays (bodies : List (List ℕ)) (contents : Contents) : Type 0 where
+  pub changes : List Change
+  pub recorded : AreRecords changes bodies
+  pub leaves : replayed no_contents changes ≡ Some contents
+
+-- the body at this place is no record of a change that may come behind those before it
+pub record IsBroken (bodies : List (List ℕ)) (place : ℕ) : Type 0 where
+  pub before : List (List ℕ)
+  pub body : List ℕ
+  pub after : List (List ℕ)
+  pub are : bodies ≡ before ++ body ∷ after
+  pub at : place ≡ length (records before)
+  pub contents : Contents
+  pub replays : Replays before contents
+  pub broken : (change : Change) → IsRecord change body → may_replay contents change ≡ false
+
+-- a file is no farm's: its journal is damaged at this place, or the body there is broken
+abbrev pub IsFarmDamaged : List ℕ → ℕ → Type 0
+IsFarmDamaged file place = IsDamaged [] file place ⊎ ((bodies : List (List ℕ)) × Opens [] file bodies × IsBroken bodies place)
+
+-- A farm was opened: its contents are the replay of so many bodies; and where the disk tells what it holds, these are the bodies of its file, and
+-- they are ready on it.
+pub record HasOpened (tells : Type 0) (file : List ℕ) (disk : Disk) (end count : ℕ) (contents : Contents) : Type 0 where
+  pub bodies : List (List ℕ)
+  pub replays : Replays bodies contents
+  pub counted : count ≡ length bodies
+  pub opens : tells → Opens [] file bodies
+  pub ready : tells → IsReady [] disk end bodies
+
+-- the disk of what was opened, or the one beside the fault
+abbrev pub disk_left : {D O F : Type 0} → (O → D) → Result O (F × D) → D
+disk_left disk_of (Ok opened) = disk_of opened
+disk_left disk_of (Err refused) = refused.1

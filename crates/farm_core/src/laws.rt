@@ -1,0 +1,44 @@
+//! Laws of what a farm's disk has. The functions do nothing: their contracts are the laws.
+ghost use Rattle.std.specs.Prelude.{false, ℕ, List, ◌++◌, []};
+ghost use Rattle.disk_base.specs.Contents.{LeftNow};
+ghost use Rattle.disk_journal.specs.Images.{IsWithin};
+ghost use Rattle.history.specs.Histories.{Leads};
+ghost use Rattle.farm_rows.specs.Contents.{Contents};
+ghost use Rattle.farm_machine.specs.Entry.{Entry};
+ghost use Rattle.farm_machine.specs.Law.{Opening};
+ghost use Rattle.farm_machine.specs.Replay.{Restores};
+ghost use Rattle.farm_machine.specs.State.{State};
+ghost use Rattle.farm_machine.specs.Step.{farm_rules};
+ghost use Rattle.farm_machine.specs.declared.config.Config.{Config as AnyConfig};
+ghost use Rattle.farm_core.specs.Farm.{HoldsHistory, state_of};
+ghost use Rattle.farm_core.specs.Opened.{HasOpened, Replays, IsFarmDamaged};
+
+use disk_base::Disk;
+use farm_record::a_record_is_of_one_change;
+
+/// A file is never damaged that a stop leaves within records that may be replayed.
+pub fn what_replays_is_never_damaged()
+    ensures { (file : List ℕ) (bodies more : List (List ℕ)) (contents : Contents) (place : ℕ)
+        → Replays (bodies ++ more) contents → IsWithin [] bodies more file → IsFarmDamaged file place → ⊥ }
+{
+    a_record_is_of_one_change();
+}
+
+/// Whatever legal history a farm's disk holds, since an opening whose records restore its state: no image of it is damaged. An opening
+/// without records restores no tasks, so this holds of each farm that began on an empty disk.
+pub fn images_are_never_damaged<D: Disk>()
+    ensures { D.tells → (disk : D) (end faults : ℕ) (state : State) (opening : Opening) (seen : List Entry)
+        → Restores opening.records opening.state.contents → Leads farm_rules opening.state seen state
+        → HoldsHistory D.tells (D.contents disk) end faults state opening seen
+        → (image : List ℕ) (place : ℕ) → LeftNow (D.contents disk) image → IsFarmDamaged image place → ⊥ }
+{
+    a_record_is_of_one_change();
+}
+
+/// A farm that was opened from a disk holds the history that begins from the records it was replayed from, and has no entry yet.
+pub fn an_opened_farm_holds_its_records<D: Disk>()
+    ensures { (file : List ℕ) (disk : D) (end count : ℕ) (config : AnyConfig) (contents : Contents)
+        → (opened : HasOpened D.tells file (D.contents disk) end count contents)
+        → HoldsHistory D.tells (D.contents disk) end (D.faults disk) (state_of config contents false)
+        (record { state = state_of config contents false; records = opened.replays.changes; faults = D.faults disk }) [] }
+{}

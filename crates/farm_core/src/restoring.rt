@@ -1,0 +1,38 @@
+//! Replaying the records of a journal.
+ghost use Rattle.std.specs.Prelude.{◌≡◌};
+ghost use Rattle.disk_journal.specs.Opened.{opened_bodies, opened_places};
+ghost use Rattle.disk_journal.specs.Records.{placed};
+ghost use Rattle.farm_core.specs.Reading.{IsRead, IsRestored};
+
+use disk_journal::{Bodies, OpenFault};
+use farm_machine::replay::replay;
+use farm_machine::tables::Tables;
+use farm_record::read_record;
+use std::alloc::{AllocError, Global};
+
+/// Replays the change that a body is the record of, and says whether it is one that may come there.
+fn restore_one(alloc: Global, tables: &mut Tables, body: &[u8]) -> Result<bool, AllocError>
+    ensures { IsRead tables.old body.now result tables.new }
+{
+    match read_record(alloc, body)? {
+        Some(change) => replay(alloc, tables, change),
+        None => Ok(false),
+    }
+}
+
+/// The tables that the replay of all bodies leaves. One that is no record, or whose change may not come behind those before it, is damaged at
+/// its gate.
+pub(crate) fn restore(alloc: Global, bodies: &Bodies) -> Result<Tables, OpenFault>
+    requires { opened_places bodies.now ≡ placed 0 (opened_bodies bodies.now) }
+    ensures { IsRestored (opened_bodies bodies.now) result }
+{
+    let mut tables = Tables::new(alloc);
+    for index in 0..bodies.len() {
+        match restore_one(alloc, &mut tables, bodies.get(index)) {
+            Ok(true) => {}
+            Ok(false) => return Err(OpenFault::Damaged(bodies.place(index))),
+            Err(_) => return Err(OpenFault::NoMemory),
+        }
+    }
+    Ok(tables)
+}
