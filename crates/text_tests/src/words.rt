@@ -18,20 +18,62 @@ fn usage(alloc: Global, words: &[&str]) -> Result<Option<Text>, AllocError> {
     }
 }
 
-/// Whether the words ask for this work over this farm file.
-fn asks_for(alloc: Global, words: &[&str], name: &str, wanted: Work) -> Result<bool, AllocError> {
-    let command = read(alloc, words)?;
-    Ok(
-        matches!(&command, Ok(Command::OverFarm { farm, work }) if farm.as_str() == name && *work == wanted),
-    )
+/// What the words ask for over a farm: the work, the farm file and the disk, of which `-` says none; or nothing.
+fn asked(alloc: Global, words: &[&str]) -> Result<String, AllocError> {
+    let Ok(Command::OverFarm { farm, work }) = read(alloc, words)? else {
+        return Ok(String::new(alloc));
+    };
+    let (name, disk) = match &work {
+        Work::Answer { disk } => ("answer", disk.as_ref()),
+        Work::Expand => ("expand", None),
+        Work::Check { disk } => ("check", disk.as_ref()),
+    };
+    let disk = match disk {
+        Some(disk) => disk.as_str(),
+        None => "-",
+    };
+    let farm = farm.as_str();
+    format!(in alloc; "{name} {farm} {disk}")
 }
 
 #[test]
 fn commands_are_read(rt: HostRuntime) -> Result<(), Fail> {
     let alloc = rt.alloc();
-    assert!(rt; asks_for(alloc, &["answer", "a.toml"], "a.toml", Work::Answer)?);
-    assert!(rt; asks_for(alloc, &["expand", "b.toml"], "b.toml", Work::Expand)?);
-    assert!(rt; asks_for(alloc, &["check", "c.toml"], "c.toml", Work::Check)?);
+    assert_eq!(rt;
+        asked(alloc, &["answer", "a.toml"])?.as_str(),
+        "answer a.toml -"
+    );
+    assert_eq!(rt;
+        asked(alloc, &["expand", "b.toml"])?.as_str(),
+        "expand b.toml -"
+    );
+    assert_eq!(rt;
+        asked(alloc, &["check", "c.toml"])?.as_str(),
+        "check c.toml -"
+    );
+    Ok(())
+}
+
+#[test]
+fn disks_are_read(rt: HostRuntime) -> Result<(), Fail> {
+    let alloc = rt.alloc();
+    assert_eq!(rt;
+        asked(alloc, &["answer", "a.toml", "--disk", "d"])?.as_str(),
+        "answer a.toml d"
+    );
+    assert_eq!(rt;
+        asked(alloc, &["check", "--disk=d", "--", "c.toml"])?.as_str(),
+        "check c.toml d"
+    );
+    assert_eq!(rt;
+        asked(alloc, &["expand", "b.toml", "--disk", "d"])?.as_str(),
+        ""
+    );
+    assert_eq!(rt; asked(alloc, &["answer", "a.toml", "--disk"])?.as_str(), "");
+    assert_eq!(rt;
+        asked(alloc, &["answer", "a.toml", "--disk", "d", "--disk", "e"])?.as_str(),
+        ""
+    );
     Ok(())
 }
 
