@@ -1,22 +1,25 @@
 -- Which words are read as a command.
-use Rattle.std.proofs.Common.{◌≡◌, ◌⊎◌, ◌∙◌, Bool, true, false, suc, cond, refl, sym, ap, subst, arith, inl, inr, List, [], ◌∷◌, Option, Some, None, codes, length, option_map, option_and_then}
+use Rattle.std.proofs.Common.{◌≡◌, ◌⊎◌, ◌∙◌, ◌++◌, Bool, append-nil, append_assoc, fold, is_some, true, false, suc, cond, refl, sym, ap, subst, arith, inl, inr, List, [], ◌∷◌, Option, Some, None, codes, length, option_map, option_and_then}
 use Rattle.std.specs.Prelude.{◌==◌, ◌||◌, IsUtf8, drop, encode_utf8}
 use Rattle.std.specs.List.{All}
 use Rattle.std.proofs.lemmas.Bool.{ne_eqb}
 use Rattle.std.proofs.lemmas.Slice.Eq.{bytes_eq-Decides}
 use Rattle.std.specs.Str.{bytes_eq}
-use Rattle.clap.specs.Words.{App, Kinds, Rule, Shape, Text, built, fault_of, subcommand_of}
-use Rattle.clap.specs.Faults.{bundle_step_fault, entered_fault, flags_fault, level_fault, long_fault, react_fault, settle_fault, short_fault, turn_fault, use_fault, walk_fault, word_fault}
+use Rattle.clap.specs.Words.{App, Kinds, Row, Rule, Shape, Text, built, fault_of, subcommand_of}
+use Rattle.clap.specs.Faults.{bundle_step_fault, check_fault, defaults_fault, entered_fault, flags_fault, level_fault, long_fault, react_fault, settle_fault, short_fault, turn_fault, use_fault, walk_fault, word_fault}
 use Rattle.clap.specs.Lexer.{name_and_value}
 use Rattle.clap.specs.Kinds.{or_else}
 use Rattle.clap.specs.Simple.{argument_words, built_leaf, entered, filled, help_rule, inherited, names_of}
-use Rattle.clap.specs.Walk.{Held, Names, Walk, idle, is_empty, nothing_held, reacted, settled, walk_from, walked}
+use Rattle.clap.specs.Walk.{Held, Names, Walk, finished, idle, is_empty, nothing_held, reacted, settled, stop_after, walk_from, walked, walked_from}
 use Rattle.clap.proofs.OnLiterals.{clap_on_literals}
 use Rattle.clap.specs.declared.error.ErrorKind.TheVariants.{UnknownArgument, InvalidSubcommand}
+use Rattle.command_line.proofs.DiskFormLemmas.{Says, args, both_read, end_of, faults, found, reads, start, start_said}
 use Rattle.command_line.proofs.FlagLemmas.{IsFlag, value_cases, word_kind}
 use Rattle.command_line.proofs.LawLemmas.{answer_stops, bulk_stops, check_stops, empty_read, expand_stops, fails_below, help_first, no_reading, other_first, sign_stops}
-use Rattle.command_line.specs.Forms.{GivesValue, IsValue, SaysWork}
+use Rattle.command_line.specs.Forms.{Gives, GivesValue, IsValue, SaysWork}
 use Rattle.command_line.specs.Words.{IsPlain, command_in, farm_app, reading, with_farm}
+use Rattle.command_line.specs.Load.{load_in}
+use Rattle.command_line.specs.Signing.{signing_in}
 use Rattle.command_line.specs.declared.command.Command.{Command}
 use Rattle.command_line.specs.declared.command.Command.TheVariants.{OverFarm, Sign, Bulk}
 use Rattle.command_line.specs.declared.command.Work.{Work}
@@ -270,25 +273,17 @@ rest_said name of is (w ∷ more) command utf8 read = elim (word_kind w (utf8 0 
   ]
 ]
 
-answer_after : (f : Text) → reading (codes "answer" ∷ codes "--" ∷ f ∷ []) ≡ Some (OverFarm f Answer)
+answer_after : (f : Text) → reading (codes "answer" ∷ codes "--" ∷ f ∷ []) ≡ Some (OverFarm f (Answer None))
 unfolding clap_on_literals
 answer_after f = refl
 
-answer_alone : (f : Text) → IsValue f → reading (codes "answer" ∷ f ∷ []) ≡ Some (OverFarm f Answer)
+answer_alone : (f : Text) → IsValue f → reading (codes "answer" ∷ f ∷ []) ≡ Some (OverFarm f (Answer None))
 unfolding clap_on_literals
-answer_alone f v = value_cases (λ a. reading (codes "answer" ∷ a ∷ []) ≡ Some (OverFarm a Answer)) refl refl (λ x xs e. simp e) f v
+answer_alone f v = value_cases (λ a. reading (codes "answer" ∷ a ∷ []) ≡ Some (OverFarm a (Answer None))) refl refl (λ x xs e. simp e) f v
 
-answer_before : (f : Text) → IsValue f → reading (codes "answer" ∷ f ∷ codes "--" ∷ []) ≡ Some (OverFarm f Answer)
+answer_before : (f : Text) → IsValue f → reading (codes "answer" ∷ f ∷ codes "--" ∷ []) ≡ Some (OverFarm f (Answer None))
 unfolding clap_on_literals
-answer_before f v = value_cases (λ a. reading (codes "answer" ∷ a ∷ codes "--" ∷ []) ≡ Some (OverFarm a Answer)) refl refl (λ x xs e. simp e) f v
-
-answer_fails : (rest : List Text) → is_empty (leaf_faults (codes "answer") rest) ≡ false → reading (codes "answer" ∷ rest) ≡ None
-unfolding clap_on_literals
-answer_fails rest fails =
-    no_reading (codes "answer" ∷ rest) (fails_below farm_app (codes "answer" ∷ rest) (ap is_empty (ap (entered_fault (built farm_app)) (answer_stops rest)) ∙ fails))
-
-answer_is : IsReadAs (codes "answer") (λ f. OverFarm f Answer)
-answer_is = record { fails = answer_fails; alone = answer_alone; after = answer_after; before = answer_before; says = λ f rest gives. (refl, gives) }
+answer_before f v = value_cases (λ a. reading (codes "answer" ∷ a ∷ codes "--" ∷ []) ≡ Some (OverFarm a (Answer None))) refl refl (λ x xs e. simp e) f v
 
 expand_after : (f : Text) → reading (codes "expand" ∷ codes "--" ∷ f ∷ []) ≡ Some (OverFarm f Expand)
 unfolding clap_on_literals
@@ -310,25 +305,112 @@ expand_fails rest fails =
 expand_is : IsReadAs (codes "expand") (λ f. OverFarm f Expand)
 expand_is = record { fails = expand_fails; alone = expand_alone; after = expand_after; before = expand_before; says = λ f rest gives. (refl, gives) }
 
-check_after : (f : Text) → reading (codes "check" ∷ codes "--" ∷ f ∷ []) ≡ Some (OverFarm f Check)
+check_after : (f : Text) → reading (codes "check" ∷ codes "--" ∷ f ∷ []) ≡ Some (OverFarm f (Check None))
 unfolding clap_on_literals
 check_after f = refl
 
-check_alone : (f : Text) → IsValue f → reading (codes "check" ∷ f ∷ []) ≡ Some (OverFarm f Check)
+check_alone : (f : Text) → IsValue f → reading (codes "check" ∷ f ∷ []) ≡ Some (OverFarm f (Check None))
 unfolding clap_on_literals
-check_alone f v = value_cases (λ a. reading (codes "check" ∷ a ∷ []) ≡ Some (OverFarm a Check)) refl refl (λ x xs e. simp e) f v
+check_alone f v = value_cases (λ a. reading (codes "check" ∷ a ∷ []) ≡ Some (OverFarm a (Check None))) refl refl (λ x xs e. simp e) f v
 
-check_before : (f : Text) → IsValue f → reading (codes "check" ∷ f ∷ codes "--" ∷ []) ≡ Some (OverFarm f Check)
+check_before : (f : Text) → IsValue f → reading (codes "check" ∷ f ∷ codes "--" ∷ []) ≡ Some (OverFarm f (Check None))
 unfolding clap_on_literals
-check_before f v = value_cases (λ a. reading (codes "check" ∷ a ∷ codes "--" ∷ []) ≡ Some (OverFarm a Check)) refl refl (λ x xs e. simp e) f v
+check_before f v = value_cases (λ a. reading (codes "check" ∷ a ∷ codes "--" ∷ []) ≡ Some (OverFarm a (Check None))) refl refl (λ x xs e. simp e) f v
 
-check_fails : (rest : List Text) → is_empty (leaf_faults (codes "check") rest) ≡ false → reading (codes "check" ∷ rest) ≡ None
+-- ---- commands that take a disk
+
+-- the walk stands still once a subcommand was met
+stopped_walk : (c : List Rule) (names : Names) (w : Walk) (name : Text) (before rest : List Text) → w.stopped ≡ Some (name, before)
+    → fold (walked c names) w rest ≡ record w { stopped = Some (name, before ++ rest) }
+unfolding walked
+stopped_walk c names w name before [] e = ap (λ (s : Option (Text × List Text)). record w { stopped = s }) (e ∙ ap (λ (words : List Text). Some (name, words)) (sym (append-nil before)))
+stopped_walk c names w name before (word ∷ rest) e =
+    let next : walked c names w word ≡ record w { stopped = Some (name, before ++ word ∷ []) } = ap (λ (s : Option (Text × List Text)). walked_from c names s w word) e in
+    ap (λ (v : Walk). fold (walked c names) v rest) next
+    ∙ (stopped_walk c names (record w { stopped = Some (name, before ++ word ∷ []) }) name (before ++ word ∷ []) rest refl
+    ∙ ap (λ (words : List Text). record w { stopped = Some (name, words) }) (append_assoc before (word ∷ []) rest))
+
+-- and finds no fault
+stopped_fault : (s : Shape) (names : Names) (w : Walk) (name : Text) (before rest : List Text) → w.stopped ≡ Some (name, before) → walk_fault s names w rest ≡ []
+unfolding walk_fault walked
+stopped_fault s names w name before [] e = refl
+stopped_fault s names w name before (word ∷ rest) e =
+    let next : walked s.rules names w word ≡ record w { stopped = Some (name, before ++ word ∷ []) } = ap (λ (o : Option (Text × List Text)). walked_from s.rules names o w word) e in
+    let here : turn_fault s names w word ≡ [] = simp e in
+    ap (λ (k : Kinds). or_else k (walk_fault s names (walked s.rules names w word) rest)) here
+    ∙ (ap (λ (v : Walk). walk_fault s names v rest) next ∙ stopped_fault s names (record w { stopped = Some (name, before ++ word ∷ []) }) name (before ++ word ∷ []) rest refl)
+
+abbrev top_end : Held → Kinds
+top_end h = or_else (settle_fault top.rules false h) (or_else (defaults_fault (settled top.rules h).rows top.rules) (check_fault top (finished top.rules h) true))
+
+-- a level whose words end at a subcommand has the faults of that
+level_below : (w : Walk) (name : Text) (rest : List Text) (below : Kinds) → w.stopped ≡ Some (name, []) → w.held ≡ nothing_held → turn_fault top top_names (walk_from nothing_held) name ≡ []
+    → walked top.rules top_names (walk_from nothing_held) name ≡ w → level_fault top top_names nothing_held (name ∷ rest) true below ≡ or_else below []
 unfolding clap_on_literals
-check_fails rest fails =
-    no_reading (codes "check" ∷ rest) (fails_below farm_app (codes "check" ∷ rest) (ap is_empty (ap (entered_fault (built farm_app)) (check_stops rest)) ∙ fails))
+level_below w name rest below stops bare none goes =
+    let first : walk_fault top top_names (walk_from nothing_held) (name ∷ rest) ≡ [] =
+    ap (λ (k : Kinds). or_else k (walk_fault top top_names (walked top.rules top_names (walk_from nothing_held) name) rest)) none
+    ∙ (ap (λ (v : Walk). walk_fault top top_names v rest) goes ∙ stopped_fault top top_names w name [] rest stops) in
+    let end : (fold (walked top.rules top_names) (walk_from nothing_held) (name ∷ rest)).held ≡ nothing_held =
+    ap (λ (v : Walk). (fold (walked top.rules top_names) v rest).held) goes ∙ (ap (λ (v : Walk). v.held) (stopped_walk top.rules top_names w name [] rest stops) ∙ bare) in
+    ap (λ (k : Kinds). or_else k (or_else below (top_end (fold (walked top.rules top_names) (walk_from nothing_held) (name ∷ rest)).held))) first
+    ∙ ap (λ (h : Held). or_else below (top_end h)) end
 
-check_is : IsReadAs (codes "check") (λ f. OverFarm f Check)
-check_is = record { fails = check_fails; alone = check_alone; after = check_after; before = check_before; says = λ f rest gives. (refl, gives) }
+or_none : (k : Kinds) → or_else k [] ≡ k
+or_none [] = refl
+or_none (x ∷ xs) = refl
+
+abbrev met_at : Text → Walk
+met_at name = record { held = nothing_held; waiting = idle; position = 1; is_trailing = false; stopped = Some (name, []) }
+
+-- the words of a command that takes a disk are read from its own words
+command_goes : (name : Text) (rest : List Text) → stop_after top.rules top_names (name ∷ rest) ≡ Some (name, rest) → turn_fault top top_names (walk_from nothing_held) name ≡ []
+    → walked top.rules top_names (walk_from nothing_held) name ≡ met_at name → entered_fault (built farm_app) (Some (name, rest)) ≡ faults name start rest
+    → entered (built farm_app) (Some (name, rest)) ≡ Some (name, finished (args name) (end_of name start rest)) → bytes_eq name (codes "sign") ≡ false → bytes_eq name (codes "bulk") ≡ false
+    → reading (name ∷ rest) ≡ reads name start rest
+command_goes name rest stops none goes below met other another =
+    let app : App = built farm_app in
+    let words : List Text = name ∷ rest in
+    let rows : List Row = finished (args name) (end_of name start rest) in
+    let fault : fault_of farm_app words ≡ faults name start rest =
+    ap (λ (stop : Option (Text × List Text)). level_fault top top_names nothing_held words (is_some (entered app stop)) (entered_fault app stop)) stops
+    ∙ (ap (λ (o : Option (Text × List Row)). level_fault top top_names nothing_held words (is_some o) (entered_fault app (Some (name, rest)))) met
+    ∙ (level_below (met_at name) name rest (entered_fault app (Some (name, rest))) refl refl none goes ∙ (or_none _ ∙ below))) in
+    let read : option_and_then command_in (subcommand_of farm_app words) ≡ found name start rest =
+    ap (λ (stop : Option (Text × List Text)). option_and_then command_in (entered app stop)) stops
+    ∙ (ap (option_and_then command_in) met
+    ∙ (ap (λ (b : Bool). cond b (option_map (λ signing. Sign signing) (signing_in rows)) (cond (bytes_eq name (codes "bulk")) (option_map (λ load. Bulk load) (load_in rows)) (found name start rest))) other
+    ∙ ap (λ (b : Bool). cond b (option_map (λ load. Bulk load) (load_in rows)) (found name start rest)) another)) in
+    ap (λ (k : Kinds). cond (is_empty k) (option_and_then command_in (subcommand_of farm_app words)) None) fault
+    ∙ ap (λ (o : Option Command). cond (is_empty (faults name start rest)) o None) read
+
+answer_goes : (rest : List Text) → reading (codes "answer" ∷ rest) ≡ reads (codes "answer") start rest
+unfolding clap_on_literals
+answer_goes rest = command_goes (codes "answer") rest (answer_stops rest) refl refl refl refl refl refl
+
+check_goes : (rest : List Text) → reading (codes "check" ∷ rest) ≡ reads (codes "check") start rest
+unfolding clap_on_literals
+check_goes rest = command_goes (codes "check") rest (check_stops rest) refl refl refl refl refl refl
+
+answer_says : (rest : List Text) (command : Command) → Says (codes "answer") command rest → SaysCommand command (codes "answer" ∷ rest)
+answer_says rest (OverFarm farm (Answer disk)) says = let is : says.0 ≡ disk = cc in (refl, subst (λ (d : Option Text). Gives farm d rest) is says.2)
+answer_says rest (OverFarm farm Expand) says = cc
+answer_says rest (OverFarm farm (Check disk)) says = cc
+answer_says rest (Sign signing) says = tt
+answer_says rest (Bulk load) says = tt
+
+check_says : (rest : List Text) (command : Command) → Says (codes "check") command rest → SaysCommand command (codes "check" ∷ rest)
+check_says rest (OverFarm farm (Answer disk)) says = cc
+check_says rest (OverFarm farm Expand) says = cc
+check_says rest (OverFarm farm (Check disk)) says = let is : says.0 ≡ disk = cc in (refl, subst (λ (d : Option Text). Gives farm d rest) is says.2)
+check_says rest (Sign signing) says = tt
+check_says rest (Bulk load) says = tt
+
+answer_said : (rest : List Text) (command : Command) → All IsUtf8 rest → reading (codes "answer" ∷ rest) ≡ Some command → SaysCommand command (codes "answer" ∷ rest)
+answer_said rest command utf8 read = answer_says rest command (start_said (codes "answer") rest command utf8 (sym (answer_goes rest) ∙ read))
+
+check_said : (rest : List Text) (command : Command) → All IsUtf8 rest → reading (codes "check" ∷ rest) ≡ Some command → SaysCommand command (codes "check" ∷ rest)
+check_said rest command utf8 read = check_says rest command (start_said (codes "check") rest command utf8 (sym (check_goes rest) ∙ read))
 
 -- ---- sign
 
@@ -367,9 +449,9 @@ bulk_said rest command read =
 pub reading_says : (words : List Text) (command : Command) → All IsUtf8 words → reading words ≡ Some command → SaysCommand command words
 reading_says [] command utf8 read = absurd (none_some command (sym empty_read ∙ read))
 reading_says (w ∷ rest) command utf8 read = elim (first_named w rest command (utf8 0 [] (omega arith)) read) [
-  | inl a ↦ named (codes "answer") a (rest_said (codes "answer") (λ f. OverFarm f Answer) answer_is rest command others)
+  | inl a ↦ named (codes "answer") a (answer_said rest command others)
   | inr (inl e) ↦ named (codes "expand") e (rest_said (codes "expand") (λ f. OverFarm f Expand) expand_is rest command others)
-  | inr (inr (inl c)) ↦ named (codes "check") c (rest_said (codes "check") (λ f. OverFarm f Check) check_is rest command others)
+  | inr (inr (inl c)) ↦ named (codes "check") c (check_said rest command others)
   | inr (inr (inr (inl s))) ↦ named (codes "sign") s (sign_said rest command)
   | inr (inr (inr (inr b))) ↦ named (codes "bulk") b (bulk_said rest command)
 ]
@@ -380,13 +462,23 @@ reading_says (w ∷ rest) command utf8 read = elim (first_named w rest command (
     named : (name : Text) → bytes_eq name w ≡ true → (reading (name ∷ rest) ≡ Some command → SaysCommand command (name ∷ rest)) → SaysCommand command (w ∷ rest)
     named name same go = subst (λ (v : Text). (reading (v ∷ rest) ≡ Some command → SaysCommand command (v ∷ rest))) ((bytes_eq-Decides name w).0 same) go read
 
-given_read : (name : Text) (of : Text → Command) (is : IsReadAs name of) (f : Text) (rest : List Text) → GivesValue f rest → reading (name ∷ rest) ≡ Some (of f)
-given_read name of is f rest (inl p) = subst (λ words. reading (name ∷ words) ≡ Some (of f)) (sym p.1) (is.alone f p.0)
-given_read name of is f rest (inr (inl e)) = subst (λ words. reading (name ∷ words) ≡ Some (of f)) (sym e) (is.after f)
-given_read name of is f rest (inr (inr p)) = subst (λ words. reading (name ∷ words) ≡ Some (of f)) (sym p.1) (is.before f p.0)
+given_read : (name : Text) (of : Text → Command) (f : Text) (rest : List Text) → (IsValue f → reading (name ∷ f ∷ []) ≡ Some (of f)) → reading (name ∷ codes "--" ∷ f ∷ []) ≡ Some (of f)
+    → (IsValue f → reading (name ∷ f ∷ codes "--" ∷ []) ≡ Some (of f)) → GivesValue f rest → reading (name ∷ rest) ≡ Some (of f)
+given_read name of f rest alone after before (inl p) = subst (λ words. reading (name ∷ words) ≡ Some (of f)) (sym p.1) (alone p.0)
+given_read name of f rest alone after before (inr (inl e)) = subst (λ words. reading (name ∷ words) ≡ Some (of f)) (sym e) after
+given_read name of f rest alone after before (inr (inr p)) = subst (λ words. reading (name ∷ words) ≡ Some (of f)) (sym p.1) (before p.0)
 
 pub said_read : (words : List Text) (farm : Text) (work : Work) → SaysWork farm work words → reading words ≡ Some (OverFarm farm work)
 said_read [] farm work says = absurd says
-said_read (w ∷ rest) f Answer says = subst (λ a. reading (a ∷ rest) ≡ Some (OverFarm f Answer)) (sym says.0) (given_read (codes "answer") (λ f. OverFarm f Answer) answer_is f rest says.1)
-said_read (w ∷ rest) f Expand says = subst (λ a. reading (a ∷ rest) ≡ Some (OverFarm f Expand)) (sym says.0) (given_read (codes "expand") (λ f. OverFarm f Expand) expand_is f rest says.1)
-said_read (w ∷ rest) f Check says = subst (λ a. reading (a ∷ rest) ≡ Some (OverFarm f Check)) (sym says.0) (given_read (codes "check") (λ f. OverFarm f Check) check_is f rest says.1)
+said_read (w ∷ rest) f (Answer None) says =
+    subst (λ a. reading (a ∷ rest) ≡ Some (OverFarm f (Answer None))) (sym says.0)
+    (given_read (codes "answer") (λ f. OverFarm f (Answer None)) f rest (answer_alone f) (answer_after f) (answer_before f) says.1)
+said_read (w ∷ rest) f (Answer (Some d)) says =
+    subst (λ a. reading (a ∷ rest) ≡ Some (OverFarm f (Answer (Some d)))) (sym says.0) (answer_goes rest ∙ both_read (codes "answer") f d rest says.1)
+said_read (w ∷ rest) f Expand says =
+    subst (λ a. reading (a ∷ rest) ≡ Some (OverFarm f Expand)) (sym says.0) (given_read (codes "expand") (λ f. OverFarm f Expand) f rest (expand_alone f) (expand_after f) (expand_before f) says.1)
+said_read (w ∷ rest) f (Check None) says =
+    subst (λ a. reading (a ∷ rest) ≡ Some (OverFarm f (Check None))) (sym says.0)
+    (given_read (codes "check") (λ f. OverFarm f (Check None)) f rest (check_alone f) (check_after f) (check_before f) says.1)
+said_read (w ∷ rest) f (Check (Some d)) says =
+    subst (λ a. reading (a ∷ rest) ≡ Some (OverFarm f (Check (Some d)))) (sym says.0) (check_goes rest ∙ both_read (codes "check") f d rest says.1)

@@ -11,7 +11,7 @@ use Rattle.clap.specs.Simple.{argument_words, names_of}
 use Rattle.clap.specs.Walk.{Names, Rule, Walk, is_empty, nothing_held, stop_after, walk_from, walked, walked_from}
 use Rattle.clap.proofs.OnLiterals.{clap_on_literals}
 use Rattle.clap.specs.declared.error.ErrorKind.TheVariants.{UnknownArgument, InvalidSubcommand, DisplayHelp}
-use Rattle.command_line.specs.Words.{IsPlain, command_in, farm_app, name_of, reading}
+use Rattle.command_line.specs.Words.{IsPlain, command_in, disk_of, farm_app, name_of, reading}
 use Rattle.command_line.specs.declared.command.Command.TheVariants.{OverFarm}
 use Rattle.command_line.specs.declared.command.Work.{Work}
 use Rattle.command_line.specs.declared.command.Work.TheVariants.{Answer, Expand, Check}
@@ -19,7 +19,7 @@ use Rattle.command_line.specs.declared.command.Work.TheVariants.{Answer, Expand,
 not_minus : (x : ℕ) (xs : List ℕ) → IsPlain (x ∷ xs) → (x == 45) ≡ false
 not_minus x xs plain = ne_eqb x 45 (λ same. plain (ap Some same))
 
-pub answer_read : (farm : List ℕ) → IsPlain farm → reading (codes "answer" ∷ farm ∷ []) ≡ Some (OverFarm farm Answer)
+pub answer_read : (farm : List ℕ) → IsPlain farm → reading (codes "answer" ∷ farm ∷ []) ≡ Some (OverFarm farm (Answer None))
 unfolding clap_on_literals
 answer_read [] plain = refl
 answer_read (x ∷ xs) plain = simp (not_minus x xs plain)
@@ -29,16 +29,18 @@ unfolding clap_on_literals
 expand_read [] plain = refl
 expand_read (x ∷ xs) plain = simp (not_minus x xs plain)
 
-pub check_read : (farm : List ℕ) → IsPlain farm → reading (codes "check" ∷ farm ∷ []) ≡ Some (OverFarm farm Check)
+pub check_read : (farm : List ℕ) → IsPlain farm → reading (codes "check" ∷ farm ∷ []) ≡ Some (OverFarm farm (Check None))
 unfolding clap_on_literals
 check_read [] plain = refl
 check_read (x ∷ xs) plain = simp (not_minus x xs plain)
 
--- work over a plain farm file is read
-pub plain_read : (farm : List ℕ) (work : Work) → IsPlain farm → reading (name_of work ∷ farm ∷ []) ≡ Some (OverFarm farm work)
-plain_read farm Answer plain = answer_read farm plain
-plain_read farm Expand plain = expand_read farm plain
-plain_read farm Check plain = check_read farm plain
+-- work over a plain farm file is read, without a disk
+pub plain_read : (farm : List ℕ) (work : Work) → IsPlain farm → disk_of work ≡ None → reading (name_of work ∷ farm ∷ []) ≡ Some (OverFarm farm work)
+plain_read farm (Answer None) plain none = answer_read farm plain
+plain_read farm (Answer (Some disk)) plain none = cc
+plain_read farm Expand plain none = expand_read farm plain
+plain_read farm (Check None) plain none = check_read farm plain
+plain_read farm (Check (Some disk)) plain none = cc
 
 -- words with a fault have no reading
 pub no_reading : (words : List (List ℕ)) → is_empty (fault_of farm_app words) ≡ false → reading words ≡ None

@@ -7,3 +7,4 @@ mod OptionLemmas
 mod ReadingLemmas
 mod SigningLemmas
 mod ValueLemmas
+pub mod DiskFormLemmas

@@ -1,5 +1,6 @@
 -- The command that matches name.
-use Rattle.std.proofs.Common.{◌≡◌, ◌∙◌, refl, sym, ap, List, Option, Some, None, Box, option_map, option_and_then, codes}
+use Rattle.std.proofs.Common.{◌≡◌, ◌∙◌, sym, ap, List, Option, Some, None, Box, option_map, option_and_then, codes}
+use Rattle.std.specs.Borrow.{Bor}
 use Rattle.std.specs.Box.{box_value}
 use Rattle.clap.specs.Words.{Row, Text, first_of, first_value, found_of, rows_of, subcommand_rows, subcommand_rows_of, subcommand_name_of}
 use Rattle.clap.specs.declared.ArgMatches.{ArgMatches}
@@ -28,10 +29,17 @@ command_met m inner name is = ap (option_and_then command_in) is
 pub value_met : (m : ArgMatches) (id : Text) (value : Option Text) → value ≡ first_value (found_of m) id → value ≡ first_of id (rows_of (found_of m))
 value_met m id value is = is ∙ first_value-rows (found_of m) id
 
--- no work has this name
-pub work_unnamed : (name : Text) (rows : List Row) → None ≡ work_named name → work_in name rows ≡ None
-work_unnamed name rows none = none_over (first_of (codes "FARM") rows)
-  where
-    none_over : (farm : Option Text) → option_and_then (λ f. option_map (λ work. OverFarm f work) (work_named name)) farm ≡ None
-    none_over None = refl
-    none_over (Some f) = ap (option_map (λ work. OverFarm f work)) (sym none)
+-- the work over the values that are given
+pub work_given : (name farm : Text) (disk : Option Text) (rows : List Row) → Some farm ≡ first_of (codes "FARM") rows → disk ≡ first_of (codes "disk") rows
+    → work_in name rows ≡ option_map (λ work. OverFarm farm work) (work_named name disk)
+work_given name farm disk rows has gives =
+    ap (option_and_then (λ (f : Text). option_map (λ work. OverFarm f work) (work_named name (first_of (codes "disk") rows)))) (sym has)
+    ∙ ap (λ (d : Option Text). option_map (λ work. OverFarm farm work) (work_named name d)) (sym gives)
+
+pub farm_missing : (name : Text) (rows : List Row) → None ≡ first_of (codes "FARM") rows → work_in name rows ≡ None
+farm_missing name rows none =
+    ap (option_and_then (λ (f : Text). option_map (λ work. OverFarm f work) (work_named name (first_of (codes "disk") rows)))) (sym none)
+
+-- an option that is told as one of texts
+pub texts_met : (m : ArgMatches) (id : Text) (value : Option (Bor Text)) → option_map (λ t. t.now) value ≡ first_value (found_of m) id → option_map (λ t. t.now) value ≡ first_of id (rows_of (found_of m))
+texts_met m id value is = is ∙ first_value-rows (found_of m) id

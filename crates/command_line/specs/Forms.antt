@@ -1,7 +1,7 @@
 -- The lists of words that say a command, by the usual reading of `-` and `--`
 -- (https://pubs.opengroup.org/onlinepubs/9799919799/basedefs/V1_chap12.html).
-use Rattle.std.specs.Prelude.{◌≡◌, ◌⊎◌, ℕ, List, [], ◌∷◌, codes}
-use Rattle.command_line.specs.Words.{IsPlain, name_of}
+use Rattle.std.specs.Prelude.{◌≡◌, ◌⊎◌, ℕ, List, [], ◌∷◌, ◌++◌, codes, Option, Some, None}
+use Rattle.command_line.specs.Words.{IsPlain, disk_of, name_of}
 use Rattle.command_line.specs.declared.command.Work.{Work}
 
 -- the word may stand for a value as it is: it does not begin with `-`, or is `-` alone
@@ -13,7 +13,26 @@ abbrev pub GivesValue : List ℕ → List (List ℕ) → Type 0
 GivesValue value words =
     (IsValue value × (words ≡ value ∷ [])) ⊎ ((words ≡ codes "--" ∷ value ∷ []) ⊎ (IsValue value × (words ≡ value ∷ codes "--" ∷ [])))
 
--- the words are the name of this work, and then give its farm file
+-- the words give the disk: its name behind `--disk`, or behind `--disk=`
+abbrev pub GivesDisk : List ℕ → List (List ℕ) → Type 0
+GivesDisk disk words = (IsValue disk × (words ≡ codes "--disk" ∷ disk ∷ [])) ⊎ (words ≡ (codes "--disk=" ++ disk) ∷ [])
+
+-- there are no words, or a last `--`
+abbrev pub EndsOptions : List (List ℕ) → Type 0
+EndsOptions words = (words ≡ []) ⊎ (words ≡ codes "--" ∷ [])
+
+-- the words give the disk and then the farm file, or the farm file and then the disk
+abbrev pub GivesBoth : List ℕ → List ℕ → List (List ℕ) → Type 0
+GivesBoth farm disk words =
+    (given : List (List ℕ)) × (rest : List (List ℕ)) × GivesDisk disk given
+    × (((words ≡ given ++ rest) × GivesValue farm rest) ⊎ (IsValue farm × (words ≡ farm ∷ given ++ rest) × EndsOptions rest))
+
+-- the words give the farm file, and the disk where there is one
+abbrev pub Gives : List ℕ → Option (List ℕ) → List (List ℕ) → Type 0
+Gives farm None words = GivesValue farm words
+Gives farm (Some disk) words = GivesBoth farm disk words
+
+-- the words are the name of this work, and then give its farm file and its disk
 abbrev pub SaysWork : List ℕ → Work → List (List ℕ) → Type 0
 SaysWork farm work [] = ⊥
-SaysWork farm work (first ∷ rest) = (first ≡ name_of work) × GivesValue farm rest
+SaysWork farm work (first ∷ rest) = (first ≡ name_of work) × Gives farm (disk_of work) rest

@@ -5,7 +5,7 @@ use Rattle.clap.specs.declared.builder.Command.{Command as Program}
 use Rattle.clap.specs.declared.builder.command.Command.TheViews.{out-Command}
 use Rattle.clap.specs.declared.error.ErrorKind.{ErrorKind}
 use Rattle.clap.specs.declared.error.ErrorKind.TheVariants.{OutOfMemory}
-use Rattle.command_line.specs.Words.{with_farm}
+use Rattle.command_line.specs.Words.{with_disk, with_farm}
 use Rattle.command_line.specs.declared.reading.WordsFault.{WordsFault}
 use Rattle.command_line.specs.declared.reading.WordsFault.TheVariants.{Usage, NoMemory}
 
@@ -16,6 +16,10 @@ IsPlainLeaf app program = (app_of program ≡ app) × ((out-Command program).has
 -- the built command has this name, and takes FARM and nothing else
 abbrev pub IsLeaf : List ℕ → Program → Type 0
 IsLeaf name program = IsPlainLeaf (with_farm name) program
+
+-- the built command has this name, and takes FARM and `--disk` and nothing else
+abbrev pub IsDiskLeaf : List ℕ → Program → Type 0
+IsDiskLeaf name program = IsPlainLeaf (with_disk name) program
 
 -- a text for the user comes only of an error other than want of memory
 abbrev pub TellsOf : ErrorKind → WordsFault → Type 0

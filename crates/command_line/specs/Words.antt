@@ -1,10 +1,10 @@
 -- The command line of the farm program, over what the crate clap (https://docs.rs/clap) is stated to read of words.
-use Rattle.std.specs.Prelude.{◌≢◌, ℕ, Bool, true, List, Option, Some, None, codes, if◌then◌else◌, option_map, option_and_then, slice_get}
+use Rattle.std.specs.Prelude.{◌≢◌, ℕ, Bool, true, false, List, Option, Some, None, codes, if◌then◌else◌, option_map, option_and_then, slice_get}
 use Rattle.std.specs.Str.{bytes_eq}
 use Rattle.clap.specs.Words.{App, Row, Rule, first_of, new_app, new_rule, subcommand_of, with_rule, with_subcommand, fault_of}
 use Rattle.clap.specs.Walk.{is_empty}
 use Rattle.command_line.specs.Load.{bulk_app, load_in}
-use Rattle.command_line.specs.Signing.{sign_app, signing_in}
+use Rattle.command_line.specs.Signing.{option_rule, sign_app, signing_in}
 use Rattle.command_line.specs.declared.command.Command.{Command}
 use Rattle.command_line.specs.declared.command.Command.TheVariants.{OverFarm, Sign, Bulk}
 use Rattle.command_line.specs.declared.command.Work.{Work}
@@ -18,6 +18,14 @@ farm_argument = record (new_rule (codes "FARM")) { required = true; value_names 
 abbrev pub with_farm : List ℕ → App
 with_farm name = with_rule (new_app name) farm_argument
 
+-- `--disk`: an option with one value, which may be left out
+abbrev pub disk_option : Rule
+disk_option = option_rule (codes "disk") false
+
+-- a command of this name, which takes FARM and `--disk`, and nothing else
+abbrev pub with_disk : List ℕ → App
+with_disk name = with_rule (with_farm name) disk_option
+
 -- the program without its commands: its words come without its name, and have to name a command
 abbrev pub bare_app : App
 bare_app =
@@ -27,20 +35,21 @@ bare_app =
 -- the program with its five commands
 abbrev pub farm_app : App
 farm_app =
-    with_subcommand (with_subcommand (with_subcommand (with_subcommand (with_subcommand bare_app (with_farm (codes "answer")).top) (with_farm (codes "expand")).top) (with_farm (codes "check")).top)
+    with_subcommand (with_subcommand (with_subcommand (with_subcommand (with_subcommand bare_app (with_disk (codes "answer")).top) (with_farm (codes "expand")).top) (with_disk (codes "check")).top)
     sign_app.top) bulk_app.top
 
--- the work of a name
-abbrev pub work_named : List ℕ → Option Work
-work_named name =
-    if bytes_eq name (codes "answer") then Some Answer
+-- the work of a name, with this disk
+abbrev pub work_named : List ℕ → Option (List ℕ) → Option Work
+work_named name disk =
+    if bytes_eq name (codes "answer") then Some (Answer disk)
     else if bytes_eq name (codes "expand") then Some Expand
-    else if bytes_eq name (codes "check") then Some Check
+    else if bytes_eq name (codes "check") then Some (Check disk)
     else None
 
--- the work of a name, over the farm file that is given
+-- the work of a name, over the farm file and the disk that are given
 abbrev pub work_in : List ℕ → List Row → Option Command
-work_in name rows = option_and_then (λ farm. option_map (λ work. OverFarm farm work) (work_named name)) (first_of (codes "FARM") rows)
+work_in name rows =
+    option_and_then (λ farm. option_map (λ work. OverFarm farm work) (work_named name (first_of (codes "disk") rows))) (first_of (codes "FARM") rows)
 
 -- the command of a subcommand's name and matches
 abbrev pub command_in : List ℕ × List Row → Option Command
@@ -59,9 +68,15 @@ reading words = if are_taken words then option_and_then command_in (subcommand_o
 
 -- the name of the command that does this work
 abbrev pub name_of : Work → List ℕ
-name_of Answer = codes "answer"
+name_of (Answer disk) = codes "answer"
 name_of Expand = codes "expand"
-name_of Check = codes "check"
+name_of (Check disk) = codes "check"
+
+-- the disk that it has
+abbrev pub disk_of : Work → Option (List ℕ)
+disk_of (Answer disk) = disk
+disk_of Expand = None
+disk_of (Check disk) = disk
 
 -- the word does not begin with `-` (45)
 abbrev pub IsPlain : List ℕ → Type 0

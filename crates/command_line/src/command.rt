@@ -13,13 +13,13 @@ pub enum Command {
     Bulk { load: Load },
 }
 
-/// What is done over a farm.
-#[derive(Clone, Copy, Debug, PartialEq, Eq)]
+/// What is done over a farm. A disk has a name, and keeps the farm; without one nothing does.
+#[derive(Debug, Drop)]
 pub enum Work {
     /// One connection is served.
-    Answer,
+    Answer { disk: Option<Text> },
     /// Scopes are expanded by the farm's roles.
     Expand,
-    /// The farm file is checked.
-    Check,
+    /// The farm file is checked, and then the disk.
+    Check { disk: Option<Text> },
 }

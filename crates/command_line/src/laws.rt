@@ -1,17 +1,17 @@
 //! What follows from the definitions. The functions do nothing: each contract is a law.
-ghost use Rattle.std.specs.Prelude.{◌≡◌, ◌↔◌, ℕ, List, [], ◌∷◌, Some, All, IsUtf8};
+ghost use Rattle.std.specs.Prelude.{◌≡◌, ◌↔◌, ℕ, List, [], ◌∷◌, Some, None, All, IsUtf8};
 ghost use Rattle.command_line.specs.Forms.{SaysWork};
-ghost use Rattle.command_line.specs.Words.{reading, name_of, IsPlain};
+ghost use Rattle.command_line.specs.Words.{disk_of, reading, name_of, IsPlain};
 ghost use Rattle.command_line.specs.declared.command.Command.TheVariants.{OverFarm};
 ghost use Rattle.command_line.specs.declared.command.Work.{Work as AnyWork};
 
-/// Each work over a farm is read with any farm file whose name does not begin with `-`.
+/// Each work over a farm that no disk keeps is read with any farm file whose name does not begin with `-`.
 pub fn plain_words_are_read()
-    ensures { (farm : List ℕ) (work : AnyWork) → IsPlain farm → reading (name_of work ∷ farm ∷ []) ≡ Some (OverFarm farm work) }
+    ensures { (farm : List ℕ) (work : AnyWork) → IsPlain farm → disk_of work ≡ None → reading (name_of work ∷ farm ∷ []) ≡ Some (OverFarm farm work) }
 {}
 
 /// Of all texts exactly these are read as work over a farm: the work's name, and then the farm file, alone, after `--`, or before a
-/// last `--`.
+/// last `--`; and where the work has a disk, `--disk` with its name before or after the farm file, and before any `--`.
 pub fn words_that_say_a_command_are_read()
     ensures { (words : List (List ℕ)) (farm : List ℕ) (work : AnyWork) → All IsUtf8 words
         → ((reading words ≡ Some (OverFarm farm work)) ↔ SaysWork farm work words) }

@@ -2,9 +2,9 @@
 ghost use Rattle.std.specs.Prelude.{◌≡◌, false, IfOk, codes};
 ghost use Rattle.clap.specs.Words.{app_of, new_app, rule_of};
 ghost use Rattle.command_line.specs.Load.{bulk_app};
-ghost use Rattle.command_line.specs.Parts.{IsLeaf, IsPlainLeaf};
+ghost use Rattle.command_line.specs.Parts.{IsDiskLeaf, IsLeaf, IsPlainLeaf};
 ghost use Rattle.command_line.specs.Signing.{option_rule, request_fields, sign_app, with_fields};
-ghost use Rattle.command_line.specs.Words.{bare_app, farm_app, farm_argument};
+ghost use Rattle.command_line.specs.Words.{bare_app, disk_option, farm_app, farm_argument};
 
 use clap::{Arg, Command};
 use std::alloc::{AllocError, Global};
@@ -20,12 +20,26 @@ fn farm_file<'a>(alloc: Global) -> Arg<'a>
         .help("The farm file (TOML).")
 }
 
+/// `--disk`, the file that keeps the farm.
+fn disk<'a>(alloc: Global) -> Arg<'a>
+    ensures rule { rule_of result ≡ disk_option }
+    ensures local { result.global ≡ false }
+{
+    option(
+        alloc,
+        "disk",
+        false,
+        "The file that keeps the farm's records. It is made where it is not there.",
+    )
+}
+
 fn answer<'a>(alloc: Global) -> Result<Command<'a>, AllocError>
-    ensures { IfOk result (IsLeaf (codes "answer")) }
+    ensures { IfOk result (IsDiskLeaf (codes "answer")) }
 {
     Command::new(alloc, "answer")
         .about("Serves one connection: requests on standard input, replies on standard output.")
-        .arg(farm_file(alloc))
+        .arg(farm_file(alloc))?
+        .arg(disk(alloc))
 }
 
 fn expand<'a>(alloc: Global) -> Result<Command<'a>, AllocError>
@@ -37,11 +51,12 @@ fn expand<'a>(alloc: Global) -> Result<Command<'a>, AllocError>
 }
 
 fn check<'a>(alloc: Global) -> Result<Command<'a>, AllocError>
-    ensures { IfOk result (IsLeaf (codes "check")) }
+    ensures { IfOk result (IsDiskLeaf (codes "check")) }
 {
     Command::new(alloc, "check")
-        .about("Checks the farm file and counts what it has.")
-        .arg(farm_file(alloc))
+        .about("Checks the farm file and the disk, and counts what they have.")
+        .arg(farm_file(alloc))?
+        .arg(disk(alloc))
 }
 
 /// `--name`, with one value.

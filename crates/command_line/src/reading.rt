@@ -1,5 +1,5 @@
 //! What the words ask for, or clap's text where they ask for nothing.
-ghost use Rattle.std.specs.Prelude.{◌≡◌, Some, MatchResult, Option, List, map, option_and_then, string_bytes};
+ghost use Rattle.std.specs.Prelude.{◌≡◌, Some, IfOk, MatchResult, Option, List, map, option_map, option_and_then, string_bytes};
 ghost use Rattle.clap.specs.Words.{found_of, kind_of, rows_of, subcommand_rows_of};
 ghost use Rattle.command_line.specs.Parts.{TellsOf};
 ghost use Rattle.command_line.specs.Refusal.{Refuses, RefusesWords};
@@ -83,32 +83,48 @@ fn command_of(alloc: Global, matches: &ArgMatches<'_>) -> Result<Command, WordsF
     read_work(alloc, name, inner)
 }
 
-/// The work of this name, over the farm file that the matches give.
+/// The work of this name, over the farm file and the disk that the matches give.
 fn read_work(alloc: Global, name: &str, matches: &ArgMatches<'_>) -> Result<Command, WordsFault>
     ensures { MatchResult result
         (λ command. work_in name.now (rows_of (found_of matches.now)) ≡ Some command)
         (Refuses (work_in name.now (rows_of (found_of matches.now)))) }
 {
-    let Some(work) = work_named(name) else {
-        return Err(WordsFault::usage(alloc, "error: the words name no command\n"));
-    };
     let Some(farm) = matches.get_str("FARM") else {
         return Err(WordsFault::usage(alloc, "error: the words name no farm file\n"));
     };
-    match Text::from_str(alloc, farm) {
-        Ok(farm) => Ok(Command::OverFarm { farm, work }),
-        Err(AllocError) => Err(WordsFault::NoMemory),
+    let (farm, disk) = match texts_of(alloc, farm, matches.get_str("disk")) {
+        Ok(texts) => texts,
+        Err(AllocError) => return Err(WordsFault::NoMemory),
+    };
+    match work_named(name, disk) {
+        Some(work) => Ok(Command::OverFarm { farm, work }),
+        None => Err(WordsFault::usage(alloc, "error: the words name no command\n")),
     }
 }
 
-/// The work of this name.
-fn work_named(name: &str) -> Option<Work>
-    ensures { result ≡ work_named name.now }
+/// Copies of a text, and of another where there is one.
+fn texts_of(
+    alloc: Global,
+    one: &str,
+    other: Option<&str>,
+) -> Result<(Text, Option<Text>), AllocError>
+    ensures { IfOk result (λ texts. (texts.0 ≡ one.now) × (texts.1 ≡ option_map (λ t. t.now) other.entry)) }
+{
+    let one = Text::from_str(alloc, one)?;
+    match other {
+        Some(other) => Ok((one, Some(Text::from_str(alloc, other)?))),
+        None => Ok((one, None)),
+    }
+}
+
+/// The work of this name, with this disk.
+fn work_named(name: &str, disk: Option<Text>) -> Option<Work>
+    ensures { result ≡ work_named name.now disk }
 {
     match name {
-        "answer" => Some(Work::Answer),
+        "answer" => Some(Work::Answer { disk }),
         "expand" => Some(Work::Expand),
-        "check" => Some(Work::Check),
+        "check" => Some(Work::Check { disk }),
         _ => None,
     }
 }

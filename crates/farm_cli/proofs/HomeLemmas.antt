@@ -1,5 +1,5 @@
 -- All that a run asked for is home again.
-use Rattle.std.proofs.Common.{◌≡◌, ℕ, List, Option, refl, sym, ◌∙◌, inl, inr}
+use Rattle.std.proofs.Common.{◌≡◌, ℕ, List, Option, Some, None, refl, sym, ◌∙◌, inl, inr}
 use Rattle.command_line.specs.declared.command.Command.{Command}
 use Rattle.command_line.specs.declared.command.Command.TheVariants.{OverFarm, Sign, Bulk}
 use Rattle.command_line.specs.declared.command.Work.{Work}
@@ -8,11 +8,14 @@ use Rattle.farm_machine.specs.declared.config.Config.{Config}
 use Rattle.farm_cli.specs.declared.lending.Lending.{Lending}
 use Rattle.farm_cli.specs.declared.lending.Lending.TheVariants.{Ready, Out, Back, Untold}
 use Rattle.farm_cli.specs.declared.status.Status.{Status}
-use Rattle.farm_cli.specs.declared.status.Status.TheVariants.{Done, Usage, FarmFile, Input, Opening, Read, Write, NoMemory, Wire}
+use Rattle.farm_cli.specs.declared.status.Status.TheVariants.{Done, Usage, FarmFile, Input, Opening, Disk, Read, Write, NoMemory, Wire, Damaged}
+use Rattle.farm_cli.specs.Checking.{CheckedOver}
+use Rattle.farm_cli.specs.Serving.{ConversedOver}
 use Rattle.farm_cli.specs.Home.{IsHome, AreHome, AllHome}
 use Rattle.farm_cli.specs.House.{after_giving, after_return, WasLent, Files, unopened, out, back, untold, after_opened, after_closing, WasOpened, Lendings}
 use Rattle.farm_cli.specs.Notes.{TellsLine, TellsStatus}
-use Rattle.farm_cli.specs.Run.{LeavesConsole, UsedConsole, Obeyed, RanOverFile, RanCommand, Ran}
+use Rattle.farm_cli.specs.Used.{LeavesConsole, UsedConsole}
+use Rattle.farm_cli.specs.Run.{DidOver, Obeyed, RanOverFile, RanCommand, Ran}
 use Rattle.http_wire.specs.Calls.{LinkState}
 use Rattle.farm_cli.specs.Views.{Views}
 
@@ -46,56 +49,92 @@ AreHome-opened old new name opened closed file = record {
   not_out = λ e. out_from_opened old closed (sym file.returned ∙ e);
 }
 
--- the console, the clock and the draws are home
-record ConsoleHome {F C N T I : Type 0} (old new : Lendings F C N T I) : Type 0 where
+-- a disk, the console, the clock and the draws are home
+record ConsoleHome {F S C N T I : Type 0} (old new : Lendings F S C N T I) : Type 0 where
+  disk : AreHome old.disk new.disk
   console : IsHome old.console new.console
   clock : IsHome old.clock new.clock
   draws : IsHome old.draws new.draws
 
-ConsoleHome-left : {F C N T I : Type 0} (old new : Lendings F C N T I) → LeavesConsole old new → ConsoleHome old new
+ConsoleHome-left : {F S C N T I : Type 0} (old new : Lendings F S C N T I) → LeavesConsole old new → ConsoleHome old new
 ConsoleHome-left old new left = record {
+  disk = AreHome-same old.disk new.disk left.disk;
   console = IsHome-same old.console new.console left.console;
   clock = IsHome-same old.clock new.clock left.clock;
   draws = IsHome-same old.draws new.draws left.draws;
 }
 
-ConsoleHome-used : {F C N T I : Type 0} (views : Views F C N T I) (old new : Lendings F C N T I) (Did : LinkState → LinkState → Type 0) → UsedConsole views old new Did → ConsoleHome old new
+ConsoleHome-used : {F S C N T I : Type 0} (views : Views F S C N T I) (old new : Lendings F S C N T I) (Did : LinkState → LinkState → Type 0) → UsedConsole views old new Did → ConsoleHome old new
 ConsoleHome-used views old new Did used = record {
+  disk = AreHome-same old.disk new.disk used.disk;
   console = IsHome-lent old.console new.console used.given used.back used.console;
   clock = IsHome-same old.clock new.clock used.clock;
   draws = IsHome-same old.draws new.draws used.draws;
 }
 
-ConsoleHome-obeyed : {F C N T I : Type 0} (views : Views F C N T I) (old new : Lendings F C N T I) (config : Config) (work : Work) (status : Status) → Obeyed views old new config work status → ConsoleHome old new
-ConsoleHome-obeyed views old new config Answer status ran = record {
+ConsoleHome-conversed_over : {F S C N T I : Type 0} (views : Views F S C N T I) (old new : Lendings F S C N T I) (before now : ℕ) (config : Config) (name : List ℕ) (status : Status) → ConversedOver views old new before now config name status → ConsoleHome old new
+ConsoleHome-conversed_over views old new before now config name status ran = record {
+  disk = AreHome-opened old.disk new.disk name ran.disk_given ran.disk_back ran.disk;
   console = IsHome-lent old.console new.console ran.console_given ran.console_back ran.console;
   clock = IsHome-lent old.clock new.clock ran.clock_given ran.clock_back ran.clock;
   draws = IsHome-lent old.draws new.draws ran.draws_given ran.draws_back ran.draws;
 }
-ConsoleHome-obeyed views old new config Expand status used = ConsoleHome-used views old new _ used
-ConsoleHome-obeyed views old new config Check status used = ConsoleHome-used views old new _ used
 
-ConsoleHome-over : {F C N T I : Type 0} (views : Views F C N T I) (old new : Lendings F C N T I) (work : Work) (opened closed : F) (status : Status) → RanOverFile views old new work opened closed status → ConsoleHome old new
-ConsoleHome-over views old new work opened closed status (inl ran) = ConsoleHome-obeyed views old new ran.0 work status ran.3
-ConsoleHome-over views old new work opened closed status (inr ran) = ConsoleHome-left old new ran.1
+ConsoleHome-checked_over : {F S C N T I : Type 0} (views : Views F S C N T I) (old new : Lendings F S C N T I) (before now : ℕ) (config : Config) (name : List ℕ) (status : Status) → CheckedOver views old new before now config name status → ConsoleHome old new
+ConsoleHome-checked_over views old new before now config name status ran = record {
+  disk = AreHome-opened old.disk new.disk name ran.disk_given ran.disk_back ran.disk;
+  console = IsHome-lent old.console new.console ran.given ran.back ran.console;
+  clock = IsHome-same old.clock new.clock ran.clock;
+  draws = IsHome-same old.draws new.draws ran.draws;
+}
 
-ConsoleHome-command : {F C N T I : Type 0} (views : Views F C N T I) (old new : Lendings F C N T I) (before now : ℕ) (command : Command) (status : Status) → RanCommand views old new before now command status → ConsoleHome old new
+ConsoleHome-did : {F S C N T I : Type 0} (views : Views F S C N T I) (old new : Lendings F S C N T I) (before now : ℕ) (name : List ℕ) (status : Status) (Did : Type 0) → (Did → ConsoleHome old new) → DidOver views old new before now name status Did → ConsoleHome old new
+ConsoleHome-did views old new before now name status Did home (inl did) = home did
+ConsoleHome-did views old new before now name status Did home (inr (inl ran)) = record {
+  disk = AreHome-opened old.disk new.disk name ran.given ran.back ran.disk;
+  console = IsHome-same old.console new.console ran.console;
+  clock = IsHome-same old.clock new.clock ran.clock;
+  draws = IsHome-same old.draws new.draws ran.draws;
+}
+ConsoleHome-did views old new before now name status Did home (inr (inr ran)) = ConsoleHome-left old new ran.left
+
+ConsoleHome-obeyed : {F S C N T I : Type 0} (views : Views F S C N T I) (old new : Lendings F S C N T I) (before now : ℕ) (config : Config) (work : Work) (status : Status) → Obeyed views old new before now config work status → ConsoleHome old new
+ConsoleHome-obeyed views old new before now config (Answer None) status ran =
+    let did = ran.1 in
+    record {
+      disk = AreHome-same old.disk new.disk did.disk;
+      console = IsHome-lent old.console new.console did.console_given did.console_back did.console;
+      clock = IsHome-lent old.clock new.clock did.clock_given did.clock_back did.clock;
+      draws = IsHome-lent old.draws new.draws did.draws_given did.draws_back did.draws;
+    }
+ConsoleHome-obeyed views old new before now config (Answer (Some name)) status ran =
+    ConsoleHome-did views old new before now name status _ (ConsoleHome-conversed_over views old new before now config name status) ran
+ConsoleHome-obeyed views old new before now config Expand status ran = ConsoleHome-used views old new _ ran.1
+ConsoleHome-obeyed views old new before now config (Check None) status ran = ConsoleHome-used views old new _ ran.1
+ConsoleHome-obeyed views old new before now config (Check (Some name)) status ran =
+    ConsoleHome-did views old new before now name status _ (ConsoleHome-checked_over views old new before now config name status) ran
+
+ConsoleHome-over : {F S C N T I : Type 0} (views : Views F S C N T I) (old new : Lendings F S C N T I) (before now : ℕ) (work : Work) (opened closed : F) (status : Status) → RanOverFile views old new before now work opened closed status → ConsoleHome old new
+ConsoleHome-over views old new before now work opened closed status (inl ran) = ConsoleHome-obeyed views old new before now ran.0 work status ran.3
+ConsoleHome-over views old new before now work opened closed status (inr ran) = ConsoleHome-left old new ran.2
+
+ConsoleHome-command : {F S C N T I : Type 0} (views : Views F S C N T I) (old new : Lendings F S C N T I) (before now : ℕ) (command : Command) (status : Status) → RanCommand views old new before now command status → ConsoleHome old new
 ConsoleHome-command views old new before now (OverFarm farm work) status (inl ran) = ConsoleHome-left old new ran.others
-ConsoleHome-command views old new before now (OverFarm farm work) status (inr ran) = ConsoleHome-over views old new work ran.opened ran.closed status ran.ran
+ConsoleHome-command views old new before now (OverFarm farm work) status (inr ran) = ConsoleHome-over views old new before now work ran.opened ran.closed status ran.ran
 ConsoleHome-command views old new before now (Sign signing) status ran = ConsoleHome-used views old new _ ran.used
 ConsoleHome-command views old new before now (Bulk load) status ran = ConsoleHome-used views old new _ ran.used
 
-ConsoleHome-ran : {F C N T I : Type 0} (views : Views F C N T I) (old new : Lendings F C N T I) (before now : ℕ) (said : Option Command) (status : Status) → Ran views old new before now said status → ConsoleHome old new
+ConsoleHome-ran : {F S C N T I : Type 0} (views : Views F S C N T I) (old new : Lendings F S C N T I) (before now : ℕ) (said : Option Command) (status : Status) → Ran views old new before now said status → ConsoleHome old new
 ConsoleHome-ran views old new before now said status (inl ran) = ConsoleHome-left old new ran.others
 ConsoleHome-ran views old new before now said status (inr ran) = ConsoleHome-command views old new before now ran.0 status ran.2
 
-AreHome-command : {F C N T I : Type 0} (views : Views F C N T I) (old new : Lendings F C N T I) (before now : ℕ) (command : Command) (status : Status) → RanCommand views old new before now command status → AreHome old.file new.file
+AreHome-command : {F S C N T I : Type 0} (views : Views F S C N T I) (old new : Lendings F S C N T I) (before now : ℕ) (command : Command) (status : Status) → RanCommand views old new before now command status → AreHome old.file new.file
 AreHome-command views old new before now (OverFarm farm work) status (inl ran) = AreHome-same old.file new.file ran.file
 AreHome-command views old new before now (OverFarm farm work) status (inr ran) = AreHome-opened old.file new.file farm ran.opened ran.closed ran.file
 AreHome-command views old new before now (Sign signing) status ran = AreHome-same old.file new.file ran.file
 AreHome-command views old new before now (Bulk load) status ran = AreHome-same old.file new.file ran.file
 
-AreHome-ran : {F C N T I : Type 0} (views : Views F C N T I) (old new : Lendings F C N T I) (before now : ℕ) (said : Option Command) (status : Status) → Ran views old new before now said status → AreHome old.file new.file
+AreHome-ran : {F S C N T I : Type 0} (views : Views F S C N T I) (old new : Lendings F S C N T I) (before now : ℕ) (said : Option Command) (status : Status) → Ran views old new before now said status → AreHome old.file new.file
 AreHome-ran views old new before now said status (inl ran) = AreHome-same old.file new.file ran.file
 AreHome-ran views old new before now said status (inr ran) = AreHome-command views old new before now ran.0 status ran.2
 
@@ -108,18 +147,21 @@ IsHome-status written faults old new Usage told = IsHome-told written faults old
 IsHome-status written faults old new FarmFile told = IsHome-told written faults old new told.0 told.2
 IsHome-status written faults old new Input told = IsHome-told written faults old new told.0 told.2
 IsHome-status written faults old new Opening told = IsHome-told written faults old new told.0 told.2
+IsHome-status written faults old new Disk told = IsHome-told written faults old new told.0 told.2
+IsHome-status written faults old new Damaged told = IsHome-told written faults old new told.0 told.2
 IsHome-status written faults old new Read told = IsHome-told written faults old new told.0 told.2
 IsHome-status written faults old new Write told = IsHome-told written faults old new told.0 told.2
 IsHome-status written faults old new NoMemory told = IsHome-told written faults old new told.0 told.2
 IsHome-status written faults old new Wire told = IsHome-told written faults old new told.0 told.2
 
-pub AllHome-from_run : {F C N T I : Type 0} (views : Views F C N T I) (old new : Lendings F C N T I) (before now : ℕ) (said : Option Command) (status : Status)
+pub AllHome-from_run : {F S C N T I : Type 0} (views : Views F S C N T I) (old new : Lendings F S C N T I) (before now : ℕ) (said : Option Command) (status : Status)
     → Ran views old new before now said status → TellsStatus views.notes_written views.notes_faults old.notes new.notes status
     → AllHome old new
 AllHome-from_run views old new before now said status ran told =
     let home = ConsoleHome-ran views old new before now said status ran in
     record {
       file = AreHome-ran views old new before now said status ran;
+      disk = home.disk;
       console = home.console;
       notes = IsHome-status views.notes_written views.notes_faults old.notes new.notes status told;
       clock = home.clock;

@@ -1,6 +1,12 @@
 -- What the calls of a run leave together.
-use Rattle.std.proofs.Common.{◌≡◌, ℕ, ◌+◌, List, [], Option, refl, sym, subst, ◌∙◌, inl, inr}
+use Rattle.std.proofs.Common.{◌≡◌, ℕ, ◌+◌, suc, false, Bool, List, [], ◌∷◌, ◌++◌, length, Option, Some, None, refl, sym, ap, subst, ◌∙◌, inl, inr}
 use Rattle.history.specs.Asks.{AsksInTurn, LeadsAlone}
+use Rattle.history.specs.Histories.{end_state}
+use Rattle.farm_record.specs.declared.change.Change.{Change}
+use Rattle.farm_rows.specs.Contents.{Contents}
+use Rattle.farm_core.specs.Farm.{HoldsHistory, state_of}
+use Rattle.farm_core.specs.Records.{AreRecords, Recorded}
+use Rattle.farm_core.proofs.HoldLemmas.{holds-opened}
 use Rattle.command_line.specs.declared.command.Command.{Command}
 use Rattle.command_line.specs.declared.command.Command.TheVariants.{OverFarm, Sign, Bulk}
 use Rattle.command_line.specs.declared.command.Work.{Work}
@@ -16,23 +22,37 @@ use Rattle.farm_machine.specs.State.{State}
 use Rattle.farm_machine.specs.Step.{farm_rules}
 use Rattle.farm_machine.specs.declared.reply.Reply.{Reply}
 use Rattle.farm_core.specs.Diskless.{HaveNoDisk}
-use Rattle.farm_server.specs.Served.{Ask, questions_of}
-use Rattle.farm_cli.specs.House.{CanGive, after_giving, after_return, WasLent, after_opened, after_closing, CanOpenAmong, Lendings}
-use Rattle.farm_cli.specs.Run.{LeavesConsole, UsedConsole, Obeyed, RanOverFile, RanLoad, RanSigning, RanCommand, Ran}
-use Rattle.farm_cli.specs.Serving.{IsHistoryOf, Conversed}
+use Rattle.farm_server.specs.Served.{Ask, questions_of, Spoke}
+use Rattle.farm_server.specs.declared.served.Served.{Served}
+use Rattle.farm_cli.specs.Checking.{CheckedOver, counts_disk_text}
+use Rattle.farm_cli.specs.Inputs.{Tells}
+use Rattle.farm_machine.specs.Config.{counts_of}
+use Rattle.farm_machine.specs.declared.config.ConfigCounts.{ConfigCounts}
+use Rattle.farm_cli.specs.Disks.{BeginsFrom, DiskHolds, HasFarm, IsMissing, WasUnopened}
+use Rattle.farm_cli.specs.House.{CanGive, after_giving, after_return, WasLent, after_opened, after_closing, CanOpenAmong, WasOpened, Lendings}
+use Rattle.farm_cli.specs.Used.{LeavesConsole, UsedConsole}
+use Rattle.farm_cli.specs.Run.{DidOver, Obeyed, RanOverFile, RanLoad, RanSigning, RanCommand, Ran}
+use Rattle.farm_cli.specs.Serving.{IsHistoryOf, Conversed, ConversedOver, status_over}
 use Rattle.http_wire.specs.Calls.{LinkState}
-use Rattle.farm_cli.specs.Views.{Views}
+use Rattle.farm_cli.specs.Views.{Views, outside_of, talk_of}
 use Rattle.farm_cli.specs.declared.status.Status.{Status}
 use Rattle.std.specs.Prelude.{Ok}
 
+-- records one for one are as many
+records-length : (changes : List Change) (bodies : List (List ℕ)) → AreRecords changes bodies → length changes ≡ length bodies
+records-length [] bodies are = sym (ap length are)
+records-length (change ∷ changes) [] are = absurd are
+records-length (change ∷ changes) (body ∷ bodies) are = ap suc (records-length changes bodies are.1)
+
 -- three objects were lent, and came back
-pub record WereLent {F C N T I : Type 0} (old new : Lendings F C N T I) (console console' : C) (clock clock' : T) (draws draws' : I) : Type 0 where
+pub record WereLent {F S C N T I : Type 0} (old new : Lendings F S C N T I) (console console' : C) (clock clock' : T) (draws draws' : I) : Type 0 where
   pub console_lent : WasLent old.console new.console console console'
   pub clock_lent : WasLent old.clock new.clock clock clock'
   pub draws_lent : WasLent old.draws new.draws draws draws'
+  pub disk_left : new.disk ≡ old.disk
 
 -- one after another
-pub WereLent-from_calls : {F C N T I : Type 0} (l0 l1 l2 l3 l4 l5 l6 : Lendings F C N T I) (console console' : C) (clock clock' : T) (draws draws' : I)
+pub WereLent-from_calls : {F S C N T I : Type 0} (l0 l1 l2 l3 l4 l5 l6 : Lendings F S C N T I) (console console' : C) (clock clock' : T) (draws draws' : I)
     → CanGive l0.console console → l1 ≡ record l0 { console = after_giving l0.console }
     → CanGive l1.clock clock → l2 ≡ record l1 { clock = after_giving l1.clock }
     → CanGive l2.draws draws → l3 ≡ record l2 { draws = after_giving l2.draws }
@@ -44,7 +64,63 @@ WereLent-from_calls l0 l1 l2 l3 l4 l5 l6 console console' clock clock' draws dra
   console_lent = record { could = g1; returned = rw (e6, e5, e4, e3, e2, e1) refl };
   clock_lent = record { could = rw e1 at g2; returned = rw (e6, e5, e4, e3, e2, e1) refl };
   draws_lent = record { could = rw (e2, e1) at g3; returned = rw (e6, e5, e4, e3, e2, e1) refl };
+  disk_left = rw (e6, e5, e4, e3, e2, e1) refl;
 }
+
+-- three objects were lent between the opening of a disk and its return
+pub record LentOver {F S C N T I : Type 0} (old new : Lendings F S C N T I) (name : List ℕ) (disk disk' : S) (console console' : C) (clock clock' : T) (draws draws' : I) : Type 0 where
+  pub disk_lent : WasOpened old.disk new.disk name disk disk'
+  pub console_lent : WasLent old.console new.console console console'
+  pub clock_lent : WasLent old.clock new.clock clock clock'
+  pub draws_lent : WasLent old.draws new.draws draws draws'
+
+pub LentOver-from : {F S C N T I : Type 0} (old l0 l6 new : Lendings F S C N T I) (name : List ℕ) (disk disk' : S) (console console' : C) (clock clock' : T) (draws draws' : I)
+    → CanOpenAmong old.disk name (Ok disk) → l0 ≡ record old { disk = after_opened old.disk } → WereLent l0 l6 console console' clock clock' draws draws'
+    → new ≡ record l6 { disk = after_closing l6.disk disk' } → LentOver old new name disk disk' console console' clock clock' draws draws'
+LentOver-from old l0 l6 new name disk disk' console console' clock clock' draws draws' could opens were closes = record {
+  disk_lent = record { could = could; returned = rw (closes, were.disk_left, opens) refl };
+  console_lent = rw (closes, ← opens) were.console_lent;
+  clock_lent = rw (closes, ← opens) were.clock_lent;
+  draws_lent = rw (closes, ← opens) were.draws_lent;
+}
+
+-- ---- a farm that was opened from a disk
+
+-- the opening of its history
+abbrev pub begun_from : Config → Contents → List Change → ℕ → Opening
+begun_from config contents changes faults = record { state = state_of config contents false; records = changes; faults = faults }
+
+module _ {F S C N T I : Type 0} (views : Views F S C N T I) (old new : Lendings F S C N T I) (before now : ℕ) (name : List ℕ) (set_up config : Config) (contents : Contents) (recorded : Recorded S)
+    (has : HasFarm views old new before now name set_up config contents recorded) where
+  -- the opening of its history
+  pub has_opening : Opening
+  has_opening = begun_from config contents has.opened.replays.changes (views.disk_faults has.given)
+
+  pub has_begun : BeginsFrom views has.given set_up has_opening
+  unfolding has_opening
+  has_begun = record {
+    config_is = has.config_is;
+    at_work = refl;
+    faults = refl;
+    leaves = has.opened.replays.leaves;
+    bodies = has.opened.bodies;
+    recorded = has.opened.replays.recorded;
+    opens = has.opened.opens;
+  }
+
+  -- it holds its history, which is empty
+  pub has_held : HoldsHistory views.disk_tells (views.disk_contents recorded.disk) recorded.end (views.disk_faults recorded.disk) (state_of config contents recorded.halted) has_opening []
+  unfolding has_opening
+  has_held =
+      let P : ℕ → Bool → Type 0 = λ n b. HoldsHistory views.disk_tells (views.disk_contents recorded.disk) recorded.end n (state_of config contents b) has_opening [] in
+      let begun : P (views.disk_faults has.given) false =
+      holds-opened views.disk_tells (views.disk_contents has.given).bytes (views.disk_contents recorded.disk) recorded.end recorded.count (views.disk_faults has.given) config contents has.opened in
+      subst (λ (n : ℕ). P n recorded.halted) (sym has.kept) (subst (P (views.disk_faults has.given)) (sym has.at_work) begun)
+
+  -- so many records were told of
+  pub has_counted : recorded.count ≡ length has_opening.records
+  unfolding has_opening
+  has_counted = has.opened.counted ∙ sym (records-length has.opened.replays.changes has.opened.bodies has.opened.replays.recorded)
 
 -- the opening of a farm that begins in a state, on no disk
 abbrev pub begun : State → Opening
@@ -76,11 +152,103 @@ IsOwnHistory-from_turns start state old new asks replies fresh turns alone =
       no_disk = both.1;
     }
 
+-- the same of one that a disk keeps, and what the disk holds of it
+pub record HasHistory {F S C N T I : Type 0} (views : Views F S C N T I) (disk : S) (state : State) (opening : Opening) (asks : List Ask) (replies : List Reply) : Type 0 where
+  pub history : IsHistoryOf opening.state asks replies
+  pub ends : state ≡ end_state farm_rules opening.state history.history
+  pub holds : DiskHolds views disk state opening history.history
+
+pub HasHistory-from_turns : {F S C N T I : Type 0} (views : Views F S C N T I) (disk : S) (end : ℕ) (opening : Opening) (state : State) (old new : Opening → List Entry → List ℕ → Type 0) (asks : List Ask) (replies : List Reply)
+    → old opening [] []
+    → AsksInTurn farm_rules opened old new (questions_of asks) replies
+    → ((seen : List Entry) (mine : List ℕ) → new opening seen mine
+    → LeadsAlone farm_rules opening.state seen mine state × HoldsHistory views.disk_tells (views.disk_contents disk) end (views.disk_faults disk) state opening seen)
+    → HasHistory views disk state opening asks replies
+HasHistory-from_turns views disk end opening state old new asks replies fresh turns alone =
+    let gains = turns opening [] [] fresh in
+    let both = alone gains.since gains.gained gains.stands_now in
+    let leads = both.0 in
+    record {
+      history = record {
+        history = gains.since;
+        legal = leads.legal;
+        made = leads.made;
+        asked = rw (← leads.all) gains.asked;
+        replied = rw (← leads.all) gains.replied;
+      };
+      ends = leads.leads;
+      holds = record { end = end; holds = both.1 };
+    }
+
+module _ {F S C N T I : Type 0} (views : Views F S C N T I) (old l0 new : Lendings F S C N T I) (before now0 now : ℕ) (name : List ℕ) (set_up config : Config) (contents : Contents) (recorded : Recorded S)
+    (has : HasFarm views old l0 before now0 name set_up config contents recorded) (back : S) (console console' : C) (clock clock' : T) (draws draws' : I) where
+  -- the console was served over the farm of a disk, and the disk came back
+  pub ConversedOver-from : LentOver old new name has.given back console console' clock clock' draws draws' → now ≡ now0 → (asks : List Ask) (replies : List Reply) (served : Served) (state : State) (status : Status)
+      → Spoke (outside_of views console clock draws) (outside_of views console' clock' draws') asks replies served
+      → HasHistory views back state (has_opening views old l0 before now0 name set_up config contents recorded has) asks replies → status ≡ status_over state.halted served
+      → ConversedOver views old new before now set_up name status
+  ConversedOver-from lent openings asks replies served state status spoke h status_is = record {
+    openings = openings ∙ has.openings;
+    disk_given = has.given;
+    disk_back = back;
+    disk = lent.disk_lent;
+    console_given = console;
+    console_back = console';
+    console = lent.console_lent;
+    clock_given = clock;
+    clock_back = clock';
+    clock = lent.clock_lent;
+    draws_given = draws;
+    draws_back = draws';
+    draws = lent.draws_lent;
+    opening = has_opening views old l0 before now0 name set_up config contents recorded has;
+    begins = has_begun views old l0 before now0 name set_up config contents recorded has;
+    asks = asks;
+    replies = replies;
+    served = served;
+    spoke = spoke;
+    history = h.history;
+    holds = subst (λ (s : State). DiskHolds views back s (has_opening views old l0 before now0 name set_up config contents recorded has) h.history.history) h.ends h.holds;
+    status_is = status_is ∙ ap (λ (s : State). status_over s.halted served) h.ends;
+  }
+
+module _ {F S C N T I : Type 0} (views : Views F S C N T I) (old l0 l1 l2 new : Lendings F S C N T I) (before now0 now : ℕ) (name : List ℕ) (set_up config : Config) (contents : Contents) (recorded : Recorded S)
+    (has : HasFarm views old l0 before now0 name set_up config contents recorded) (console console' : C) where
+  -- the farm of a disk was counted, and the disk came back before the console was asked for
+  pub CheckedOver-from : l1 ≡ record l0 { disk = after_closing l0.disk recorded.disk } → CanGive l1.console console → l2 ≡ record l1 { console = after_giving l1.console }
+      → new ≡ record l2 { console = after_return l2.console console' } → now ≡ now0 → (counts : ConfigCounts) (records tasks : ℕ) (status : Status) → counts ≡ counts_of set_up → records ≡ recorded.count → tasks ≡ length contents.rows
+      → Tells (counts_disk_text counts records tasks) (talk_of views console) (talk_of views console') status → CheckedOver views old new before now set_up name status
+  CheckedOver-from closes gives asks returns openings counts records tasks status counts_is records_is tasks_is told =
+      let opens = has.lends in
+      let opening : Opening = has_opening views old l0 before now0 name set_up config contents recorded has in
+      let counted = records_is ∙ has_counted views old l0 before now0 name set_up config contents recorded has in
+      record {
+        openings = openings ∙ has.openings;
+        disk_given = has.given;
+        disk_back = recorded.disk;
+        disk = record { could = has.could; returned = rw (returns, asks, closes, opens) refl };
+        given = console;
+        back = console';
+        console = record { could = rw (closes, opens) at gives; returned = rw (returns, asks, closes, opens) refl };
+        clock = rw (returns, asks, closes, opens) refl;
+        draws = rw (returns, asks, closes, opens) refl;
+        opening = opening;
+        begins = has_begun views old l0 before now0 name set_up config contents recorded has;
+        kept = has.kept;
+        holds = record {
+          end = recorded.end;
+          holds = subst (λ (b : Bool). HoldsHistory views.disk_tells (views.disk_contents recorded.disk) recorded.end (views.disk_faults recorded.disk) (state_of config contents b) opening []) has.at_work
+              (has_held views old l0 before now0 name set_up config contents recorded has);
+        };
+        did = rw (← counts_is, ← counted, ← tasks_is) told;
+      }
+
 -- ---- what was done with the console is said of any lendings that tell the same of it
 
-Conversed-same : {F C N T I : Type 0} (views : Views F C N T I) (old old' new new' : Lendings F C N T I) (config : Config) (status : Status)
+Conversed-same : {F S C N T I : Type 0} (views : Views F S C N T I) (old old' new new' : Lendings F S C N T I) (config : Config) (status : Status)
     → LeavesConsole old old' → LeavesConsole new new' → Conversed views old new config status → Conversed views old' new' config status
 Conversed-same views old old' new new' config status before after h = record {
+  disk = after.disk ∙ (h.disk ∙ sym before.disk);
   console_given = h.console_given;
   console_back = h.console_back;
   console = rw (before.console, after.console) h.console;
@@ -99,9 +267,10 @@ Conversed-same views old old' new new' config status before after h = record {
   status_is = h.status_is;
 }
 
-UsedConsole-same : {F C N T I : Type 0} (views : Views F C N T I) (old old' new new' : Lendings F C N T I) (Did : LinkState → LinkState → Type 0)
+UsedConsole-same : {F S C N T I : Type 0} (views : Views F S C N T I) (old old' new new' : Lendings F S C N T I) (Did : LinkState → LinkState → Type 0)
     → LeavesConsole old old' → LeavesConsole new new' → UsedConsole views old new Did → UsedConsole views old' new' Did
 UsedConsole-same views old old' new new' Did before after h = record {
+  disk = after.disk ∙ (h.disk ∙ sym before.disk);
   given = h.given;
   back = h.back;
   console = rw (before.console, after.console) h.console;
@@ -110,55 +279,136 @@ UsedConsole-same views old old' new new' Did before after h = record {
   did = h.did;
 }
 
-pub Obeyed-same : {F C N T I : Type 0} (views : Views F C N T I) (old old' new new' : Lendings F C N T I) (config : Config) (work : Work) (status : Status)
-    → LeavesConsole old old' → LeavesConsole new new' → Obeyed views old new config work status → Obeyed views old' new' config work status
-Obeyed-same views old old' new new' config Answer status before after h = Conversed-same views old old' new new' config status before after h
-Obeyed-same views old old' new new' config Expand status before after h = UsedConsole-same views old old' new new' _ before after h
-Obeyed-same views old old' new new' config Check status before after h = UsedConsole-same views old old' new new' _ before after h
-
-LeavesConsole-same : {F C N T I : Type 0} (old old' new new' : Lendings F C N T I) → LeavesConsole old old' → LeavesConsole new new' → LeavesConsole old new → LeavesConsole old' new'
+LeavesConsole-same : {F S C N T I : Type 0} (old old' new new' : Lendings F S C N T I) → LeavesConsole old old' → LeavesConsole new new' → LeavesConsole old new → LeavesConsole old' new'
 LeavesConsole-same old old' new new' before after h = record {
+  disk = after.disk ∙ (h.disk ∙ sym before.disk);
   console = after.console ∙ (h.console ∙ sym before.console);
   clock = after.clock ∙ (h.clock ∙ sym before.clock);
   draws = after.draws ∙ (h.draws ∙ sym before.draws);
 }
 
-LeavesConsole-none : {F C N T I : Type 0} (old : Lendings F C N T I) → LeavesConsole old old
-LeavesConsole-none old = record { console = refl; clock = refl; draws = refl }
+LeavesConsole-none : {F S C N T I : Type 0} (old : Lendings F S C N T I) → LeavesConsole old old
+LeavesConsole-none old = record { disk = refl; console = refl; clock = refl; draws = refl }
 
-RanOverFile-same : {F C N T I : Type 0} (views : Views F C N T I) (old old' new new' : Lendings F C N T I) (work : Work) (opened closed : F) (status : Status)
-    → LeavesConsole old old' → LeavesConsole new new' → RanOverFile views old new work opened closed status → RanOverFile views old' new' work opened closed status
-RanOverFile-same views old old' new new' work opened closed status before after (inl h) =
-    inl (h.0, h.1, h.2, Obeyed-same views old old' new new' h.0 work status before after h.3)
-RanOverFile-same views old old' new new' work opened closed status before after (inr h) = inr (h.0, LeavesConsole-same old old' new new' before after h.1)
+ConversedOver-same : {F S C N T I : Type 0} (views : Views F S C N T I) (old old' new new' : Lendings F S C N T I) (before now : ℕ) (config : Config) (name : List ℕ) (status : Status)
+    → LeavesConsole old old' → LeavesConsole new new' → ConversedOver views old new before now config name status → ConversedOver views old' new' before now config name status
+ConversedOver-same views old old' new new' before now config name status first last h = record {
+  openings = h.openings;
+  disk_given = h.disk_given;
+  disk_back = h.disk_back;
+  disk = rw (first.disk, last.disk) h.disk;
+  console_given = h.console_given;
+  console_back = h.console_back;
+  console = rw (first.console, last.console) h.console;
+  clock_given = h.clock_given;
+  clock_back = h.clock_back;
+  clock = rw (first.clock, last.clock) h.clock;
+  draws_given = h.draws_given;
+  draws_back = h.draws_back;
+  draws = rw (first.draws, last.draws) h.draws;
+  opening = h.opening;
+  begins = h.begins;
+  asks = h.asks;
+  replies = h.replies;
+  served = h.served;
+  spoke = h.spoke;
+  history = h.history;
+  holds = h.holds;
+  status_is = h.status_is;
+}
+
+CheckedOver-same : {F S C N T I : Type 0} (views : Views F S C N T I) (old old' new new' : Lendings F S C N T I) (before now : ℕ) (config : Config) (name : List ℕ) (status : Status)
+    → LeavesConsole old old' → LeavesConsole new new' → CheckedOver views old new before now config name status → CheckedOver views old' new' before now config name status
+CheckedOver-same views old old' new new' before now config name status first last h = record {
+  openings = h.openings;
+  disk_given = h.disk_given;
+  disk_back = h.disk_back;
+  disk = rw (first.disk, last.disk) h.disk;
+  given = h.given;
+  back = h.back;
+  console = rw (first.console, last.console) h.console;
+  clock = last.clock ∙ (h.clock ∙ sym first.clock);
+  draws = last.draws ∙ (h.draws ∙ sym first.draws);
+  opening = h.opening;
+  begins = h.begins;
+  kept = h.kept;
+  holds = h.holds;
+  did = h.did;
+}
+
+WasUnopened-same : {F S C N T I : Type 0} (views : Views F S C N T I) (old old' new new' : Lendings F S C N T I) (before now : ℕ) (name : List ℕ) (status : Status)
+    → LeavesConsole old old' → LeavesConsole new new' → WasUnopened views old new before now name status → WasUnopened views old' new' before now name status
+WasUnopened-same views old old' new new' before now name status first last h = record {
+  openings = h.openings;
+  given = h.given;
+  back = h.back;
+  disk = rw (first.disk, last.disk) h.disk;
+  fault = h.fault;
+  why = h.why;
+  status_is = h.status_is;
+  console = last.console ∙ (h.console ∙ sym first.console);
+  clock = last.clock ∙ (h.clock ∙ sym first.clock);
+  draws = last.draws ∙ (h.draws ∙ sym first.draws);
+}
+
+IsMissing-same : {F S C N T I : Type 0} (old old' new new' : Lendings F S C N T I) (before now : ℕ) (name : List ℕ) (status : Status)
+    → LeavesConsole old old' → LeavesConsole new new' → IsMissing old new before now name status → IsMissing old' new' before now name status
+IsMissing-same old old' new new' before now name status first last h = record {
+  status_is = h.status_is;
+  rose = h.rose;
+  could = rw first.disk h.could;
+  left = LeavesConsole-same old old' new new' first last h.left;
+}
+
+DidOver-same : {F S C N T I : Type 0} (views : Views F S C N T I) (old old' new new' : Lendings F S C N T I) (before now : ℕ) (name : List ℕ) (status : Status) (Did Done : Type 0)
+    → LeavesConsole old old' → LeavesConsole new new' → (Did → Done) → DidOver views old new before now name status Did → DidOver views old' new' before now name status Done
+DidOver-same views old old' new new' before now name status Did Done first last goes (inl did) = inl (goes did)
+DidOver-same views old old' new new' before now name status Did Done first last goes (inr (inl h)) = inr (inl (WasUnopened-same views old old' new new' before now name status first last h))
+DidOver-same views old old' new new' before now name status Did Done first last goes (inr (inr h)) = inr (inr (IsMissing-same old old' new new' before now name status first last h))
+
+pub Obeyed-same : {F S C N T I : Type 0} (views : Views F S C N T I) (old old' new new' : Lendings F S C N T I) (before now : ℕ) (config : Config) (work : Work) (status : Status)
+    → LeavesConsole old old' → LeavesConsole new new' → Obeyed views old new before now config work status → Obeyed views old' new' before now config work status
+Obeyed-same views old old' new new' before now config (Answer None) status first last h = (h.0, Conversed-same views old old' new new' config status first last h.1)
+Obeyed-same views old old' new new' before now config (Answer (Some name)) status first last h =
+    DidOver-same views old old' new new' before now name status _ _ first last (ConversedOver-same views old old' new new' before now config name status first last) h
+Obeyed-same views old old' new new' before now config Expand status first last h = (h.0, UsedConsole-same views old old' new new' _ first last h.1)
+Obeyed-same views old old' new new' before now config (Check None) status first last h = (h.0, UsedConsole-same views old old' new new' _ first last h.1)
+Obeyed-same views old old' new new' before now config (Check (Some name)) status first last h =
+    DidOver-same views old old' new new' before now name status _ _ first last (CheckedOver-same views old old' new new' before now config name status first last) h
+
+RanOverFile-same : {F S C N T I : Type 0} (views : Views F S C N T I) (old old' new new' : Lendings F S C N T I) (before now : ℕ) (work : Work) (opened closed : F) (status : Status)
+    → LeavesConsole old old' → LeavesConsole new new' → RanOverFile views old new before now work opened closed status → RanOverFile views old' new' before now work opened closed status
+RanOverFile-same views old old' new new' before now work opened closed status first last (inl h) =
+    inl (h.0, h.1, h.2, Obeyed-same views old old' new new' before now h.0 work status first last h.3)
+RanOverFile-same views old old' new new' before now work opened closed status first last (inr h) = inr (h.0, h.1, LeavesConsole-same old old' new new' first last h.2)
 
 -- a file was opened, and a command was run over it
-pub RanCommand-opened : {F C N T I : Type 0} (views : Views F C N T I) (old between new : Lendings F C N T I) (before now : ℕ) (farm : List ℕ) (work : Work) (file closed : F) (status : Status)
-    → now ≡ before → CanOpenAmong old.file farm (Ok file) → between ≡ record old { file = after_opened old.file }
-    → new.file ≡ after_closing between.file closed → LosesWithin (LONGEST_FILE + piece_size) (views.file_left file) (views.file_left closed) → RanOverFile views between new work file closed status
+pub RanCommand-opened : {F S C N T I : Type 0} (views : Views F S C N T I) (old between new : Lendings F S C N T I) (before middle now : ℕ) (farm : List ℕ) (work : Work) (file closed : F) (status : Status)
+    → middle ≡ before → CanOpenAmong old.file farm (Ok file) → between ≡ record old { file = after_opened old.file }
+    → new.file ≡ after_closing between.file closed → LosesWithin (LONGEST_FILE + piece_size) (views.file_left file) (views.file_left closed) → RanOverFile views between new middle now work file closed status
     → RanCommand views old new before now (OverFarm farm work) status
-RanCommand-opened views old between new before now farm work file closed status openings could opens closes lost ran = inr (record {
-  openings = openings;
+RanCommand-opened views old between new before middle now farm work file closed status kept could opens closes lost ran = inr (record {
   opened = file;
   closed = closed;
   file = record { could = could; returned = rw opens at closes };
   lost = lost;
-  ran = RanOverFile-same views between old new new work file closed status (record { console = rw opens refl; clock = rw opens refl; draws = rw opens refl }) (LeavesConsole-none new) ran;
+  ran = subst (λ (n : ℕ). RanOverFile views old new n now work file closed status) kept
+      (RanOverFile-same views between old new new middle now work file closed status (record { disk = rw opens refl; console = rw opens refl; clock = rw opens refl; draws = rw opens refl }) (LeavesConsole-none new) ran);
 })
 
 -- a request was signed
-pub RanCommand-signed : {F C N T I : Type 0} (views : Views F C N T I) (old new : Lendings F C N T I) (before now : ℕ) (command : Command) (signing : Signing) (status : Status)
+pub RanCommand-signed : {F S C N T I : Type 0} (views : Views F S C N T I) (old new : Lendings F S C N T I) (before now : ℕ) (command : Command) (signing : Signing) (status : Status)
     → command ≡ Sign signing → RanSigning views old new before now signing status → RanCommand views old new before now command status
 RanCommand-signed views old new before now command signing status is ran = subst (λ c. RanCommand views old new before now c status) (sym is) ran
 
 -- a generated load was run
-pub RanCommand-loaded : {F C N T I : Type 0} (views : Views F C N T I) (old new : Lendings F C N T I) (before now : ℕ) (command : Command) (load : Load) (status : Status)
+pub RanCommand-loaded : {F S C N T I : Type 0} (views : Views F S C N T I) (old new : Lendings F S C N T I) (before now : ℕ) (command : Command) (load : Load) (status : Status)
     → command ≡ Bulk load → RanLoad views old new before now load status → RanCommand views old new before now command status
 RanCommand-loaded views old new before now command load status is ran = subst (λ c. RanCommand views old new before now c status) (sym is) ran
 
 -- ---- a run is the same run where later only what is said of notes changes
 
-RanCommand-notes : {F C N T I : Type 0} (views : Views F C N T I) (old new new' : Lendings F C N T I) (before now : ℕ) (command : Command) (status : Status)
+RanCommand-notes : {F S C N T I : Type 0} (views : Views F S C N T I) (old new new' : Lendings F S C N T I) (before now : ℕ) (command : Command) (status : Status)
     → new'.file ≡ new.file → LeavesConsole new new' → RanCommand views old new before now command status → RanCommand views old new' before now command status
 RanCommand-notes views old new new' before now (OverFarm farm work) status file after (inl h) = inl (record {
   status_is = h.status_is;
@@ -168,12 +418,11 @@ RanCommand-notes views old new new' before now (OverFarm farm work) status file 
   others = LeavesConsole-same old old new new' (LeavesConsole-none old) after h.others;
 })
 RanCommand-notes views old new new' before now (OverFarm farm work) status file after (inr h) = inr (record {
-  openings = h.openings;
   opened = h.opened;
   closed = h.closed;
   file = record { could = h.file.could; returned = file ∙ h.file.returned };
   lost = h.lost;
-  ran = RanOverFile-same views old old new new' work h.opened h.closed status (LeavesConsole-none old) after h.ran;
+  ran = RanOverFile-same views old old new new' before now work h.opened h.closed status (LeavesConsole-none old) after h.ran;
 })
 RanCommand-notes views old new new' before now (Sign signing) status file after h = record {
   openings = h.openings;
@@ -186,7 +435,7 @@ RanCommand-notes views old new new' before now (Bulk load) status file after h =
   used = UsedConsole-same views old old new new' _ (LeavesConsole-none old) after h.used;
 }
 
-pub Ran-notes : {F C N T I : Type 0} (views : Views F C N T I) (old new new' : Lendings F C N T I) (before now : ℕ) (said : Option Command) (status : Status)
+pub Ran-notes : {F S C N T I : Type 0} (views : Views F S C N T I) (old new new' : Lendings F S C N T I) (before now : ℕ) (said : Option Command) (status : Status)
     → new'.file ≡ new.file → LeavesConsole new new' → Ran views old new before now said status → Ran views old new' before now said status
 Ran-notes views old new new' before now said status file after (inl h) = inl (record {
   why = h.why;

@@ -15,8 +15,9 @@ pub record AreHome {T : Type 0} (old new : Files T) : Type 0 where
   pub not_out : new ≡ out → old ≡ out
 
 -- all of a house is home
-pub record AllHome {F C N T I : Type 0} (old new : Lendings F C N T I) : Type 0 where
+pub record AllHome {F S C N T I : Type 0} (old new : Lendings F S C N T I) : Type 0 where
   pub file : AreHome old.file new.file
+  pub disk : AreHome old.disk new.disk
   pub console : IsHome old.console new.console
   pub notes : IsHome old.notes new.notes
   pub clock : IsHome old.clock new.clock

@@ -96,9 +96,10 @@ pub record WasOpened {T : Type 0} (old new : Files T) (name : List ℕ) (opened 
   pub could : CanOpenAmong old name (Ok opened)
   pub returned : new ≡ after_closing (after_opened old) closed
 
--- all that a house lends: files, console, notes, clock and draws
-pub record Lendings (F C N T I : Type 0) : Type 0 where
+-- all that a house lends: farm files, disks, console, notes, clock and draws
+pub record Lendings (F S C N T I : Type 0) : Type 0 where
   pub file : Files F
+  pub disk : Files S
   pub console : Lending C
   pub notes : Lending N
   pub clock : Lending T

@@ -1,5 +1,6 @@
 pub mod Checking
 pub mod Complete
+pub mod Disks
 pub mod Expanding
 pub mod FarmFile
 pub mod Home
@@ -14,5 +15,6 @@ pub mod Runs
 pub mod Serving
 pub mod Signing
 pub mod Status
+pub mod Used
 pub mod Views
 pub mod Writing

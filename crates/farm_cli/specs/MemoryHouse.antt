@@ -1,5 +1,5 @@
 -- What a house in memory holds.
-use Rattle.std.specs.Prelude.{ℕ, List, bytes_eq, Bool, true, false}
+use Rattle.std.specs.Prelude.{ℕ, List, bytes_eq, Bool, true, false, Option, Some, None}
 use Rattle.farm_cli.specs.declared.lending.Lending.{Lending}
 use Rattle.farm_cli.specs.declared.lending.Lending.TheVariants.{Ready, Out, Back, Untold}
 use Rattle.farm_cli.specs.House.{Held, holds, refuses, Files, unopened, out, back, untold}
@@ -19,3 +19,8 @@ files_of name (Ready file) = unopened (only_file name file)
 files_of name Out = out
 files_of name (Back file) = back file
 files_of name Untold = untold
+
+-- what it tells of its disks, of which it has this one, or none
+abbrev pub disks_of : {T : Type 0} → Option (List ℕ × Lending T) → Files T
+disks_of None = unopened (λ name. refuses)
+disks_of (Some (name, disk)) = files_of name disk

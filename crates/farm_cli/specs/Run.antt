@@ -12,45 +12,38 @@ use Rattle.farm_machine.specs.declared.config.Config.{Config}
 use Rattle.http_wire.specs.Whole.{piece_size, LosesWithin}
 use Rattle.farm_cli.specs.declared.status.Status.{Status}
 use Rattle.farm_cli.specs.declared.status.Status.TheVariants.{Usage, Opening, NoMemory}
-use Rattle.farm_cli.specs.Checking.{Checks}
+use Rattle.farm_cli.specs.Checking.{Checks, CheckedOver}
+use Rattle.farm_cli.specs.Disks.{IsMissing, WasUnopened}
 use Rattle.farm_cli.specs.Expanding.{Expands}
 use Rattle.farm_cli.specs.FarmFile.{SetsUp, FileRefused}
 use Rattle.farm_cli.specs.House.{WasLent, CanOpenAmong, WasOpened, Lendings}
 use Rattle.farm_cli.specs.Loading.{Loads}
-use Rattle.farm_cli.specs.Serving.{Conversed}
+use Rattle.farm_cli.specs.Serving.{Conversed, ConversedOver}
 use Rattle.farm_cli.specs.Signing.{Signs}
-use Rattle.http_wire.specs.Calls.{LinkState}
-use Rattle.farm_cli.specs.Views.{Views, talk_of}
+use Rattle.farm_cli.specs.Used.{LeavesConsole, UsedConsole}
+use Rattle.farm_cli.specs.Views.{Views}
 
--- the console, the clock and the draws were not asked for
-pub record LeavesConsole {F C N T I : Type 0} (old new : Lendings F C N T I) : Type 0 where
-  pub console : new.console ≡ old.console
-  pub clock : new.clock ≡ old.clock
-  pub draws : new.draws ≡ old.draws
-
--- the console alone was asked for, and came back after this was done with it
-pub record UsedConsole {F C N T I : Type 0} (views : Views F C N T I) (old new : Lendings F C N T I) (Did : LinkState → LinkState → Type 0) : Type 0 where
-  pub given : C
-  pub back : C
-  pub console : WasLent old.console new.console given back
-  pub clock : new.clock ≡ old.clock
-  pub draws : new.draws ≡ old.draws
-  pub did : Did (talk_of views given) (talk_of views back)
+-- the disk of this name was opened and this was done over the farm that it keeps, or it has no farm that could be opened
+abbrev pub DidOver : {F S C N T I : Type 0} → Views F S C N T I → Lendings F S C N T I → Lendings F S C N T I → ℕ → ℕ → List ℕ → Status → Type 0 → Type 0
+DidOver views old new before now name status Did = Did ⊎ (WasUnopened views old new before now name status ⊎ IsMissing old new before now name status)
 
 -- work was done over a farm that was set up so
-abbrev pub Obeyed : {F C N T I : Type 0} → Views F C N T I → Lendings F C N T I → Lendings F C N T I → Config → Work → Status → Type 0
-Obeyed views old new config Answer status = Conversed views old new config status
-Obeyed views old new config Expand status = UsedConsole views old new (λ before after. Expands config.roles before after status)
-Obeyed views old new config Check status = UsedConsole views old new (λ before after. Checks config before after status)
+abbrev pub Obeyed : {F S C N T I : Type 0} → Views F S C N T I → Lendings F S C N T I → Lendings F S C N T I → ℕ → ℕ → Config → Work → Status → Type 0
+Obeyed views old new before now config (Answer None) status = (now ≡ before) × Conversed views old new config status
+Obeyed views old new before now config (Answer (Some disk)) status = DidOver views old new before now disk status (ConversedOver views old new before now config disk status)
+Obeyed views old new before now config Expand status = (now ≡ before) × UsedConsole views old new (λ before after. Expands config.roles before after status)
+Obeyed views old new before now config (Check None) status = (now ≡ before) × UsedConsole views old new (λ before after. Checks config before after status)
+Obeyed views old new before now config (Check (Some disk)) status = DidOver views old new before now disk status (CheckedOver views old new before now config disk status)
 
 -- A farm file was opened, read, and came back: no read of it failed, and it sets a farm up, over which the work was done; or it was not taken.
-abbrev pub RanOverFile : {F C N T I : Type 0} → Views F C N T I → Lendings F C N T I → Lendings F C N T I → Work → F → F → Status → Type 0
-RanOverFile views old new work opened closed status =
-    ((config : Config) × IfSome (views.file_left opened) (λ bytes. SetsUp bytes config) × (views.file_faults closed ≡ views.file_faults opened) × Obeyed views old new config work status)
-    ⊎ (FileRefused (views.file_left opened) (views.file_faults opened) (views.file_faults closed) status × LeavesConsole old new)
+abbrev pub RanOverFile : {F S C N T I : Type 0} → Views F S C N T I → Lendings F S C N T I → Lendings F S C N T I → ℕ → ℕ → Work → F → F → Status → Type 0
+RanOverFile views old new before now work opened closed status =
+    ((config : Config) × IfSome (views.file_left opened) (λ bytes. SetsUp bytes config) × (views.file_faults closed ≡ views.file_faults opened)
+    × Obeyed views old new before now config work status)
+    ⊎ (FileRefused (views.file_left opened) (views.file_faults opened) (views.file_faults closed) status × (now ≡ before) × LeavesConsole old new)
 
 -- the opening of the farm file was refused, and nothing else was asked for
-pub record WasRefused {F C N T I : Type 0} (old new : Lendings F C N T I) (before now : ℕ) (name : List ℕ) (status : Status) : Type 0 where
+pub record WasRefused {F S C N T I : Type 0} (old new : Lendings F S C N T I) (before now : ℕ) (name : List ℕ) (status : Status) : Type 0 where
   pub status_is : status ≡ Opening
   pub rose : Rose before now
   pub could : CanOpenAmong old.file name (Err (record {}))
@@ -58,40 +51,39 @@ pub record WasRefused {F C N T I : Type 0} (old new : Lendings F C N T I) (befor
   pub others : LeavesConsole old new
 
 -- the farm file was opened, and came back after a run over it; no more was read of it than one piece past its greatest length
-pub record RanOver {F C N T I : Type 0} (views : Views F C N T I) (old new : Lendings F C N T I) (before now : ℕ) (farm : List ℕ) (work : Work) (status : Status) : Type 0 where
-  pub openings : now ≡ before
+pub record RanOver {F S C N T I : Type 0} (views : Views F S C N T I) (old new : Lendings F S C N T I) (before now : ℕ) (farm : List ℕ) (work : Work) (status : Status) : Type 0 where
   pub opened : F
   pub closed : F
   pub file : WasOpened old.file new.file farm opened closed
   pub lost : LosesWithin (LONGEST_FILE + piece_size) (views.file_left opened) (views.file_left closed)
-  pub ran : RanOverFile views old new work opened closed status
+  pub ran : RanOverFile views old new before now work opened closed status
 
 -- a request was signed, and no farm file was asked for
-pub record RanSigning {F C N T I : Type 0} (views : Views F C N T I) (old new : Lendings F C N T I) (before now : ℕ) (signing : Signing) (status : Status) : Type 0 where
+pub record RanSigning {F S C N T I : Type 0} (views : Views F S C N T I) (old new : Lendings F S C N T I) (before now : ℕ) (signing : Signing) (status : Status) : Type 0 where
   pub openings : now ≡ before
   pub file : new.file ≡ old.file
   pub used : UsedConsole views old new (λ before after. Signs signing before after status)
 
 -- a generated load was run, and no farm file was asked for
-pub record RanLoad {F C N T I : Type 0} (views : Views F C N T I) (old new : Lendings F C N T I) (before now : ℕ) (load : Load) (status : Status) : Type 0 where
+pub record RanLoad {F S C N T I : Type 0} (views : Views F S C N T I) (old new : Lendings F S C N T I) (before now : ℕ) (load : Load) (status : Status) : Type 0 where
   pub openings : now ≡ before
   pub file : new.file ≡ old.file
   pub used : UsedConsole views old new (λ before after. Loads load before after status)
 
 -- a command was run
-abbrev pub RanCommand : {F C N T I : Type 0} → Views F C N T I → Lendings F C N T I → Lendings F C N T I → ℕ → ℕ → Command → Status → Type 0
+abbrev pub RanCommand : {F S C N T I : Type 0} → Views F S C N T I → Lendings F S C N T I → Lendings F S C N T I → ℕ → ℕ → Command → Status → Type 0
 RanCommand views old new before now (OverFarm farm work) status = WasRefused old new before now farm status ⊎ RanOver views old new before now farm work status
 RanCommand views old new before now (Sign signing) status = RanSigning views old new before now signing status
 RanCommand views old new before now (Bulk load) status = RanLoad views old new before now load status
 
 -- the words were refused: they have no reading, or memory ran out; and nothing was asked for
-pub record WordsRefused {F C N T I : Type 0} (old new : Lendings F C N T I) (before now : ℕ) (said : Option Command) (status : Status) : Type 0 where
+pub record WordsRefused {F S C N T I : Type 0} (old new : Lendings F S C N T I) (before now : ℕ) (said : Option Command) (status : Status) : Type 0 where
   pub why : (status ≡ NoMemory) ⊎ ((status ≡ Usage) × (said ≡ None))
   pub openings : now ≡ before
   pub file : new.file ≡ old.file
   pub others : LeavesConsole old new
 
 -- A run by its words: they were refused, or the command that they ask for was run.
-abbrev pub Ran : {F C N T I : Type 0} → Views F C N T I → Lendings F C N T I → Lendings F C N T I → ℕ → ℕ → Option Command → Status → Type 0
+abbrev pub Ran : {F S C N T I : Type 0} → Views F S C N T I → Lendings F S C N T I → Lendings F S C N T I → ℕ → ℕ → Option Command → Status → Type 0
 Ran views old new before now said status =
     WordsRefused old new before now said status ⊎ ((command : Command) × (said ≡ Some command) × RanCommand views old new before now command status)

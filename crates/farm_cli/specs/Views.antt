@@ -1,6 +1,8 @@
 -- What the objects of a house tell of themselves.
 use Rattle.std.specs.Prelude.{ℕ, List, Option, None}
 use Rattle.http_wire.specs.Calls.{LinkState}
+use Rattle.disk_base.specs.Contents.{Contents}
+use Rattle.disk_base.specs.declared.disk.Disk as disks
 use Rattle.http_wire.specs.declared.link.Source as sources
 use Rattle.http_wire.specs.declared.link.Link as links
 use Rattle.http_wire.specs.declared.link.Sink as sinks
@@ -8,11 +10,15 @@ use Rattle.farm_text.specs.declared.clock.Clock as clocks
 use Rattle.farm_text.specs.declared.draws.Draws as draws
 use Rattle.farm_server.specs.Served.{Outside}
 
--- what is left of the farm file, and how many of its reads failed; the same of the console, and what was written there; what notes
+-- what is left of the farm file, and how many of its reads failed; whether the disk tells what it holds, what it holds, and how many of its
+-- calls failed; the same of the console, and what was written there; what notes
 -- were told; which moments and ids were told
-pub record Views (F C N T I : Type 0) : Type 0 where
+pub record Views (F S C N T I : Type 0) : Type 1 where
   pub file_left : F → Option (List ℕ)
   pub file_faults : F → ℕ
+  pub disk_tells : Type 0
+  pub disk_contents : S → Contents
+  pub disk_faults : S → ℕ
   pub console_left : C → Option (List ℕ)
   pub console_written : C → Option (List ℕ)
   pub console_read_faults : C → ℕ
@@ -23,11 +29,14 @@ pub record Views (F C N T I : Type 0) : Type 0 where
   pub draws_told : I → Option (List (List ℕ))
 
 -- the same, as the traits of these objects have it
-abbrev pub views_of : {F C N T I : Type 0} → sources.Ghosts F → links.Ghosts C → sinks.Ghosts N → clocks.Ghosts T → draws.Ghosts I → Views F C N T I
-views_of file console notes clock ids =
+abbrev pub views_of : {F S C N T I : Type 0} → sources.Ghosts F → disks.Ghosts S → links.Ghosts C → sinks.Ghosts N → clocks.Ghosts T → draws.Ghosts I → Views F S C N T I
+views_of file disk console notes clock ids =
     record {
       file_left = file.left;
       file_faults = file.faults;
+      disk_tells = disk.tells;
+      disk_contents = disk.contents;
+      disk_faults = disk.faults;
       console_left = console.left;
       console_written = console.written;
       console_read_faults = console.read_faults;
@@ -39,7 +48,7 @@ views_of file console notes clock ids =
     }
 
 -- what console, clock and draws tell at one moment; the program's gate keeps nothing
-abbrev pub outside_of : {F C N T I : Type 0} → Views F C N T I → C → T → I → Outside
+abbrev pub outside_of : {F S C N T I : Type 0} → Views F S C N T I → C → T → I → Outside
 outside_of views console clock draws =
     record {
       left = views.console_left console;
@@ -52,7 +61,7 @@ outside_of views console clock draws =
     }
 
 -- what a console of a house tells at one moment
-abbrev pub talk_of : {F C N T I : Type 0} → Views F C N T I → C → LinkState
+abbrev pub talk_of : {F S C N T I : Type 0} → Views F S C N T I → C → LinkState
 talk_of views console =
     record {
       left = views.console_left console;

@@ -3,12 +3,14 @@ ghost use Rattle.std.specs.Prelude.{◌≡◌};
 ghost use Rattle.farm_cli.specs.Checking.{Checks};
 ghost use Rattle.farm_cli.specs.Expanding.{Expands};
 ghost use Rattle.farm_cli.specs.Loading.{Loads};
-ghost use Rattle.farm_cli.specs.Run.{Obeyed, UsedConsole};
+ghost use Rattle.farm_cli.specs.Run.{Obeyed};
+ghost use Rattle.farm_cli.specs.Used.{UsedConsole};
 ghost use Rattle.farm_cli.specs.Serving.{Conversed};
 ghost use Rattle.farm_cli.specs.Signing.{Signs};
 ghost use Rattle.farm_cli.specs.Views.{views_of};
 
 use crate::checking::check;
+use crate::disks::{check_disk, converse_over};
 use crate::ended::Ended;
 use crate::expanding::expand;
 use crate::house::House;
@@ -22,23 +24,24 @@ use farm_server::{NoGate, serve_connection};
 use std::alloc::Global;
 
 /// Does work over a farm that is set up so.
-pub(crate) fn obey<H: House>(alloc: Global, work: Work, config: Config, house: &mut H) -> Ended
-    ensures obeyed { let views = views_of H.File.Source H.Console.Link H.Notes.Sink H.Time.Clock H.Ids.Draws in
-        Obeyed views (H.lends house.old) (H.lends house.new) config work result.status }
+pub(crate) fn obey<H: House>(alloc: Global, work: &Work, config: Config, house: &mut H) -> Ended
+    ensures obeyed { let views = views_of H.File.Source H.Store.Disk H.Console.Link H.Notes.Sink H.Time.Clock H.Ids.Draws in
+        Obeyed views (H.lends house.old) (H.lends house.new) (H.refusals house.old) (H.refusals house.new) config work.now result.status }
     ensures file { (H.lends house.new).file ≡ (H.lends house.old).file }
     ensures notes { (H.lends house.new).notes ≡ (H.lends house.old).notes }
-    ensures refusals { H.refusals house.new ≡ H.refusals house.old }
 {
     match work {
-        Work::Answer => converse(alloc, config, house),
+        Work::Answer { disk: None } => converse(alloc, config, house),
+        Work::Answer { disk: Some(disk) } => converse_over(alloc, disk.as_str(), config, house),
         Work::Expand => expand_over(alloc, &config, house),
-        Work::Check => check_over(alloc, &config, house),
+        Work::Check { disk: None } => check_over(alloc, &config, house),
+        Work::Check { disk: Some(disk) } => check_disk(alloc, disk.as_str(), config, house),
     }
 }
 
 /// Serves the console over a farm that begins without tasks.
 fn converse<H: House>(alloc: Global, config: Config, house: &mut H) -> Ended
-    ensures conversed { let views = views_of H.File.Source H.Console.Link H.Notes.Sink H.Time.Clock H.Ids.Draws in
+    ensures conversed { let views = views_of H.File.Source H.Store.Disk H.Console.Link H.Notes.Sink H.Time.Clock H.Ids.Draws in
         Conversed views (H.lends house.old) (H.lends house.new) config result.status }
     ensures file { (H.lends house.new).file ≡ (H.lends house.old).file }
     ensures notes { (H.lends house.new).notes ≡ (H.lends house.old).notes }
@@ -65,7 +68,7 @@ fn converse<H: House>(alloc: Global, config: Config, house: &mut H) -> Ended
 
 /// Expands the console's scopes over the roles of a farm.
 fn expand_over<H: House>(alloc: Global, config: &Config, house: &mut H) -> Ended
-    ensures used { let views = views_of H.File.Source H.Console.Link H.Notes.Sink H.Time.Clock H.Ids.Draws in
+    ensures used { let views = views_of H.File.Source H.Store.Disk H.Console.Link H.Notes.Sink H.Time.Clock H.Ids.Draws in
         UsedConsole views (H.lends house.old) (H.lends house.new) (λ before after. Expands config.now.roles before after result.status) }
     ensures file { (H.lends house.new).file ≡ (H.lends house.old).file }
     ensures notes { (H.lends house.new).notes ≡ (H.lends house.old).notes }
@@ -79,7 +82,7 @@ fn expand_over<H: House>(alloc: Global, config: &Config, house: &mut H) -> Ended
 
 /// Counts what a farm has, on the console.
 fn check_over<H: House>(alloc: Global, config: &Config, house: &mut H) -> Ended
-    ensures used { let views = views_of H.File.Source H.Console.Link H.Notes.Sink H.Time.Clock H.Ids.Draws in
+    ensures used { let views = views_of H.File.Source H.Store.Disk H.Console.Link H.Notes.Sink H.Time.Clock H.Ids.Draws in
         UsedConsole views (H.lends house.old) (H.lends house.new) (λ before after. Checks config.now before after result.status) }
     ensures file { (H.lends house.new).file ≡ (H.lends house.old).file }
     ensures notes { (H.lends house.new).notes ≡ (H.lends house.old).notes }
@@ -93,7 +96,7 @@ fn check_over<H: House>(alloc: Global, config: &Config, house: &mut H) -> Ended
 
 /// Signs a request, over the console.
 pub(crate) fn sign_over<H: House>(alloc: Global, signing: &Signing, house: &mut H) -> Ended
-    ensures used { let views = views_of H.File.Source H.Console.Link H.Notes.Sink H.Time.Clock H.Ids.Draws in
+    ensures used { let views = views_of H.File.Source H.Store.Disk H.Console.Link H.Notes.Sink H.Time.Clock H.Ids.Draws in
         UsedConsole views (H.lends house.old) (H.lends house.new) (λ before after. Signs signing.now before after result.status) }
     ensures file { (H.lends house.new).file ≡ (H.lends house.old).file }
     ensures notes { (H.lends house.new).notes ≡ (H.lends house.old).notes }
@@ -107,7 +110,7 @@ pub(crate) fn sign_over<H: House>(alloc: Global, signing: &Signing, house: &mut 
 
 /// Runs a generated load, over the console.
 pub(crate) fn load_over<H: House>(alloc: Global, load: Load, house: &mut H) -> Ended
-    ensures used { let views = views_of H.File.Source H.Console.Link H.Notes.Sink H.Time.Clock H.Ids.Draws in
+    ensures used { let views = views_of H.File.Source H.Store.Disk H.Console.Link H.Notes.Sink H.Time.Clock H.Ids.Draws in
         UsedConsole views (H.lends house.old) (H.lends house.new) (λ before after. Loads load before after result.status) }
     ensures file { (H.lends house.new).file ≡ (H.lends house.old).file }
     ensures notes { (H.lends house.new).notes ≡ (H.lends house.old).notes }

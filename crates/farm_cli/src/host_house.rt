@@ -6,6 +6,7 @@ ghost use Rattle.farm_cli.specs.declared.lending.Lending.TheVariants.{Untold};
 
 use crate::house::House;
 use causes::{Failed, FaultCount};
+use disk_base::FileDisk;
 use farm_text::{HostClock, HostDraws};
 use http_wire::{HostSink, HostSource, Joined};
 use std::fs;
@@ -54,6 +55,8 @@ impl HostHouse {
 impl House for HostHouse {
     type File = HostSource<File>;
 
+    type Store = FileDisk;
+
     type Console = Joined<HostSource<Stdin>, HostSink<Stdout>>;
 
     type Notes = HostSink<Stderr>;
@@ -62,7 +65,7 @@ impl House for HostHouse {
 
     type Ids = HostDraws;
 
-    ghost lends = { λ _. record { file = untold; console = Untold; notes = Untold; clock = Untold; draws = Untold } };
+    ghost lends = { λ _. record { file = untold; disk = untold; console = Untold; notes = Untold; clock = Untold; draws = Untold } };
 
     ghost refusals = { λ h. h.refusals };
 
@@ -84,6 +87,19 @@ impl House for HostHouse {
     fn back_farm_file(&mut self, file: HostSource<File>) {
         self.note(file.why());
     }
+
+    fn disk(&mut self, name: &str) -> Result<FileDisk, Failed> {
+        match FileDisk::open(&self.rt, name) {
+            Ok(disk) => Ok(disk),
+            Err(error) => {
+                self.refusals.raise();
+                self.reason = Some(error.kind());
+                Err(Failed)
+            }
+        }
+    }
+
+    fn back_disk(&mut self, _disk: FileDisk) {}
 
     fn console(&mut self) -> Joined<HostSource<Stdin>, HostSink<Stdout>> {
         Joined {

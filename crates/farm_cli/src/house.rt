@@ -3,6 +3,7 @@ ghost use Rattle.causes.specs.Causes.{HasCause};
 ghost use Rattle.farm_cli.specs.House.{Lendings, CanGive, after_giving, after_return, CanOpenAmong, after_opening, after_closing};
 
 use causes::Failed;
+use disk_base::Disk;
 use farm_text::{Clock, Draws};
 use http_wire::{Link, Sink, Source};
 use std::io::ErrorKind;
@@ -11,6 +12,8 @@ use std::io::ErrorKind;
 pub trait House {
     /// A file to read.
     type File: Source;
+    /// What keeps a farm.
+    type Store: Disk;
     /// Where requests come from and replies go to.
     type Console: Link;
     /// Where a run tells why it failed.
@@ -23,7 +26,7 @@ pub trait House {
     type Ids: Draws;
 
     /// What is there, what is out, and what came back, where the house tells.
-    ghost lends: { Self → Lendings Self.File Self.Console Self.Notes Self.Time Self.Ids };
+    ghost lends: { Self → Lendings Self.File Self.Store Self.Console Self.Notes Self.Time Self.Ids };
 
     /// How many openings were refused.
     ghost refusals: { Self → ℕ };
@@ -40,6 +43,17 @@ pub trait House {
     /// Takes a farm file back.
     fn back_farm_file(&mut self, file: Self::File)
         ensures lends { lends self.new ≡ record (lends self.old) { file = after_closing (lends self.old).file file } }
+        ensures refusals { refusals self.new ≡ refusals self.old };
+
+    /// Opens the disk of this name, and makes it where it is not there. A refusal is counted, and changes nothing that the house lends.
+    fn disk(&mut self, name: &str) -> Result<Self::Store, Failed>
+        ensures opens { CanOpenAmong (lends self.old).disk name.now result }
+        ensures lends { lends self.new ≡ record (lends self.old) { disk = after_opening (lends self.old).disk result } }
+        ensures cause { HasCause (refusals self.old) (refusals self.new) result };
+
+    /// Takes a disk back.
+    fn back_disk(&mut self, disk: Self::Store)
+        ensures lends { lends self.new ≡ record (lends self.old) { disk = after_closing (lends self.old).disk disk } }
         ensures refusals { refusals self.new ≡ refusals self.old };
 
     /// Gives the console.

@@ -3,6 +3,9 @@
 
 mod checking;
 mod commands;
+#[cfg(test)]
+mod disk_tests;
+mod disks;
 mod ended;
 mod expanding;
 mod farm_file;

@@ -1,19 +1,20 @@
 //! A house in memory, which tells all that it lends.
-ghost use Rattle.std.specs.Prelude.{◌≡◌, string_bytes};
+ghost use Rattle.std.specs.Prelude.{◌≡◌, string_bytes, option_map};
 ghost use Rattle.std.specs.Option.{option_copied};
 ghost use Rattle.farm_cli.specs.declared.lending.Lending.TheVariants.{Ready};
-ghost use Rattle.farm_cli.specs.House.{unopened, returned};
-ghost use Rattle.farm_cli.specs.MemoryHouse.{files_of, only_file};
+ghost use Rattle.farm_cli.specs.House.{unopened, refuses, returned};
+ghost use Rattle.farm_cli.specs.MemoryHouse.{disks_of, files_of, only_file};
 
 use crate::house::House;
 use crate::lending::Lending;
 use causes::{Failed, FaultCount};
+use disk_base::MemoryDisk;
 use farm_text::{ListClock, ListDraws};
 use http_wire::{Joined, MemoryLink, MemorySink, MemorySource};
 use std::alloc::Global;
 use std::io::ErrorKind;
 
-/// A house in memory. It has one farm file, and refuses to open a file of another name.
+/// A house in memory. It has one farm file and one disk at most, and refuses to open one of another name.
 ///
 /// An object that is asked for when it is out is given as an empty one.
 #[derive(Drop)]
@@ -21,11 +22,19 @@ pub struct MemoryHouse {
     alloc: Global,
     farm_name: String,
     farm_file: Lending<MemorySource>,
+    disk: Option<NamedDisk>,
     console: Lending<MemoryLink>,
     notes: Lending<MemorySink>,
     clock: Lending<ListClock>,
     draws: Lending<ListDraws>,
     refusals: FaultCount,
+}
+
+/// A disk that a house lends, and its name.
+#[derive(Drop)]
+struct NamedDisk {
+    name: String,
+    disk: Lending<MemoryDisk>,
 }
 
 impl MemoryHouse {
@@ -41,6 +50,7 @@ impl MemoryHouse {
     ) -> Self
         ensures lends { ⟦<MemoryHouse as House>⟧.lends result ≡ record {
           file = unopened (only_file (string_bytes farm_name) farm_file);
+          disk = unopened (λ name. refuses);
           console = Ready console;
           notes = Ready notes;
           clock = Ready clock;
@@ -52,11 +62,32 @@ impl MemoryHouse {
             alloc,
             farm_name,
             farm_file: Lending::Ready(farm_file),
+            disk: None,
             console: Lending::Ready(console),
             notes: Lending::Ready(notes),
             clock: Lending::Ready(clock),
             draws: Lending::Ready(draws),
             refusals: FaultCount::new(),
+        }
+    }
+
+    /// The house with this disk, which has this name.
+    pub fn with_disk(self, name: String, disk: MemoryDisk) -> Self
+        ensures lends { ⟦<MemoryHouse as House>⟧.lends result
+            ≡ record (⟦<MemoryHouse as House>⟧.lends self) { disk = unopened (only_file (string_bytes name) disk) } }
+        ensures refusals { ⟦<MemoryHouse as House>⟧.refusals result ≡ ⟦<MemoryHouse as House>⟧.refusals self }
+    {
+        let mut house = self;
+        let disk = Lending::Ready(disk);
+        house.disk = Some(NamedDisk { name, disk });
+        house
+    }
+
+    /// The disk, if it came back.
+    pub fn returned_disk(&self) -> Option<&MemoryDisk> {
+        match &self.disk {
+            Some(named) => named.disk.returned(),
+            None => None,
         }
     }
 
@@ -85,6 +116,8 @@ impl MemoryHouse {
 impl House for MemoryHouse {
     type File = MemorySource;
 
+    type Store = MemoryDisk;
+
     type Console = MemoryLink;
 
     type Notes = MemorySink;
@@ -93,7 +126,7 @@ impl House for MemoryHouse {
 
     type Ids = ListDraws;
 
-    ghost lends = { λ h. record { file = files_of (string_bytes h.farm_name) h.farm_file; console = h.console; notes = h.notes; clock = h.clock; draws = h.draws } };
+    ghost lends = { λ h. record { file = files_of (string_bytes h.farm_name) h.farm_file; disk = disks_of (option_map (λ d. (string_bytes d.name, d.disk)) h.disk); console = h.console; notes = h.notes; clock = h.clock; draws = h.draws } };
 
     ghost refusals = { λ h. h.refusals };
 
@@ -118,6 +151,30 @@ impl House for MemoryHouse {
 
     fn back_farm_file(&mut self, file: MemorySource) {
         self.farm_file.take_back(file);
+    }
+
+    fn disk(&mut self, name: &str) -> Result<MemoryDisk, Failed> {
+        if let Some(named) = &mut self.disk
+            && named.name.as_str() == name
+            && matches!(named.disk, Lending::Ready(_))
+            && let Some(disk) = named.disk.give()
+        {
+            return Ok(disk);
+        }
+        self.refusals.raise();
+        Err(Failed)
+    }
+
+    fn back_disk(&mut self, disk: MemoryDisk) {
+        match &mut self.disk {
+            Some(named) => named.disk.take_back(disk),
+            None => {
+                self.disk = Some(NamedDisk {
+                    name: String::new(self.alloc),
+                    disk: Lending::Untold,
+                });
+            }
+        }
     }
 
     fn console(&mut self) -> MemoryLink {

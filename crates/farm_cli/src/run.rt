@@ -19,24 +19,27 @@ use crate::status::Status;
 use crate::writing::write_line;
 use causes::Failed;
 use command_line::{Command, WordsFault, Work, read_words};
+use farm_record::a_record_is_of_one_change;
 use std::alloc::Global;
 
 /// Runs what the words ask for, over what the house lends: `answer FARM` serves one connection on the console over a farm that begins
-/// without tasks, `expand FARM` writes all that the console's scopes give, `check FARM` counts what the farm file has, `sign` writes
-/// the header that signs a request, and `bulk` runs a generated load over a farm in memory and writes how its tasks stand then. All that
-/// was asked for is given back, and the notes are told a line where the status is not `Done`.
+/// without tasks, and `answer FARM --disk NAME` over the farm that a disk keeps, `expand FARM` writes all that the console's scopes give,
+/// `check FARM` counts what the farm file has, and with `--disk NAME` what the disk has, `sign` writes the header that signs a request, and
+/// `bulk` runs a generated load over a farm in memory and writes how its tasks stand then. All that was asked for is given back, and the notes
+/// are told a line where the status is not `Done`.
 ///
 /// The history that `answer` leads through is legal, so the laws of `farm_machine::law` hold of it: a call is denied exactly where its
 /// caller's scopes do not hold what it asks (`a_denial_is_of_scopes_that_are_missing`), a task is created once
 /// (`a_task_is_created_once`), and an equal createTask after it is answered with the task's status (`an_equal_call_acts_once`).
 pub fn run<H: House>(alloc: Global, words: &[String], house: &mut H) -> Status
-    ensures runs { let views = views_of H.File.Source H.Console.Link H.Notes.Sink H.Time.Clock H.Ids.Draws in
+    ensures runs { let views = views_of H.File.Source H.Store.Disk H.Console.Link H.Notes.Sink H.Time.Clock H.Ids.Draws in
         Runs views (H.lends house.old) (H.lends house.new) (H.refusals house.old) (H.refusals house.new)
         (reading (map string_bytes words.now)) result }
     ensures notes { TellsStatus H.Notes.written H.Notes.faults (H.lends house.old).notes (H.lends house.new).notes result }
     ensures home { AllHome (H.lends house.old) (H.lends house.new) }
     ensures later { H.refusals house.old ≤ H.refusals house.new }
 {
+    a_record_is_of_one_change();
     let ended = perform(alloc, words, house);
     tell(alloc, &ended, house);
     ended.status()
@@ -44,7 +47,7 @@ pub fn run<H: House>(alloc: Global, words: &[String], house: &mut H) -> Status
 
 /// Runs what the words ask for, where they are taken.
 fn perform<H: House>(alloc: Global, words: &[String], house: &mut H) -> Ended
-    ensures ran { let views = views_of H.File.Source H.Console.Link H.Notes.Sink H.Time.Clock H.Ids.Draws in
+    ensures ran { let views = views_of H.File.Source H.Store.Disk H.Console.Link H.Notes.Sink H.Time.Clock H.Ids.Draws in
         Ran views (H.lends house.old) (H.lends house.new) (H.refusals house.old) (H.refusals house.new)
         (reading (map string_bytes words.now)) result.status }
     ensures notes { (H.lends house.new).notes ≡ (H.lends house.old).notes }
@@ -59,22 +62,22 @@ fn perform<H: House>(alloc: Global, words: &[String], house: &mut H) -> Ended
 
 /// Runs a command.
 fn run_command<H: House>(alloc: Global, command: &Command, house: &mut H) -> Ended
-    ensures ran { let views = views_of H.File.Source H.Console.Link H.Notes.Sink H.Time.Clock H.Ids.Draws in
+    ensures ran { let views = views_of H.File.Source H.Store.Disk H.Console.Link H.Notes.Sink H.Time.Clock H.Ids.Draws in
         RanCommand views (H.lends house.old) (H.lends house.new) (H.refusals house.old) (H.refusals house.new) command.now result.status }
     ensures notes { (H.lends house.new).notes ≡ (H.lends house.old).notes }
     ensures later { H.refusals house.old ≤ H.refusals house.new }
 {
     match command {
-        Command::OverFarm { farm, work } => run_over_farm(alloc, farm.as_str(), *work, house),
+        Command::OverFarm { farm, work } => run_over_farm(alloc, farm.as_str(), work, house),
         Command::Sign { signing } => sign_over(alloc, signing, house),
         Command::Bulk { load } => load_over(alloc, *load, house),
     }
 }
 
 /// Does work over a farm, where its file can be opened.
-fn run_over_farm<H: House>(alloc: Global, farm: &str, work: Work, house: &mut H) -> Ended
-    ensures ran { let views = views_of H.File.Source H.Console.Link H.Notes.Sink H.Time.Clock H.Ids.Draws in
-        RanCommand views (H.lends house.old) (H.lends house.new) (H.refusals house.old) (H.refusals house.new) (OverFarm farm.now work) result.status }
+fn run_over_farm<H: House>(alloc: Global, farm: &str, work: &Work, house: &mut H) -> Ended
+    ensures ran { let views = views_of H.File.Source H.Store.Disk H.Console.Link H.Notes.Sink H.Time.Clock H.Ids.Draws in
+        RanCommand views (H.lends house.old) (H.lends house.new) (H.refusals house.old) (H.refusals house.new) (OverFarm farm.now work.now) result.status }
     ensures notes { (H.lends house.new).notes ≡ (H.lends house.old).notes }
     ensures later { H.refusals house.old ≤ H.refusals house.new }
 {
@@ -88,16 +91,16 @@ fn run_over_farm<H: House>(alloc: Global, farm: &str, work: Work, house: &mut H)
 fn run_over_file<H: House>(
     alloc: Global,
     farm: &str,
-    work: Work,
+    work: &Work,
     file: H::File,
     house: &mut H,
 ) -> Ended
-    ensures ran { let views = views_of H.File.Source H.Console.Link H.Notes.Sink H.Time.Clock H.Ids.Draws in
+    ensures ran { let views = views_of H.File.Source H.Store.Disk H.Console.Link H.Notes.Sink H.Time.Clock H.Ids.Draws in
         (closed : H.File) × ((H.lends house.new).file ≡ after_closing (H.lends house.old).file closed)
         × LosesWithin (LONGEST_FILE + piece_size) (H.File.left file) (H.File.left closed)
-        × RanOverFile views (H.lends house.old) (H.lends house.new) work file closed result.status }
+        × RanOverFile views (H.lends house.old) (H.lends house.new) (H.refusals house.old) (H.refusals house.new) work.now file closed result.status }
     ensures notes { (H.lends house.new).notes ≡ (H.lends house.old).notes }
-    ensures refusals { H.refusals house.new ≡ H.refusals house.old }
+    ensures later { H.refusals house.old ≤ H.refusals house.new }
 {
     let (file, config) = read_config(alloc, farm, file);
     house.back_farm_file(file);

@@ -11,8 +11,10 @@ pub enum Status {
     FarmFile,
     /// The input is refused by a rule.
     Input,
-    /// An opening was refused.
+    /// The farm file cannot be opened.
     Opening,
+    /// The disk cannot be opened, or a call of it failed.
+    Disk,
     /// A read failed.
     Read,
     /// A write failed.
@@ -21,6 +23,8 @@ pub enum Status {
     NoMemory,
     /// What came is no request, or the input ended inside one.
     Wire,
+    /// What is on the disk is no farm.
+    Damaged,
 }
 
 impl Status {
@@ -34,11 +38,12 @@ impl Status {
             Status::Done => 0,
             Status::Usage => 2,
             Status::FarmFile | Status::Input => 3,
-            Status::Opening => 4,
+            Status::Opening | Status::Disk => 4,
             Status::Read => 5,
             Status::Write => 6,
             Status::NoMemory => 7,
             Status::Wire => 8,
+            Status::Damaged => 9,
         }
     }
 
@@ -51,9 +56,11 @@ impl Status {
             Status::FarmFile => "the farm file is refused",
             Status::Input | Status::Wire => "the input is refused",
             Status::Opening => "the farm file cannot be opened",
+            Status::Disk => "the disk failed",
             Status::Read => "a read failed",
             Status::Write => "a write failed",
             Status::NoMemory => "memory ran out",
+            Status::Damaged => "the disk is damaged",
         }
     }
 
@@ -67,10 +74,12 @@ impl Status {
             Status::FarmFile => "the farm file is refused\n",
             Status::Input => "the input is refused\n",
             Status::Opening => "the farm file cannot be opened\n",
+            Status::Disk => "the disk failed\n",
             Status::Read => "a read failed\n",
             Status::Write => "a write failed\n",
             Status::NoMemory => "memory ran out\n",
             Status::Wire => "the input is refused: it is no request, or ends inside one\n",
+            Status::Damaged => "the disk is damaged\n",
         }
     }
 }

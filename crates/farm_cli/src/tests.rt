@@ -42,7 +42,7 @@ pub(crate) struct Outcome {
 }
 
 /// A house with a farm file `farm.toml`, and room for some replies and a note.
-fn house_of(alloc: Global, case: &Case) -> Result<MemoryHouse, AllocError> {
+pub(crate) fn house_of(alloc: Global, case: &Case) -> Result<MemoryHouse, AllocError> {
     let farm_file = MemorySource::new(
         case.farm.to_vec(alloc)?,
         case.failing_farm_reads.to_vec(alloc)?,
@@ -66,11 +66,20 @@ fn house_of(alloc: Global, case: &Case) -> Result<MemoryHouse, AllocError> {
 /// Runs a case.
 pub(crate) fn outcome_of(alloc: Global, case: &Case) -> Result<Outcome, AllocError> {
     let mut house = house_of(alloc, case)?;
+    outcome_in(alloc, case, &mut house)
+}
+
+/// Runs a case over this house.
+pub(crate) fn outcome_in(
+    alloc: Global,
+    case: &Case,
+    house: &mut MemoryHouse,
+) -> Result<Outcome, AllocError> {
     let mut words = Vec::new(alloc);
     for word in case.words {
         words.push(String::from_str(alloc, word)?)?;
     }
-    let status = run::run(alloc, words.as_slice(), &mut house);
+    let status = run::run(alloc, words.as_slice(), house);
     let mut output = Vec::new(alloc);
     if let Some(console) = house.returned_console() {
         output.extend_from_slice(console.sink.written())?;

@@ -18,20 +18,82 @@ fn usage(alloc: Global, words: &[&str]) -> Result<Option<Text>, AllocError> {
     }
 }
 
-/// Whether the words ask for this work over this farm file.
-fn asks_for(alloc: Global, words: &[&str], name: &str, wanted: Work) -> Result<bool, AllocError> {
-    let command = read(alloc, words)?;
-    Ok(
-        matches!(&command, Ok(Command::OverFarm { farm, work }) if farm.as_str() == name && *work == wanted),
-    )
+/// What the words ask for over a farm: the work and the farm file, and the disk behind `over` where there is one; or nothing.
+fn asked(alloc: Global, words: &[&str]) -> Result<String, AllocError> {
+    let Ok(Command::OverFarm { farm, work }) = read(alloc, words)? else {
+        return Ok(String::new(alloc));
+    };
+    let (name, disk) = match &work {
+        Work::Answer { disk } => ("answer", disk.as_ref()),
+        Work::Expand => ("expand", None),
+        Work::Check { disk } => ("check", disk.as_ref()),
+    };
+    let farm = farm.as_str();
+    match disk {
+        Some(disk) => {
+            let disk = disk.as_str();
+            format!(in alloc; "{name} {farm} over {disk}")
+        }
+        None => format!(in alloc; "{name} {farm}"),
+    }
 }
 
 #[test]
 fn commands_are_read(rt: HostRuntime) -> Result<(), Fail> {
-    let alloc = rt.alloc();
-    assert!(rt; asks_for(alloc, &["answer", "a.toml"], "a.toml", Work::Answer)?);
-    assert!(rt; asks_for(alloc, &["expand", "b.toml"], "b.toml", Work::Expand)?);
-    assert!(rt; asks_for(alloc, &["check", "c.toml"], "c.toml", Work::Check)?);
+    let rows: [(&[&str], &str); 5] = [
+        (&["answer", "a.toml"], "answer a.toml"),
+        (&["expand", "b.toml"], "expand b.toml"),
+        (&["check", "c.toml"], "check c.toml"),
+        (&["check", "-", "--"], "check -"),
+        (&["answer", "--", "--disk"], "answer --disk"),
+    ];
+    for (words, wanted) in rows {
+        assert_eq!(rt; asked(rt.alloc(), words)?.as_str(), wanted);
+    }
+    Ok(())
+}
+
+#[test]
+fn disks_are_read(rt: HostRuntime) -> Result<(), Fail> {
+    let rows: [(&[&str], &str); 8] = [
+        (&["answer", "a.toml", "--disk", "d"], "answer a.toml over d"),
+        (&["answer", "--disk", "d", "a.toml"], "answer a.toml over d"),
+        (
+            &["answer", "a.toml", "--disk=d", "--"],
+            "answer a.toml over d",
+        ),
+        (
+            &["check", "--disk=d", "--", "c.toml"],
+            "check c.toml over d",
+        ),
+        (&["check", "--disk", "-", "-"], "check - over -"),
+        (&["check", "c.toml", "--disk="], "check c.toml over "),
+        (&["check", "c.toml", "--disk", ""], "check c.toml over "),
+        (&["check", "c.toml", "--disk=--"], "check c.toml over --"),
+    ];
+    for (words, wanted) in rows {
+        assert_eq!(rt; asked(rt.alloc(), words)?.as_str(), wanted);
+    }
+    Ok(())
+}
+
+#[test]
+fn other_words_of_disks_get_a_text(rt: HostRuntime) -> Result<(), Fail> {
+    let rows: [&[&str]; 10] = [
+        &["expand", "b.toml", "--disk", "d"],
+        &["bulk", "--seed", "1", "--tasks", "1", "--disk", "d"],
+        &["answer", "--disk", "d"],
+        &["answer", "a.toml", "--disk"],
+        &["answer", "--disk", "--", "a.toml"],
+        &["answer", "a.toml", "--", "--disk", "d"],
+        &["answer", "a.toml", "--disk", "d", "--disk", "d"],
+        &["check", "--disk", "d", "c.toml", "e"],
+        &["check", "c.toml", "--dis", "d"],
+        &["--disk", "d", "check", "c.toml"],
+    ];
+    for words in rows {
+        assert!(rt; usage(rt.alloc(), words)?.is_some());
+    }
     Ok(())
 }
 
@@ -118,7 +180,7 @@ fn sign_is_read(rt: HostRuntime) -> Result<(), Fail> {
 #[test]
 fn other_words_get_a_text(rt: HostRuntime) -> Result<(), Fail> {
     let alloc = rt.alloc();
-    let rows: [&[&str]; 10] = [
+    let rows: [&[&str]; 9] = [
         &[],
         &["bulk"],
         &["bulk", "--seed", "1"],
@@ -126,7 +188,6 @@ fn other_words_get_a_text(rt: HostRuntime) -> Result<(), Fail> {
         &["answer"],
         &["answer", "a", "b"],
         &["serve", "a"],
-        &["answer", "--disk", "d", "a"],
         &["help"],
         &["sign", "--id", "c"],
     ];
@@ -239,7 +300,8 @@ fn help_names_the_commands(rt: HostRuntime) -> Result<(), Fail> {
         assert!(rt; help.as_str().contains(name));
     }
     let help = usage(alloc, ["check", "--help"].as_slice())?.ok_or("a text")?;
-    assert!(rt; help.as_str().contains("Usage: farm check <FARM>"));
+    assert!(rt; help.as_str().contains("Usage: farm check [OPTIONS] <FARM>"));
+    assert!(rt; help.as_str().contains("--disk <disk>"));
     assert!(rt; help.as_str().contains("The farm file (TOML)."));
     Ok(())
 }

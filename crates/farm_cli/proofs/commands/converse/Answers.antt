@@ -10,6 +10,7 @@ returns-clause-conversed g c =
     let own = IsOwnHistory-from_turns (empty_state c.args.config) c.into_object-bare.result _ _ _ _ (c.new-desk.ensures.fresh (begun (empty_state c.args.config)) (sym c.new.ensures) tt) serves.asked
     (λ seen mine stands. (c.into_object-bare.ensures.stood (begun (empty_state c.args.config)) seen mine).0 stands) in
     record {
+      disk = lent.disk_left;
       console_given = c.console-console.result;
       console_back = c.serve_connection-served.new.link;
       console = lent.console_lent;

@@ -1,4 +1,5 @@
-use Rattle.std.proofs.Common.{◌∙◌, refl, inl}
+use Rattle.std.proofs.Common.{◌∙◌, refl, subst, inl}
+use Rattle.farm_cli.specs.Run.{Obeyed}
 use Rattle.farm_cli.proofs.RunLemmas.{Obeyed-same}
 use Rattle.farm_cli.proofs.run.run_over_file.Goals as goal
 
@@ -13,6 +14,8 @@ returns-in-Ok-clause-ran g c =
         c.in-Ok.config,
         taken.0,
         taken.1,
-        Obeyed-same _ (g.H.House.lends c.back_farm_file.new.self) _ _ _ _ _ _ (record { console = rw lends refl; clock = rw lends refl; draws = rw lends refl }) (record { console = refl; clock = refl; draws = refl }) c.obey.ensures.obeyed,
+        subst (λ n. Obeyed _ _ _ n _ _ _ _) c.back_farm_file.ensures.refusals
+            (Obeyed-same _ (g.H.House.lends c.back_farm_file.new.self) _ _ _ _ _ _ _ _ (record { disk = rw lends refl; console = rw lends refl; clock = rw lends refl; draws = rw lends refl })
+            (record { disk = refl; console = refl; clock = refl; draws = refl }) c.obey.ensures.obeyed),
       ),
     )
