@@ -6,7 +6,7 @@ use Rattle.plain_text.specs.Plain.{IsPlain}
 use Rattle.farm_cli.specs.Notes.{IsLineOf, IsOneLine}
 use Rattle.farm_cli.specs.Status.{front_of, line_of}
 use Rattle.farm_cli.specs.declared.status.Status.{Status}
-use Rattle.farm_cli.specs.declared.status.Status.TheVariants.{Done, Usage, FarmFile, Input, Opening, Read, Write, NoMemory, Wire}
+use Rattle.farm_cli.specs.declared.status.Status.TheVariants.{Done, Usage, FarmFile, Input, Opening, Disk, Read, Write, NoMemory, Wire, Damaged}
 
 -- a line of printable words alone is plain
 All-plain-line : (line : List ℕ) → IsOneLine [] line → All IsPlain line
@@ -19,10 +19,12 @@ IsLineOf-one Usage line one = inr (All-plain-line line one)
 IsLineOf-one FarmFile line one = inr one
 IsLineOf-one Input line one = inr one
 IsLineOf-one Opening line one = inr one
+IsLineOf-one Disk line one = inr one
 IsLineOf-one Read line one = inr one
 IsLineOf-one Write line one = inr one
 IsLineOf-one NoMemory line one = inr one
 IsLineOf-one Wire line one = inr one
+IsLineOf-one Damaged line one = inr one
 
 -- the line of a status may be told
 pub IsLineOf-own : (status : Status) → IsLineOf status (line_of status)
@@ -31,7 +33,9 @@ IsLineOf-own Usage = inl refl
 IsLineOf-own FarmFile = inl refl
 IsLineOf-own Input = inl refl
 IsLineOf-own Opening = inl refl
+IsLineOf-own Disk = inl refl
 IsLineOf-own Read = inl refl
 IsLineOf-own Write = inl refl
 IsLineOf-own NoMemory = inl refl
 IsLineOf-own Wire = inl refl
+IsLineOf-own Damaged = inl refl

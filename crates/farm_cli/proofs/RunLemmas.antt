@@ -79,9 +79,9 @@ pub LentOver-from : {F S C N T I : Type 0} (old l0 l6 new : Lendings F S C N T I
     → new ≡ record l6 { disk = after_closing l6.disk disk' } → LentOver old new name disk disk' console console' clock clock' draws draws'
 LentOver-from old l0 l6 new name disk disk' console console' clock clock' draws draws' could opens were closes = record {
   disk_lent = record { could = could; returned = rw (closes, were.disk_left, opens) refl };
-  console_lent = rw (closes, ← opens) were.console_lent;
-  clock_lent = rw (closes, ← opens) were.clock_lent;
-  draws_lent = rw (closes, ← opens) were.draws_lent;
+  console_lent = rw closes (rw opens at were.console_lent);
+  clock_lent = rw closes (rw opens at were.clock_lent);
+  draws_lent = rw closes (rw opens at were.draws_lent);
 }
 
 -- ---- a farm that was opened from a disk
@@ -93,11 +93,10 @@ begun_from config contents changes faults = record { state = state_of config con
 module _ {F S C N T I : Type 0} (views : Views F S C N T I) (old new : Lendings F S C N T I) (before now : ℕ) (name : List ℕ) (set_up config : Config) (contents : Contents) (recorded : Recorded S)
     (has : HasFarm views old new before now name set_up config contents recorded) where
   -- the opening of its history
-  pub has_opening : Opening
+  abbrev pub has_opening : Opening
   has_opening = begun_from config contents has.opened.replays.changes (views.disk_faults has.given)
 
   pub has_begun : BeginsFrom views has.given set_up has_opening
-  unfolding has_opening
   has_begun = record {
     config_is = has.config_is;
     at_work = refl;
@@ -110,7 +109,6 @@ module _ {F S C N T I : Type 0} (views : Views F S C N T I) (old new : Lendings 
 
   -- it holds its history, which is empty
   pub has_held : HoldsHistory views.disk_tells (views.disk_contents recorded.disk) recorded.end (views.disk_faults recorded.disk) (state_of config contents recorded.halted) has_opening []
-  unfolding has_opening
   has_held =
       let P : ℕ → Bool → Type 0 = λ n b. HoldsHistory views.disk_tells (views.disk_contents recorded.disk) recorded.end n (state_of config contents b) has_opening [] in
       let begun : P (views.disk_faults has.given) false =
@@ -119,7 +117,6 @@ module _ {F S C N T I : Type 0} (views : Views F S C N T I) (old new : Lendings 
 
   -- so many records were told of
   pub has_counted : recorded.count ≡ length has_opening.records
-  unfolding has_opening
   has_counted = has.opened.counted ∙ sym (records-length has.opened.replays.changes has.opened.bodies has.opened.replays.recorded)
 
 -- the opening of a farm that begins in a state, on no disk
@@ -240,7 +237,7 @@ module _ {F S C N T I : Type 0} (views : Views F S C N T I) (old l0 l1 l2 new : 
           holds = subst (λ (b : Bool). HoldsHistory views.disk_tells (views.disk_contents recorded.disk) recorded.end (views.disk_faults recorded.disk) (state_of config contents b) opening []) has.at_work
               (has_held views old l0 before now0 name set_up config contents recorded has);
         };
-        did = rw (← counts_is, ← counted, ← tasks_is) told;
+        did = rw (counts_is, counted, tasks_is) at told;
       }
 
 -- ---- what was done with the console is said of any lendings that tell the same of it
@@ -345,6 +342,7 @@ WasUnopened-same views old old' new new' before now name status first last h = r
   disk = rw (first.disk, last.disk) h.disk;
   fault = h.fault;
   why = h.why;
+  stops = h.stops;
   status_is = h.status_is;
   console = last.console ∙ (h.console ∙ sym first.console);
   clock = last.clock ∙ (h.clock ∙ sym first.clock);

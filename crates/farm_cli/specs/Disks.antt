@@ -1,5 +1,5 @@
 -- The disk of a run: its opening, and what it has at the end.
-use Rattle.std.specs.Prelude.{◌≡◌, ℕ, false, List, [], Some, Ok, Err}
+use Rattle.std.specs.Prelude.{◌≡◌, ℕ, false, List, [], Option, Some, Ok, Err, option_to_list}
 use Rattle.causes.specs.Causes.{Rose}
 use Rattle.disk_journal.specs.declared.fault.OpenFault.{OpenFault}
 use Rattle.disk_journal.specs.declared.fault.OpenFault.TheVariants as faults
@@ -11,6 +11,8 @@ use Rattle.farm_machine.specs.Replay.{replayed}
 use Rattle.farm_core.specs.Farm.{HoldsHistory}
 use Rattle.farm_core.specs.Opened.{HasOpened, IsFarmDamaged}
 use Rattle.farm_core.specs.Records.{AreRecords, Recorded}
+use Rattle.disk_base.specs.Contents.{StopsLeave}
+use Rattle.disk_journal.specs.Images.{IsImage, IsWithin}
 use Rattle.disk_journal.specs.Records.{Opens}
 use Rattle.farm_machine.specs.State.{State}
 use Rattle.farm_cli.specs.declared.status.Status.{Status}
@@ -38,7 +40,8 @@ IsRefusedFor views given back faults.Disk = Rose (views.disk_faults given) (view
 IsRefusedFor views given back (faults.Damaged place) = views.disk_tells → IsFarmDamaged (views.disk_contents given).bytes place
 IsRefusedFor views given back faults.NoMemory = Unit {0}
 
--- the disk was opened, had no farm that could be opened, and came back; and nothing else was asked for
+-- The disk was opened, had no farm that could be opened, and came back; and nothing else was asked for. Over what an earlier farm left, a stop since
+-- then leaves what it might have left before, or the same records, or these and the one that was pending behind them.
 pub record WasUnopened {F S C N T I : Type 0} (views : Views F S C N T I) (old new : Lendings F S C N T I) (before now : ℕ) (name : List ℕ) (status : Status) : Type 0 where
   pub openings : now ≡ before
   pub given : S
@@ -46,6 +49,8 @@ pub record WasUnopened {F S C N T I : Type 0} (views : Views F S C N T I) (old n
   pub disk : WasOpened old.disk new.disk name given back
   pub fault : OpenFault
   pub why : IsRefusedFor views given back fault
+  pub stops : views.disk_tells → (bodies : List (List ℕ)) (pending : Option (List ℕ)) → IsImage [] bodies pending (views.disk_contents given).bytes
+      → StopsLeave (views.disk_contents given) (views.disk_contents back) (IsWithin [] bodies (option_to_list pending))
   pub status_is : status ≡ status_of_fault fault
   pub console : new.console ≡ old.console
   pub clock : new.clock ≡ old.clock

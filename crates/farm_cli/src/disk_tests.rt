@@ -109,6 +109,8 @@ fn a_disk_that_fails_ends_with_4(rt: HostRuntime) -> Result<(), Fail> {
     let missing = outcome_over(alloc, &case(other, PING), &[], NONE)?;
     assert_eq!(rt; missing.status.code(), 4);
     assert_eq!(rt; missing.output.len(), 0);
+    let reason: &[u8] = b"the disk failed: other.disk: entity not found\n";
+    assert_eq!(rt; missing.notes.as_slice(), reason);
     Ok(())
 }
 

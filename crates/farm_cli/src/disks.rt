@@ -17,6 +17,7 @@ use farm_desk::Solo;
 use farm_machine::config::Config;
 use farm_server::{NoGate, serve_connection};
 use std::alloc::Global;
+use std::io::ErrorKind;
 
 /// Opens the farm that the disk of this name keeps, or says how the run ends; then the disk is given back.
 fn open_farm<H: House>(
@@ -35,7 +36,7 @@ fn open_farm<H: House>(
 {
     let disk = match house.disk(name) {
         Ok(disk) => disk,
-        Err(Failed) => return Err(on_disk(alloc, name)),
+        Err(Failed) => return Err(on_missing(alloc, name, house.reason())),
     };
     match Farm::open(alloc, disk, config) {
         Ok(farm) => Ok(farm),
@@ -46,7 +47,20 @@ fn open_farm<H: House>(
     }
 }
 
-/// So a run ended over the disk of this name, which is missing, or of which a call failed.
+/// So a run ended where the house refused to open the disk of this name, for the reason that it gives.
+fn on_missing(alloc: Global, name: &str, reason: Option<ErrorKind>) -> Ended
+    ensures { result.status ≡ Status.Disk }
+{
+    let Some(reason) = reason else {
+        return on_disk(alloc, name);
+    };
+    match format!(in alloc; ": {name}: {reason}") {
+        Ok(words) => Ended::told(alloc, Status::Disk, words.as_str()),
+        Err(_) => Ended::plain(Status::Disk),
+    }
+}
+
+/// So a run ended over the disk of this name, of which a call failed.
 fn on_disk(alloc: Global, name: &str) -> Ended
     ensures { result.status ≡ Status.Disk }
 {
