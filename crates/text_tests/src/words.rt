@@ -18,7 +18,7 @@ fn usage(alloc: Global, words: &[&str]) -> Result<Option<Text>, AllocError> {
     }
 }
 
-/// What the words ask for over a farm: the work, the farm file and the disk, of which `-` says none; or nothing.
+/// What the words ask for over a farm: the work and the farm file, and the disk behind `over` where there is one; or nothing.
 fn asked(alloc: Global, words: &[&str]) -> Result<String, AllocError> {
     let Ok(Command::OverFarm { farm, work }) = read(alloc, words)? else {
         return Ok(String::new(alloc));
@@ -28,52 +28,72 @@ fn asked(alloc: Global, words: &[&str]) -> Result<String, AllocError> {
         Work::Expand => ("expand", None),
         Work::Check { disk } => ("check", disk.as_ref()),
     };
-    let disk = match disk {
-        Some(disk) => disk.as_str(),
-        None => "-",
-    };
     let farm = farm.as_str();
-    format!(in alloc; "{name} {farm} {disk}")
+    match disk {
+        Some(disk) => {
+            let disk = disk.as_str();
+            format!(in alloc; "{name} {farm} over {disk}")
+        }
+        None => format!(in alloc; "{name} {farm}"),
+    }
 }
 
 #[test]
 fn commands_are_read(rt: HostRuntime) -> Result<(), Fail> {
-    let alloc = rt.alloc();
-    assert_eq!(rt;
-        asked(alloc, &["answer", "a.toml"])?.as_str(),
-        "answer a.toml -"
-    );
-    assert_eq!(rt;
-        asked(alloc, &["expand", "b.toml"])?.as_str(),
-        "expand b.toml -"
-    );
-    assert_eq!(rt;
-        asked(alloc, &["check", "c.toml"])?.as_str(),
-        "check c.toml -"
-    );
+    let rows: [(&[&str], &str); 5] = [
+        (&["answer", "a.toml"], "answer a.toml"),
+        (&["expand", "b.toml"], "expand b.toml"),
+        (&["check", "c.toml"], "check c.toml"),
+        (&["check", "-", "--"], "check -"),
+        (&["answer", "--", "--disk"], "answer --disk"),
+    ];
+    for (words, wanted) in rows {
+        assert_eq!(rt; asked(rt.alloc(), words)?.as_str(), wanted);
+    }
     Ok(())
 }
 
 #[test]
 fn disks_are_read(rt: HostRuntime) -> Result<(), Fail> {
-    let alloc = rt.alloc();
-    assert_eq!(rt;
-        asked(alloc, &["answer", "a.toml", "--disk", "d"])?.as_str(),
-        "answer a.toml d"
-    );
-    assert_eq!(rt;
-        asked(alloc, &["check", "--disk=d", "--", "c.toml"])?.as_str(),
-        "check c.toml d"
-    );
-    assert_eq!(rt;
-        asked(alloc, &["expand", "b.toml", "--disk", "d"])?.as_str(),
-        ""
-    );
-    assert_eq!(rt; asked(alloc, &["answer", "a.toml", "--disk"])?.as_str(), "");
-    assert_eq!(rt;
-        asked(alloc, &["answer", "a.toml", "--disk", "d", "--disk", "e"])?.as_str(),
-        ""
-    );
+    let rows: [(&[&str], &str); 8] = [
+        (&["answer", "a.toml", "--disk", "d"], "answer a.toml over d"),
+        (&["answer", "--disk", "d", "a.toml"], "answer a.toml over d"),
+        (
+            &["answer", "a.toml", "--disk=d", "--"],
+            "answer a.toml over d",
+        ),
+        (
+            &["check", "--disk=d", "--", "c.toml"],
+            "check c.toml over d",
+        ),
+        (&["check", "--disk", "-", "-"], "check - over -"),
+        (&["check", "c.toml", "--disk="], "check c.toml over "),
+        (&["check", "c.toml", "--disk", ""], "check c.toml over "),
+        (&["check", "c.toml", "--disk=--"], "check c.toml over --"),
+    ];
+    for (words, wanted) in rows {
+        assert_eq!(rt; asked(rt.alloc(), words)?.as_str(), wanted);
+    }
+    Ok(())
+}
+
+#[test]
+fn other_words_of_disks_get_a_text(rt: HostRuntime) -> Result<(), Fail> {
+    let rows: [&[&str]; 10] = [
+        &["expand", "b.toml", "--disk", "d"],
+        &["bulk", "--seed", "1", "--tasks", "1", "--disk", "d"],
+        &["answer", "--disk", "d"],
+        &["answer", "a.toml", "--disk"],
+        &["answer", "--disk", "--", "a.toml"],
+        &["answer", "a.toml", "--", "--disk", "d"],
+        &["answer", "a.toml", "--disk", "d", "--disk", "d"],
+        &["check", "--disk", "d", "c.toml", "e"],
+        &["check", "c.toml", "--dis", "d"],
+        &["--disk", "d", "check", "c.toml"],
+    ];
+    for words in rows {
+        assert!(rt; usage(rt.alloc(), words)?.is_some());
+    }
     Ok(())
 }
 
@@ -160,7 +180,7 @@ fn sign_is_read(rt: HostRuntime) -> Result<(), Fail> {
 #[test]
 fn other_words_get_a_text(rt: HostRuntime) -> Result<(), Fail> {
     let alloc = rt.alloc();
-    let rows: [&[&str]; 10] = [
+    let rows: [&[&str]; 9] = [
         &[],
         &["bulk"],
         &["bulk", "--seed", "1"],
@@ -168,7 +188,6 @@ fn other_words_get_a_text(rt: HostRuntime) -> Result<(), Fail> {
         &["answer"],
         &["answer", "a", "b"],
         &["serve", "a"],
-        &["answer", "--disk", "d", "a"],
         &["help"],
         &["sign", "--id", "c"],
     ];
@@ -281,7 +300,8 @@ fn help_names_the_commands(rt: HostRuntime) -> Result<(), Fail> {
         assert!(rt; help.as_str().contains(name));
     }
     let help = usage(alloc, ["check", "--help"].as_slice())?.ok_or("a text")?;
-    assert!(rt; help.as_str().contains("Usage: farm check <FARM>"));
+    assert!(rt; help.as_str().contains("Usage: farm check [OPTIONS] <FARM>"));
+    assert!(rt; help.as_str().contains("--disk <disk>"));
     assert!(rt; help.as_str().contains("The farm file (TOML)."));
     Ok(())
 }
