@@ -1,9 +1,10 @@
 #!/usr/bin/env python3
 """Kills the program with signal 9 at a random moment while it answers over a disk, again and again, and counts replies that were acknowledged and lost.
 
-Run it at the top of the repository, with the built program as first word (else ./farm) and how many kills as second (else 100):
-python3 bench/kills.py [PROGRAM] [KILLS]
-Each run makes tasks over one connection, one after the other, and is killed after a random time. Then the same disk is opened again, and each task
+Run it with the built program itself as first word (not a script that starts it, which would be killed in its place) and how many kills as second (else 100):
+python3 bench/kills.py PROGRAM [KILLS]
+Each run makes tasks over one connection, one after the other, and is killed about the time of one of the first forty requests, in the opening of the
+disk, inside a request or between two. Then the same disk is opened again, and each task
 whose creation was answered with 200, in this run and in all before it, is asked for. A page that the kernel has is not lost by a killed process, so
 this shows the order of the writes and the opening of what a kill left, and not that a disk keeps what it was told to sync.
 """
@@ -11,14 +12,16 @@ import datetime
 import json
 import os
 import random
-import signal
 import subprocess
 import sys
 import tempfile
+import threading
 import time
 
-PROGRAM = os.path.abspath(sys.argv[1] if len(sys.argv) > 1 else "./farm")
+PROGRAM = os.path.abspath(sys.argv[1])
 KILLS = int(sys.argv[2]) if len(sys.argv) > 2 else 100
+# a run is killed about the time of one of so many requests
+MOST = 40
 FARM = '[[role]]\nid = "anonymous"\nscopes = ["*"]\n'
 NOW = datetime.datetime.now(datetime.timezone.utc)
 TASK = {
@@ -62,30 +65,41 @@ def answer(folder):
     return subprocess.Popen(words, cwd=folder, stdin=subprocess.PIPE, stdout=subprocess.PIPE, stderr=subprocess.PIPE)
 
 
-def run_and_kill(folder, first):
+class Pace:
+    """How long the last run took to its first reply, and from one reply to the next."""
+
+    opening = 0.05
+    turn = 0.005
+
+
+def run_and_kill(folder, first, pace):
     """Makes tasks from this one on until the program is killed: the numbers of those that were acknowledged, and the next number."""
     program = answer(folder)
-    moment = time.monotonic() + random.uniform(0.0, 0.25)
-    acknowledged, number = [], first
-    while number < first + 900:
-        if time.monotonic() >= moment:
-            break
+    fatal = random.randrange(MOST)
+    timer = threading.Timer(random.uniform(0.0, 1.5 * (pace.turn if fatal else pace.opening)), program.kill)
+    acknowledged, number, last = [], first, time.monotonic()
+    while True:
+        if number == first + fatal:
+            timer.start()
         try:
             program.stdin.write(creation(number))
             program.stdin.flush()
-            # half of the kills come between a request and its reply
-            if time.monotonic() >= moment - 0.001 and random.random() < 0.5:
-                number += 1
-                break
-            got = reply(program.stdout)
         except BrokenPipeError:
             break
+        number += 1
+        got = reply(program.stdout)
         if got is None:
             break
-        if got[0] == 200:
-            acknowledged.append(number)
-        number += 1
-    program.send_signal(signal.SIGKILL)
+        if got[0] != 200:
+            sys.exit("a creation was answered with %d: %s" % (got[0], got[1].decode()))
+        acknowledged.append(number - 1)
+        now = time.monotonic()
+        if number == first + 1:
+            pace.opening = now - last
+        else:
+            pace.turn = (pace.turn + now - last) / 2
+        last = now
+    timer.join()
     program.wait()
     return acknowledged, number
 
@@ -112,9 +126,9 @@ def main():
     with tempfile.TemporaryDirectory() as folder:
         with open(os.path.join(folder, "farm.toml"), "w") as file:
             file.write(FARM)
-        every, number, gone = [], 0, set()
-        for kill in range(KILLS):
-            acknowledged, number = run_and_kill(folder, number)
+        every, number, gone, pace = [], 0, set(), Pace()
+        for _ in range(KILLS):
+            acknowledged, number = run_and_kill(folder, number, pace)
             every += acknowledged
             # all of the last run, and some of all before it
             sample = acknowledged + random.sample(every, min(len(every), 200))

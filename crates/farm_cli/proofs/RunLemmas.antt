@@ -1,10 +1,14 @@
 -- What the calls of a run leave together.
-use Rattle.std.proofs.Common.{◌≡◌, ℕ, ◌+◌, suc, false, Bool, List, [], ◌∷◌, ◌++◌, length, Option, Some, None, refl, sym, ap, subst, ◌∙◌, inl, inr}
+use Rattle.std.proofs.Common.{◌≡◌, ℕ, ◌+◌, suc, true, false, Bool, List, [], ◌∷◌, ◌++◌, length, Option, Some, None, refl, sym, ap, subst, ◌∙◌, inl, inr}
+use Rattle.causes.specs.Causes.{Rose}
+use Rattle.disk_journal.specs.declared.fault.OpenFault.{OpenFault}
+use Rattle.disk_journal.specs.declared.fault.OpenFault.TheVariants as faults
 use Rattle.history.specs.Asks.{AsksInTurn, LeadsAlone}
 use Rattle.history.specs.Histories.{end_state}
 use Rattle.farm_record.specs.declared.change.Change.{Change}
 use Rattle.farm_rows.specs.Contents.{Contents}
 use Rattle.farm_core.specs.Farm.{HoldsHistory, state_of}
+use Rattle.farm_core.specs.Opened.{IsFarmDamaged}
 use Rattle.farm_core.specs.Records.{AreRecords, Recorded}
 use Rattle.farm_core.proofs.HoldLemmas.{holds-opened}
 use Rattle.command_line.specs.declared.command.Command.{Command}
@@ -28,14 +32,15 @@ use Rattle.farm_cli.specs.Checking.{CheckedOver, counts_disk_text}
 use Rattle.farm_cli.specs.Inputs.{Tells}
 use Rattle.farm_machine.specs.Config.{counts_of}
 use Rattle.farm_machine.specs.declared.config.ConfigCounts.{ConfigCounts}
-use Rattle.farm_cli.specs.Disks.{BeginsFrom, DiskHolds, HasFarm, IsMissing, WasUnopened}
+use Rattle.farm_cli.specs.Disks.{BeginsFrom, DiskHolds, HasFarm, IsMissing, IsRefusedFor, WasUnopened}
 use Rattle.farm_cli.specs.House.{CanGive, after_giving, after_return, WasLent, after_opened, after_closing, CanOpenAmong, WasOpened, Lendings}
 use Rattle.farm_cli.specs.Used.{LeavesConsole, UsedConsole}
 use Rattle.farm_cli.specs.Run.{DidOver, Obeyed, RanOverFile, RanLoad, RanSigning, RanCommand, Ran}
-use Rattle.farm_cli.specs.Serving.{IsHistoryOf, Conversed, ConversedOver, status_over}
+use Rattle.farm_cli.specs.Serving.{IsHistoryOf, Conversed, ConversedOver, status_of, status_over}
 use Rattle.http_wire.specs.Calls.{LinkState}
 use Rattle.farm_cli.specs.Views.{Views, outside_of, talk_of}
 use Rattle.farm_cli.specs.declared.status.Status.{Status}
+use Rattle.farm_cli.specs.declared.status.Status.TheVariants.{Disk}
 use Rattle.std.specs.Prelude.{Ok}
 
 -- records one for one are as many
@@ -84,7 +89,26 @@ LentOver-from old l0 l6 new name disk disk' console console' clock clock' draws 
   draws_lent = rw closes (rw opens at were.draws_lent);
 }
 
+-- ---- a farm that could not be opened
+
+-- the fault of an opening has its reason
+pub IsRefusedFor-by : {F S C N T I : Type 0} (views : Views F S C N T I) (given back : S) (fault : OpenFault) → (fault ≡ faults.Disk → Rose (views.disk_faults given) (views.disk_faults back))
+    → (views.disk_tells → (place : ℕ) → fault ≡ faults.Damaged place → IsFarmDamaged (views.disk_contents given).bytes place) → IsRefusedFor views given back fault
+IsRefusedFor-by views given back faults.Disk rose damaged = rose refl
+IsRefusedFor-by views given back (faults.Damaged place) rose damaged = λ tells. damaged tells place refl
+IsRefusedFor-by views given back faults.NoMemory rose damaged = tt
+
 -- ---- a farm that was opened from a disk
+
+-- the status over a farm that has halted, and over one at work
+pub halted_status : (halted : Bool) (served : Served) (status : Status) → halted ≡ true → status ≡ Disk → status ≡ status_over halted served
+halted_status true served status fell is = is
+halted_status false served status fell is = cc
+
+pub work_status : (halted : Bool) (served : Served) (status : Status) → halted ≡ false → status ≡ status_of served → status ≡ status_over halted served
+work_status true served status still is = cc
+work_status false served status still is = is
+
 
 -- the opening of its history
 abbrev pub begun_from : Config → Contents → List Change → ℕ → Opening
