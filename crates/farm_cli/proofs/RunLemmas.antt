@@ -1,5 +1,5 @@
 -- What the calls of a run leave together.
-use Rattle.std.proofs.Common.{◌≡◌, ℕ, ◌+◌, suc, true, false, Bool, List, [], ◌∷◌, ◌++◌, length, Option, Some, None, refl, sym, ap, subst, ◌∙◌, inl, inr}
+use Rattle.std.proofs.Common.{◌≡◌, ℕ, ◌+◌, suc, true, false, Bool, List, [], ◌∷◌, length, Option, Some, None, refl, sym, ap, subst, ◌∙◌, inl, inr}
 use Rattle.causes.specs.Causes.{Rose}
 use Rattle.disk_journal.specs.declared.fault.OpenFault.{OpenFault}
 use Rattle.disk_journal.specs.declared.fault.OpenFault.TheVariants as faults
@@ -108,7 +108,6 @@ halted_status false served status fell is = cc
 pub work_status : (halted : Bool) (served : Served) (status : Status) → halted ≡ false → status ≡ status_of served → status ≡ status_over halted served
 work_status true served status still is = cc
 work_status false served status still is = is
-
 
 -- the opening of its history
 abbrev pub begun_from : Config → Contents → List Change → ℕ → Opening
