@@ -91,6 +91,13 @@ after_closing (unopened at) file = untold
 after_closing (back x) file = untold
 after_closing untold file = untold
 
+-- the file, where it came back
+abbrev pub came_back : {T : Type 0} → Files T → Option T
+came_back (unopened at) = None
+came_back out = None
+came_back (back x) = Some x
+came_back untold = None
+
 -- a file of this name was opened, and came back
 pub record WasOpened {T : Type 0} (old new : Files T) (name : List ℕ) (opened closed : T) : Type 0 where
   pub could : CanOpenAmong old name (Ok opened)

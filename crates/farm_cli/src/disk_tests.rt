@@ -8,7 +8,7 @@ use std::alloc::{AllocError, Global};
 use std::test::Fail;
 
 /// A farm that is open to all.
-const OPEN_TO_ALL: &[u8] = b"[[role]]\nid = \"anonymous\"\nscopes = [\"*\"]\n";
+pub(crate) const OPEN_TO_ALL: &[u8] = b"[[role]]\nid = \"anonymous\"\nscopes = [\"*\"]\n";
 
 /// No call has this number.
 const NONE: u64 = 1_000_000;
@@ -54,7 +54,7 @@ fn outcome_over(
 }
 
 /// The line of `check` over a disk of these bytes.
-fn checked(alloc: Global, bytes: &[u8]) -> Result<Vec<u8>, AllocError> {
+pub(crate) fn checked(alloc: Global, bytes: &[u8]) -> Result<Vec<u8>, AllocError> {
     let words = &["check", "farm.toml", "--disk", "farm.disk"];
     Ok(outcome_over(alloc, &case(words, &[]), bytes, NONE)?.output)
 }
@@ -63,7 +63,7 @@ fn checked(alloc: Global, bytes: &[u8]) -> Result<Vec<u8>, AllocError> {
 const CREATION: &[u8] =
     b"PUT /api/queue/v1/task/AAAAAAAAQACAAAAAAAAAAA HTTP/1.1\r\nContent-Length: 211\r\n\r\n{\"created\":\"1970-01-01T00:00:00.000Z\",\"deadline\":\"1970-01-02T00:00:00.000Z\",\"metadata\":{\"description\":\"d\",\"name\":\"n\",\"owner\":\"o@example.com\",\"source\":\"https://example.com/\"},\"payload\":{},\"taskQueueId\":\"prov/wt\"}";
 
-const ANSWER: &[&str] = &["answer", "farm.toml", "--disk", "farm.disk"];
+pub(crate) const ANSWER: &[&str] = &["answer", "farm.toml", "--disk", "farm.disk"];
 
 #[test]
 fn a_disk_keeps_what_was_acknowledged(rt: HostRuntime) -> Result<(), Fail> {

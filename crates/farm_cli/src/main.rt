@@ -15,6 +15,8 @@ mod inputs;
 mod laws;
 mod lending;
 mod loading;
+#[cfg(test)]
+mod lost_tests;
 mod memory_house;
 #[cfg(test)]
 mod note_tests;

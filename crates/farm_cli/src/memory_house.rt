@@ -2,7 +2,7 @@
 ghost use Rattle.std.specs.Prelude.{◌≡◌, string_bytes, option_map};
 ghost use Rattle.std.specs.Option.{option_copied};
 ghost use Rattle.farm_cli.specs.declared.lending.Lending.TheVariants.{Ready};
-ghost use Rattle.farm_cli.specs.House.{after_opening, unopened, refuses, returned, CanOpenAmong};
+ghost use Rattle.farm_cli.specs.House.{after_opening, came_back, unopened, refuses, returned, CanOpenAmong};
 ghost use Rattle.farm_cli.specs.MemoryHouse.{disks_of, files_of, only_file};
 
 use crate::house::House;
@@ -84,7 +84,9 @@ impl MemoryHouse {
     }
 
     /// The disk, if it came back.
-    pub fn returned_disk(&self) -> Option<&MemoryDisk> {
+    pub fn returned_disk(&self) -> Option<&MemoryDisk>
+        ensures { option_copied result ≡ came_back (⟦<MemoryHouse as House>⟧.lends self.now).disk }
+    {
         match &self.disk {
             Some(named) => named.disk.returned(),
             None => None,
