@@ -1,0 +1,17 @@
+pub mod KeyLemmas
+pub mod OutcomeLemmas
+pub mod PayLemmas
+pub mod BinderLemmas
+pub mod FormLemmas
+pub mod EvaluationLemmas
+pub mod PathLemmas
+pub mod ScopeLemmas
+pub mod CutLemmas
+pub mod TextLemmas
+pub mod TemplateLemmas
+pub mod MapLemmas
+pub mod KindLemmas
+pub mod OneParts
+pub mod OneSorting
+pub mod OneRendering
+pub mod PutLemmas

@@ -1,0 +1,11 @@
+use Rattle.std.proofs.Common.{◌≡◌, ◌++◌, drop, []}
+use Rattle.std.specs.Vec.Iter.{into_iter_items}
+use Rattle.farm_text.specs.Document.{items_of, no_members}
+use Rattle.farm_text.specs.Doc.{document, documents}
+use Rattle.farm_text.proofs.DocLemmas.{members_in}
+use Rattle.jsone_render.specs.Merges.{put_all, merged, merged_onto, deep_all, deep_merged_onto, flattened, items_leaves}
+use Rattle.jsone_render.proofs.merges.+deepen.Given as goal
+
+-- what is left to merge makes the whole
+abbrev pub invariant-deep_all-loop-key : goal.invariant-deep_all-loop-key
+invariant-deep_all-loop-key l = deep_all (members_in l.key-iterator) (members_in l.members.entries) ≡ deep_all (members_in l.later.entries) (members_in l.initial.members.entries)

@@ -1,0 +1,11 @@
+use Rattle.std.proofs.Common.{◌≡◌, ◌++◌, drop, []}
+use Rattle.std.specs.Vec.Iter.{into_iter_items}
+use Rattle.farm_text.specs.Document.{items_of, no_members}
+use Rattle.farm_text.specs.Doc.{document, documents}
+use Rattle.farm_text.proofs.DocLemmas.{members_in}
+use Rattle.jsone_render.specs.Merges.{put_all, merged, merged_onto, deep_all, deep_merged_onto, flattened, items_leaves}
+use Rattle.jsone_render.proofs.merges.put_all.Given as goal
+
+-- what is left to put makes the whole
+abbrev pub invariant-loop-key : goal.invariant-loop-key
+invariant-loop-key l = put_all (members_in l.map.entries) (members_in l.key-iterator) ≡ put_all (members_in l.initial.map.entries) (members_in l.fn.more.entries)

@@ -1,0 +1,453 @@
+//! Rendering: what each node of a template comes to.
+ghost use Rattle.std.specs.Prelude.{◌≡◌, [], codes, Some};
+ghost use Rattle.farm_text.specs.Document.{items_of, members_of, member_at, object};
+ghost use Rattle.farm_text.specs.Doc.{document, documents, entries_of};
+ghost use Rattle.jsone_eval.specs.Scopes.{scopes_of};
+ghost use Rattle.jsone_render.specs.Answers.{Answers, Kept, found_in, names_in, pairs_of};
+ghost use Rattle.jsone_render.specs.Bindings.{LetRenders, EachRenders, MappedOver, TurnsReduce, ReducedOver};
+ghost use Rattle.jsone_render.specs.Conditions.{SwitchRenders, MatchRenders};
+ghost use Rattle.jsone_render.specs.Templates.{Renders, ItemsRender, ValuesRender, MemberRenders, BranchRenders, AloneRenders, BindingRenders, BoundOver, FromNowRenders};
+
+use crate::applied::{given_by, or_before, span_of};
+use crate::binders::Names;
+use crate::conditions::{branch_of, conditions_of, keys_of};
+use crate::faults::RenderFault;
+use crate::forms::{MapForm, form_of};
+use crate::lists::{keep, keep_at, or_null};
+use crate::maps::has_key;
+use crate::names::are_names;
+use crate::operators::Operator;
+use crate::paths::{here, under_index, under_key};
+use crate::renderer::Renderer;
+use crate::turns::{merged, numbered, turns_of};
+use farm_text::Doc;
+use jsone_values::faults::Fault;
+use std::alloc::Global;
+use std::collections::BTreeMap;
+
+impl<'a> Renderer<'a> {
+    /// A node of the template. It goes as deep as the template nests.
+    #[cycle(render)]
+    pub(crate) fn value(
+        &mut self,
+        alloc: Global,
+        template: &Doc,
+    ) -> Result<Option<Doc>, RenderFault>
+        ensures answers { Answers found_in (Renders (document template.now) (scopes_of self.old.context) self.old.cost.spent) result self.new.cost.spent }
+        ensures scopes { Kept result (scopes_of self.old.context) (scopes_of self.new.context) }
+    {
+        match template {
+            Doc::Null => self.pay(1, Doc::Null),
+            Doc::Bool(truth) => self.pay(1, Doc::Bool(*truth)),
+            Doc::Int(number) => self.pay(1, Doc::Int(*number)),
+            Doc::Text(text) => self.text(alloc, text.as_str()),
+            Doc::List(items) => {
+                let done = match self.items(alloc, items) {
+                    Ok(done) => done,
+                    Err(fault) => return Err(fault),
+                };
+                self.pay((items.len() as u64).saturating_add(1), Doc::List(done))
+            }
+            Doc::Map(members) => self.map(alloc, members),
+        }
+    }
+
+    /// What the items of a list give.
+    #[cycle(render)]
+    fn items(&mut self, alloc: Global, items: &Vec<Doc>) -> Result<Vec<Doc>, RenderFault>
+        ensures answers { Answers (λ v. documents v.items) (ItemsRender 0 [] (items_of (documents items.now.items)) (scopes_of self.old.context) self.old.cost.spent) result self.new.cost.spent }
+        ensures scopes { Kept result (scopes_of self.old.context) (scopes_of self.new.context) }
+    {
+        let mut done = Vec::new(alloc);
+        for index in 0..items.len() {
+            match self.value(alloc, &items[index]) {
+                Ok(found) => keep(&mut done, found)?,
+                Err(fault) => return Err(under_index(alloc, index, fault)),
+            }
+        }
+        Ok(done)
+    }
+
+    /// What the members of a map give, at their keys.
+    #[cycle(render)]
+    fn values(
+        &mut self,
+        alloc: Global,
+        members: &BTreeMap<String, Doc>,
+    ) -> Result<Vec<(String, Doc)>, RenderFault>
+        ensures answers { Answers (λ v. entries_of v.items) (ValuesRender [] (members_of (entries_of members.now.entries)) (scopes_of self.old.context) self.old.cost.spent) result self.new.cost.spent }
+        ensures scopes { Kept result (scopes_of self.old.context) (scopes_of self.new.context) }
+    {
+        let mut done = Vec::new(alloc);
+        for (key, member) in members.iter() {
+            match self.value(alloc, member) {
+                Ok(found) => keep_at(alloc, &mut done, key.as_str(), found)?,
+                Err(fault) => return Err(under_key(alloc, key.as_str(), fault)),
+            }
+        }
+        Ok(done)
+    }
+
+    /// A map, by its operator.
+    #[cycle(render)]
+    fn map(
+        &mut self,
+        alloc: Global,
+        members: &BTreeMap<String, Doc>,
+    ) -> Result<Option<Doc>, RenderFault>
+        ensures answers { Answers found_in (Renders (object (members_of (entries_of members.now.entries))) (scopes_of self.old.context) self.old.cost.spent) result self.new.cost.spent }
+        ensures scopes { Kept result (scopes_of self.old.context) (scopes_of self.new.context) }
+    {
+        match form_of(members) {
+            MapForm::Plain => {
+                let values = match self.values(alloc, members) {
+                    Ok(values) => values,
+                    Err(fault) => return Err(fault),
+                };
+                self.keyed(alloc, members.len(), values)
+            }
+            MapForm::Faulty(rule) => Err(here(alloc, rule)),
+            MapForm::Alone(operator) => self.alone(alloc, members, operator),
+            MapForm::Binding(operator, key, names) => {
+                let value = match self.operand(alloc, members, operator.key()) {
+                    Ok(value) => value,
+                    Err(fault) => return Err(fault),
+                };
+                self.over(alloc, members, operator, key, names, or_null(value))
+            }
+        }
+    }
+
+    /// What stands at a key; where nothing does, that is removed.
+    #[cycle(render)]
+    fn operand(
+        &mut self,
+        alloc: Global,
+        members: &BTreeMap<String, Doc>,
+        key: &str,
+    ) -> Result<Option<Doc>, RenderFault>
+        ensures answers { Answers found_in (MemberRenders key.now (members_of (entries_of members.now.entries)) (scopes_of self.old.context) self.old.cost.spent) result self.new.cost.spent }
+        ensures scopes { Kept result (scopes_of self.old.context) (scopes_of self.new.context) }
+    {
+        match members.get(key) {
+            Some(member) => match self.value(alloc, member) {
+                Ok(found) => Ok(found),
+                Err(fault) => Err(under_key(alloc, key, fault)),
+            },
+            None => Ok(None),
+        }
+    }
+
+    /// What stands at a key of the map that stands at a key.
+    #[cycle(render)]
+    fn branch(
+        &mut self,
+        alloc: Global,
+        members: &BTreeMap<String, Doc>,
+        key: &str,
+        inner: &str,
+    ) -> Result<Option<Doc>, RenderFault>
+        ensures answers { Answers found_in (BranchRenders key.now inner.now (members_of (entries_of members.now.entries)) (scopes_of self.old.context) self.old.cost.spent) result self.new.cost.spent }
+        ensures scopes { Kept result (scopes_of self.old.context) (scopes_of self.new.context) }
+    {
+        match members.get(key) {
+            Some(Doc::Map(branches)) => match self.operand(alloc, branches, inner) {
+                Ok(found) => Ok(found),
+                Err(fault) => Err(under_key(alloc, key, fault)),
+            },
+            _ => Ok(None),
+        }
+    }
+
+    /// A map with an operator beside which no key binds.
+    #[cycle(render)]
+    fn alone(
+        &mut self,
+        alloc: Global,
+        members: &BTreeMap<String, Doc>,
+        operator: Operator,
+    ) -> Result<Option<Doc>, RenderFault>
+        ensures answers { let ms = members_of (entries_of members.now.entries) in
+            Answers found_in (AloneRenders operator ms (λ key. MemberRenders key ms) (λ key inner. BranchRenders key inner ms) (scopes_of self.old.context) self.old.cost.spent) result self.new.cost.spent }
+        ensures scopes { Kept result (scopes_of self.old.context) (scopes_of self.new.context) }
+    {
+        match operator {
+            Operator::Eval => {
+                let value = match self.value_at(alloc, members, "$eval") {
+                    Ok(value) => value,
+                    Err(fault) => return Err(fault),
+                };
+                self.finish(Some(value))
+            }
+            Operator::If => {
+                let value = match self.value_at(alloc, members, "$if") {
+                    Ok(value) => value,
+                    Err(fault) => return Err(fault),
+                };
+                let found = match self.operand(alloc, members, branch_of(&value)) {
+                    Ok(found) => found,
+                    Err(fault) => return Err(fault),
+                };
+                self.finish(found)
+            }
+            Operator::Switch => self.switch(alloc, members),
+            Operator::Match => self.matches(alloc, members),
+            Operator::Let => self.bind_in(alloc, members),
+            Operator::FromNow => self.from_now(alloc, members),
+            _ => {
+                let value = match self.operand(alloc, members, operator.key()) {
+                    Ok(value) => value,
+                    Err(fault) => return Err(fault),
+                };
+                self.finish_made(alloc, given_by(alloc, operator, or_null(value)))
+            }
+        }
+    }
+
+    /// `$switch`: the branch of the one condition that is true.
+    #[cycle(render)]
+    fn switch(
+        &mut self,
+        alloc: Global,
+        members: &BTreeMap<String, Doc>,
+    ) -> Result<Option<Doc>, RenderFault>
+        ensures answers { let ms = members_of (entries_of members.now.entries) in
+            Answers found_in (SwitchRenders (member_at (codes "$switch") ms) (λ inner. BranchRenders (codes "$switch") inner ms) (scopes_of self.old.context) self.old.cost.spent) result self.new.cost.spent }
+        ensures scopes { Kept result (scopes_of self.old.context) (scopes_of self.new.context) }
+    {
+        let Some(Doc::Map(branches)) = members.get("$switch") else {
+            return Err(here(alloc, Fault::WrongKind));
+        };
+        let conditions = conditions_of(alloc, branches)?;
+        let found = match self.true_of(alloc, conditions) {
+            Ok(found) => found,
+            Err(fault) => return Err(fault),
+        };
+        if found.len() > 1 {
+            return Err(here(alloc, Fault::TwoBranches));
+        }
+        let key = match found.first() {
+            Some(key) => key.as_str(),
+            None => "$default",
+        };
+        let taken = match self.branch(alloc, members, "$switch", key) {
+            Ok(taken) => taken,
+            Err(fault) => return Err(fault),
+        };
+        self.finish(taken)
+    }
+
+    /// `$match`: the branches of the conditions that are true.
+    #[cycle(render)]
+    fn matches(
+        &mut self,
+        alloc: Global,
+        members: &BTreeMap<String, Doc>,
+    ) -> Result<Option<Doc>, RenderFault>
+        ensures answers { let ms = members_of (entries_of members.now.entries) in
+            Answers found_in (MatchRenders (member_at (codes "$match") ms) (λ inner. BranchRenders (codes "$match") inner ms) (scopes_of self.old.context) self.old.cost.spent) result self.new.cost.spent }
+        ensures scopes { Kept result (scopes_of self.old.context) (scopes_of self.new.context) }
+    {
+        let Some(Doc::Map(branches)) = members.get("$match") else {
+            return Err(here(alloc, Fault::WrongKind));
+        };
+        let conditions = keys_of(alloc, branches)?;
+        let found = match self.true_of(alloc, conditions) {
+            Ok(found) => found,
+            Err(fault) => return Err(fault),
+        };
+        let mut done = Vec::new(alloc);
+        for key in &found {
+            let taken = match self.branch(alloc, members, "$match", key.as_str()) {
+                Ok(taken) => taken,
+                Err(fault) => return Err(fault),
+            };
+            keep(&mut done, taken)?;
+        }
+        self.finish(Some(Doc::List(done)))
+    }
+
+    /// `$let`: what stands at `in`, where the members of a map are bound.
+    #[cycle(render)]
+    fn bind_in(
+        &mut self,
+        alloc: Global,
+        members: &BTreeMap<String, Doc>,
+    ) -> Result<Option<Doc>, RenderFault>
+        ensures answers { let ms = members_of (entries_of members.now.entries) in
+            Answers found_in (LetRenders (λ key. MemberRenders key ms) (scopes_of self.old.context) self.old.cost.spent) result self.new.cost.spent }
+        ensures scopes { Kept result (scopes_of self.old.context) (scopes_of self.new.context) }
+    {
+        let value = match self.operand(alloc, members, "$let") {
+            Ok(value) => or_null(value),
+            Err(fault) => return Err(fault),
+        };
+        let Doc::Map(bound) = value else {
+            return Err(here(alloc, Fault::WrongKind));
+        };
+        if !are_names(&bound) {
+            return Err(here(alloc, Fault::BadOperator));
+        }
+        let height = self.height();
+        self.bind_map(Doc::Map(bound))?;
+        let found = match self.operand(alloc, members, "in") {
+            Ok(found) => found,
+            Err(fault) => return Err(fault),
+        };
+        self.release(height);
+        self.finish(found)
+    }
+
+    /// `$fromNow`, from a moment that is rendered, or else from what `now` is bound to.
+    #[cycle(render)]
+    fn from_now(
+        &mut self,
+        alloc: Global,
+        members: &BTreeMap<String, Doc>,
+    ) -> Result<Option<Doc>, RenderFault>
+        ensures answers { let ms = members_of (entries_of members.now.entries) in
+            Answers found_in (FromNowRenders ms (λ key. MemberRenders key ms) (scopes_of self.old.context) self.old.cost.spent) result self.new.cost.spent }
+        ensures scopes { Kept result (scopes_of self.old.context) (scopes_of self.new.context) }
+    {
+        let span = match self.operand(alloc, members, "$fromNow") {
+            Ok(span) => span,
+            Err(fault) => return Err(fault),
+        };
+        if has_key(members, "from") {
+            let from = match self.operand(alloc, members, "from") {
+                Ok(from) => from,
+                Err(fault) => return Err(fault),
+            };
+            return self.finish_made(alloc, span_of(alloc, &or_null(span), Some(&or_null(from))));
+        }
+        let made = span_of(alloc, &or_null(span), self.context.get("now"));
+        self.finish_made(alloc, made)
+    }
+
+    /// An operator over the value of its operand, beside which a key binds names.
+    #[cycle(render)]
+    fn over(
+        &mut self,
+        alloc: Global,
+        members: &BTreeMap<String, Doc>,
+        operator: Operator,
+        key: &str,
+        names: Names,
+        value: Doc,
+    ) -> Result<Option<Doc>, RenderFault>
+        ensures answers { let ms = members_of (entries_of members.now.entries) in
+            Answers found_in (BoundOver operator key.now (names_in names.entry) ms (λ key. MemberRenders key ms) (document value) (scopes_of self.old.context) self.old.cost.spent) result self.new.cost.spent }
+        ensures scopes { Kept result (scopes_of self.old.context) (scopes_of self.new.context) }
+    {
+        match operator {
+            Operator::Map => self.mapped(alloc, members, key, names, value),
+            Operator::Reduce => {
+                let initial = match self.operand(alloc, members, "initial") {
+                    Ok(initial) => initial,
+                    Err(fault) => return Err(fault),
+                };
+                self.reduced(alloc, members, key, names, value, or_null(initial))
+            }
+            Operator::Find => self.found_in(alloc, members, key, names, value),
+            Operator::Sort => self.sorted_by(alloc, members, key, names, value),
+            _ => Err(here(alloc, Fault::BadOperator)),
+        }
+    }
+
+    /// `$map` over a list or a map.
+    #[cycle(render)]
+    fn mapped(
+        &mut self,
+        alloc: Global,
+        members: &BTreeMap<String, Doc>,
+        key: &str,
+        names: Names,
+        value: Doc,
+    ) -> Result<Option<Doc>, RenderFault>
+        ensures answers { let ms = members_of (entries_of members.now.entries) in
+            Answers found_in (MappedOver (MemberRenders key.now ms) (names_in names.entry) (document value) (scopes_of self.old.context) self.old.cost.spent) result self.new.cost.spent }
+        ensures scopes { Kept result (scopes_of self.old.context) (scopes_of self.new.context) }
+    {
+        match value {
+            Doc::List(items) => {
+                let turns = numbered(alloc, items)?;
+                let done = match self.each(alloc, members, key, names, turns) {
+                    Ok(done) => done,
+                    Err(fault) => return Err(fault),
+                };
+                self.finish(Some(Doc::List(done)))
+            }
+            Doc::Map(pairs) => {
+                let turns = turns_of(alloc, names, pairs)?;
+                let done = match self.each(alloc, members, key, names, turns) {
+                    Ok(done) => done,
+                    Err(fault) => return Err(fault),
+                };
+                self.finish_made(alloc, merged(alloc, done))
+            }
+            _ => Err(here(alloc, Fault::WrongKind)),
+        }
+    }
+
+    /// What the turns give.
+    #[cycle(render)]
+    fn each(
+        &mut self,
+        alloc: Global,
+        members: &BTreeMap<String, Doc>,
+        key: &str,
+        names: Names,
+        turns: Vec<(Doc, Doc)>,
+    ) -> Result<Vec<Doc>, RenderFault>
+        ensures answers { let ms = members_of (entries_of members.now.entries) in
+            Answers (λ v. documents v.items) (EachRenders (MemberRenders key.now ms) (names_in names.entry) [] (pairs_of turns.items) (scopes_of self.old.context) self.old.cost.spent) result self.new.cost.spent }
+        ensures scopes { Kept result (scopes_of self.old.context) (scopes_of self.new.context) }
+    {
+        let height = self.height();
+        let mut done = Vec::new(alloc);
+        for (item, index) in turns {
+            self.bind_two(alloc, names, item, index)?;
+            let found = match self.operand(alloc, members, key) {
+                Ok(found) => found,
+                Err(fault) => return Err(fault),
+            };
+            self.release(height);
+            keep(&mut done, found)?;
+        }
+        Ok(done)
+    }
+
+    /// `$reduce` over a list.
+    #[cycle(render)]
+    fn reduced(
+        &mut self,
+        alloc: Global,
+        members: &BTreeMap<String, Doc>,
+        key: &str,
+        names: Names,
+        value: Doc,
+        initial: Doc,
+    ) -> Result<Option<Doc>, RenderFault>
+        ensures answers { let ms = members_of (entries_of members.now.entries) in
+            Answers found_in (ReducedOver (MemberRenders key.now ms) (names_in names.entry) (document initial) (document value) (scopes_of self.old.context) self.old.cost.spent) result self.new.cost.spent }
+        ensures scopes { Kept result (scopes_of self.old.context) (scopes_of self.new.context) }
+    {
+        let Doc::List(items) = value else {
+            return Err(here(alloc, Fault::WrongKind));
+        };
+        let turns = numbered(alloc, items)?;
+        let mut before = initial;
+        for (item, index) in turns {
+            let height = self.height();
+            self.bind_three(alloc, names, before, item, index)?;
+            let found = match self.operand(alloc, members, key) {
+                Ok(found) => found,
+                Err(fault) => return Err(fault),
+            };
+            self.release(height + 1);
+            let kept = self.take_back();
+            before = or_before(kept, found);
+        }
+        self.finish(Some(before))
+    }
+}
