@@ -15,3 +15,7 @@ pub mod OneParts
 pub mod OneSorting
 pub mod OneRendering
 pub mod PutLemmas
+pub mod RenderLemmas
+pub mod SizeLemmas
+pub mod TurnLemmas
+pub mod ContextLemmas

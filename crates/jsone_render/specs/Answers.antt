@@ -20,6 +20,7 @@ use Rattle.jsone_render.specs.declared.faults.RenderFault.{RenderFault}
 use Rattle.jsone_render.specs.declared.faults.RenderFault.TheVariants.{Fault as a_fault, TooMuchWork, NoMemory}
 use Rattle.jsone_render.specs.declared.keys.Others.{Others}
 use Rattle.jsone_render.specs.declared.keys.Others.TheVariants.{None as no_others, One as one_other, More as more_others}
+use Rattle.jsone_render.specs.Conditions.{default_key}
 use Rattle.jsone_render.specs.Expressions.{HasTree}
 use Rattle.jsone_render.specs.Forms.{Form, plain, faulty, alone, binding}
 use Rattle.jsone_render.specs.Outcomes.{Outcome, given, faulted, too_much, worth}
@@ -103,6 +104,11 @@ pairs_of ps = map (λ p. (document p.0, document p.1)) ps
 abbrev pub strings_in : List (String Global) → List (List ℕ)
 strings_in ss = map (λ s. string_bytes s) ss
 
+-- the branch of the first of the conditions that are true
+abbrev pub branch_taken : List (List ℕ) → List ℕ
+branch_taken [] = default_key
+branch_taken (k ∷ ks) = k
+
 -- the value with some cost, or the fault, or too much work
 abbrev pub IsAnswer : (Outcome Document → Type 0) → Result Doc RenderFault → Type 0
 IsAnswer Is (Ok d) = (spent : ℕ) × Is (given (document d) spent)
@@ -122,3 +128,8 @@ IsNoList _ = Unit {0}
 abbrev pub IsNoText : Option Document → Type 0
 IsNoText (Some (text bs)) = ⊥
 IsNoText _ = Unit {0}
+
+-- no map stands there
+abbrev pub IsNoBranches : Option Document → Type 0
+IsNoBranches (Some (object ms)) = ⊥
+IsNoBranches _ = Unit {0}

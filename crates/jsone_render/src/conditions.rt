@@ -5,7 +5,7 @@ ghost use Rattle.std.specs.Str.{bytes_eq};
 ghost use Rattle.farm_text.specs.Document.{members_of};
 ghost use Rattle.farm_text.specs.Doc.{document, entries_of};
 ghost use Rattle.jsone_eval.specs.Scopes.{scopes_of};
-ghost use Rattle.jsone_render.specs.Answers.{Answers, Kept, strings_in};
+ghost use Rattle.jsone_render.specs.Answers.{Answers, Kept, branch_taken, strings_in};
 ghost use Rattle.jsone_render.specs.Conditions.{branch_of, AreTrue, default_key, conditions_of};
 ghost use Rattle.jsone_render.specs.Expressions.{ValueAt};
 ghost use Rattle.jsone_render.specs.Maps.{keys_of};
@@ -71,6 +71,16 @@ pub(crate) fn conditions_of(
         push_condition(&mut keys, key)?;
     }
     Ok(keys)
+}
+
+/// The branch of the first condition that is true, or else the one for none.
+pub(crate) fn branch_taken(found: &Vec<String>) -> &str
+    ensures { result.now ≡ branch_taken (strings_in found.now.items) }
+{
+    match found.first() {
+        Some(key) => key.as_str(),
+        None => "$default",
+    }
 }
 
 fn keep_if(found: &mut Vec<String>, key: String, is_kept: bool) -> Result<(), AllocError>

@@ -4,7 +4,7 @@ ghost use Rattle.jsone_render.specs.Answers.{IsAnswer};
 ghost use Rattle.jsone_render.specs.Templates.{IsRendered};
 
 use crate::faults::RenderFault;
-use crate::lists::or_null;
+use crate::lists::{as_map, or_null};
 use crate::names::are_names;
 use crate::paths::here;
 use crate::renderer::Renderer;
@@ -17,7 +17,7 @@ use std::alloc::Global;
 pub fn render(alloc: Global, template: &Doc, context: &Doc) -> Result<Doc, RenderFault>
     ensures { IsAnswer (IsRendered (document template.now) (document context.now)) result }
 {
-    let Doc::Map(names) = context else {
+    let Some(names) = as_map(context) else {
         return Err(here(alloc, Fault::BadContext));
     };
     if !are_names(names) {
@@ -27,6 +27,8 @@ pub fn render(alloc: Global, template: &Doc, context: &Doc) -> Result<Doc, Rende
         context: Context::new(alloc, context),
         cost: Cost::new(),
     };
-    let found = renderer.value(alloc, template)?;
-    Ok(or_null(found))
+    match renderer.value(alloc, template) {
+        Ok(found) => Ok(or_null(found)),
+        Err(fault) => Err(fault),
+    }
 }

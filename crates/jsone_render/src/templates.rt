@@ -10,10 +10,10 @@ ghost use Rattle.jsone_render.specs.Templates.{Renders, ItemsRender, ValuesRende
 
 use crate::applied::{given_by, or_before, span_of};
 use crate::binders::Names;
-use crate::conditions::{branch_of, conditions_of, keys_of};
+use crate::conditions::{branch_of, branch_taken, conditions_of, keys_of};
 use crate::faults::RenderFault;
 use crate::forms::{MapForm, form_of};
-use crate::lists::{keep, keep_at, or_null};
+use crate::lists::{into_list, into_map, keep, keep_at, map_at, member_of, or_null};
 use crate::maps::has_key;
 use crate::names::are_names;
 use crate::operators::Operator;
@@ -129,7 +129,7 @@ impl<'a> Renderer<'a> {
         ensures answers { Answers found_in (MemberRenders key.now (members_of (entries_of members.now.entries)) (scopes_of self.old.context) self.old.cost.spent) result self.new.cost.spent }
         ensures scopes { Kept result (scopes_of self.old.context) (scopes_of self.new.context) }
     {
-        match members.get(key) {
+        match member_of(members, key) {
             Some(member) => match self.value(alloc, member) {
                 Ok(found) => Ok(found),
                 Err(fault) => Err(under_key(alloc, key, fault)),
@@ -150,8 +150,8 @@ impl<'a> Renderer<'a> {
         ensures answers { Answers found_in (BranchRenders key.now inner.now (members_of (entries_of members.now.entries)) (scopes_of self.old.context) self.old.cost.spent) result self.new.cost.spent }
         ensures scopes { Kept result (scopes_of self.old.context) (scopes_of self.new.context) }
     {
-        match members.get(key) {
-            Some(Doc::Map(branches)) => match self.operand(alloc, branches, inner) {
+        match map_at(members, key) {
+            Some(branches) => match self.operand(alloc, branches, inner) {
                 Ok(found) => Ok(found),
                 Err(fault) => Err(under_key(alloc, key, fault)),
             },
@@ -215,7 +215,7 @@ impl<'a> Renderer<'a> {
             Answers found_in (SwitchRenders (member_at (codes "$switch") ms) (λ inner. BranchRenders (codes "$switch") inner ms) (scopes_of self.old.context) self.old.cost.spent) result self.new.cost.spent }
         ensures scopes { Kept result (scopes_of self.old.context) (scopes_of self.new.context) }
     {
-        let Some(Doc::Map(branches)) = members.get("$switch") else {
+        let Some(branches) = map_at(members, "$switch") else {
             return Err(here(alloc, Fault::WrongKind));
         };
         let conditions = conditions_of(alloc, branches)?;
@@ -226,10 +226,7 @@ impl<'a> Renderer<'a> {
         if found.len() > 1 {
             return Err(here(alloc, Fault::TwoBranches));
         }
-        let key = match found.first() {
-            Some(key) => key.as_str(),
-            None => "$default",
-        };
+        let key = branch_taken(&found);
         let taken = match self.branch(alloc, members, "$switch", key) {
             Ok(taken) => taken,
             Err(fault) => return Err(fault),
@@ -248,7 +245,7 @@ impl<'a> Renderer<'a> {
             Answers found_in (MatchRenders (member_at (codes "$match") ms) (λ inner. BranchRenders (codes "$match") inner ms) (scopes_of self.old.context) self.old.cost.spent) result self.new.cost.spent }
         ensures scopes { Kept result (scopes_of self.old.context) (scopes_of self.new.context) }
     {
-        let Some(Doc::Map(branches)) = members.get("$match") else {
+        let Some(branches) = map_at(members, "$match") else {
             return Err(here(alloc, Fault::WrongKind));
         };
         let conditions = keys_of(alloc, branches)?;
@@ -282,7 +279,7 @@ impl<'a> Renderer<'a> {
             Ok(value) => or_null(value),
             Err(fault) => return Err(fault),
         };
-        let Doc::Map(bound) = value else {
+        let Some(bound) = into_map(value) else {
             return Err(here(alloc, Fault::WrongKind));
         };
         if !are_names(&bound) {
@@ -368,8 +365,8 @@ impl<'a> Renderer<'a> {
             Answers found_in (MappedOver (MemberRenders key.now ms) (names_in names.entry) (document value) (scopes_of self.old.context) self.old.cost.spent) result self.new.cost.spent }
         ensures scopes { Kept result (scopes_of self.old.context) (scopes_of self.new.context) }
     {
-        match value {
-            Doc::List(items) => {
+        match into_list(value) {
+            Ok(items) => {
                 let turns = numbered(alloc, items)?;
                 let done = match self.each(alloc, members, key, names, turns) {
                     Ok(done) => done,
@@ -377,7 +374,10 @@ impl<'a> Renderer<'a> {
                 };
                 self.finish(Some(Doc::List(done)))
             }
-            Doc::Map(pairs) => {
+            Err(value) => {
+                let Some(pairs) = into_map(value) else {
+                    return Err(here(alloc, Fault::WrongKind));
+                };
                 let turns = turns_of(alloc, names, pairs)?;
                 let done = match self.each(alloc, members, key, names, turns) {
                     Ok(done) => done,
@@ -385,7 +385,6 @@ impl<'a> Renderer<'a> {
                 };
                 self.finish_made(alloc, merged(alloc, done))
             }
-            _ => Err(here(alloc, Fault::WrongKind)),
         }
     }
 
@@ -432,7 +431,7 @@ impl<'a> Renderer<'a> {
             Answers found_in (ReducedOver (MemberRenders key.now ms) (names_in names.entry) (document initial) (document value) (scopes_of self.old.context) self.old.cost.spent) result self.new.cost.spent }
         ensures scopes { Kept result (scopes_of self.old.context) (scopes_of self.new.context) }
     {
-        let Doc::List(items) = value else {
+        let Ok(items) = into_list(value) else {
             return Err(here(alloc, Fault::WrongKind));
         };
         let turns = numbered(alloc, items)?;
