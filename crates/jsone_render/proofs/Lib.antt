@@ -13,5 +13,7 @@ pub mod MapLemmas
 pub mod KindLemmas
 pub mod OneParts
 pub mod OneSorting
+pub mod SortLemmas
+pub mod TurnLemmas
 pub mod OneRendering
 pub mod PutLemmas
