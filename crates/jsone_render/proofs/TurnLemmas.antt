@@ -1,5 +1,5 @@
 -- The turns of `$find` and `$sort`, one after the other.
-use Rattle.std.proofs.Common.{◌≡◌, ℕ, Bool, true, false, List, [], ◌∷◌, ◌++◌, Option, Some, None, Result, Ok, Err, Vec, Global, refl, sym, ap, ap₂, subst, ◌∙◌}
+use Rattle.std.proofs.Common.{◌≡◌, ℕ, Bool, true, false, List, [], ◌∷◌, ◌++◌, Option, Some, None, Result, Ok, Err, refl, sym, ap, ap₂, subst, ◌∙◌}
 use Rattle.std.specs.Bool.{MatchBool}
 use Rattle.farm_text.specs.Document.{Document, null, boolean, whole, text, array, object, items_of}
 use Rattle.farm_text.specs.Doc.{document}
@@ -13,11 +13,11 @@ use Rattle.jsone_values.specs.Members.{listed}
 use Rattle.jsone_values.specs.Truth.{is_true}
 use Rattle.jsone_render.specs.declared.faults.RenderFault.{RenderFault}
 use Rattle.jsone_render.specs.declared.faults.RenderFault.TheVariants.{Fault as a_fault, TooMuchWork, NoMemory}
-use Rattle.jsone_render.specs.Answers.{Answers, Kept, Tested, Finishes, found_in, here, IsNoList, IsNoText}
+use Rattle.jsone_render.specs.Answers.{Answers, Kept, Tested, Finishes, found_in, IsNoList, IsNoText}
 use Rattle.jsone_render.specs.Bindings.{bound_to, both, numbered, FirstTrue, FoundIn}
 use Rattle.jsone_render.specs.Expressions.{Evaluated}
 use Rattle.jsone_render.specs.Outcomes.{Outcome, given, faulted, too_much, worth, at_operator, as_found, After}
-use Rattle.jsone_render.specs.Sorting.{KeysEvaluated, Sorted, SortedBy, IsSortOf}
+use Rattle.jsone_render.specs.Sorting.{KeysEvaluated, Sorted, SortedBy}
 use Rattle.jsone_render.proofs.KindLemmas.{listed-items_of, no_text}
 use Rattle.jsone_render.proofs.OutcomeLemmas.{answer_through, fault_through, loop_fault, loop_step}
 

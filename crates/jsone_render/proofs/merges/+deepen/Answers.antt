@@ -1,11 +1,11 @@
-use Rattle.std.proofs.Common.{◌≡◌, ◌∷◌, ◌++◌, List, ℕ, string_bytes, ap, sym, ◌∙◌, arith}
+use Rattle.std.proofs.Common.{◌≡◌, ◌∷◌, List, ℕ, string_bytes, ap, ◌∙◌, arith}
 use Rattle.std.proofs.lemmas.Grind.{common_steps}
-use Rattle.farm_text.specs.Document.{null, put, member_at, member, array, object, items_of, members_of}
-use Rattle.farm_text.specs.Doc.{document, documents, entries_of}
+use Rattle.farm_text.specs.Document.{put, member_at}
+use Rattle.farm_text.specs.Doc.{document, documents}
 use Rattle.farm_text.specs.declared.doc.Doc.TheVariants.{Null as null_doc}
 use Rattle.farm_text.proofs.DocLemmas.{members_in, document-List, document-Map}
 use Rattle.jsone_render.specs.Answers.{found_in}
-use Rattle.jsone_render.specs.Merges.{deep, deep_all}
+use Rattle.jsone_render.specs.Merges.{deep_all}
 use Rattle.jsone_render.proofs.PutLemmas.{deep_more, joined_lists, joined_maps, no_list_there, no_map_there, clone_there}
 use Rattle.jsone_render.proofs.merges.+deepen.Goals as goal
 

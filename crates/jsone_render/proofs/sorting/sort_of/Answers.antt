@@ -1,6 +1,5 @@
 use Rattle.std.proofs.Common.{List, ap, ◌∙◌}
 use Rattle.farm_text.specs.Doc.{document, documents}
-use Rattle.farm_text.specs.declared.doc.Doc.{Doc}
 use Rattle.farm_text.specs.declared.doc.Doc.TheVariants.{List as ListDoc}
 use Rattle.farm_text.proofs.DocLemmas.{document-List}
 use Rattle.jsone_render.specs.Answers.{pairs_of}

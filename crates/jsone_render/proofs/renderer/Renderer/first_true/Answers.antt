@@ -1,8 +1,8 @@
-use Rattle.std.proofs.Common.{◌≡◌, [], ◌∷◌, ◌++◌, ℕ, Bool, List, Option, Err, sym, ap, subst, ◌∙◌, arith, refl}
+use Rattle.std.proofs.Common.{◌≡◌, [], ◌∷◌, ◌++◌, Bool, Option, Err, ap, subst, ◌∙◌, arith}
 use Rattle.std.specs.Vec.Iter.{into_iter_items}
 use Rattle.std.proofs.lemmas.Grind.{common_steps}
 use Rattle.farm_text.specs.Document.{Document}
-use Rattle.farm_text.specs.Doc.{document, documents}
+use Rattle.farm_text.specs.Doc.{document}
 use Rattle.jsone_eval.specs.Scopes.{scopes_of}
 use Rattle.jsone_render.specs.Answers.{Answers, Tested, names_in, pairs_of}
 use Rattle.jsone_render.specs.Bindings.{bound_to, FirstTrue}

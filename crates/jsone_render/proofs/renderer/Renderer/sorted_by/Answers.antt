@@ -1,5 +1,5 @@
-use Rattle.std.proofs.Common.{◌≡◌, [], List, Option, Result, Err, Vec, Global, sym, subst}
-use Rattle.farm_text.specs.Document.{Document, member_at}
+use Rattle.std.proofs.Common.{Err, Vec, Global, sym, subst}
+use Rattle.farm_text.specs.Document.{member_at}
 use Rattle.farm_text.specs.Doc.{document, documents}
 use Rattle.farm_text.proofs.DocLemmas.{members_in}
 use Rattle.jsone_eval.specs.Scopes.{scopes_of}
