@@ -13,6 +13,8 @@ pub mod MapLemmas
 pub mod KindLemmas
 pub mod OneParts
 pub mod OneSorting
+pub mod SortLemmas
+pub mod SearchLemmas
 pub mod OneRendering
 pub mod PutLemmas
 pub mod RenderLemmas

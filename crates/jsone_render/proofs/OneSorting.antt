@@ -51,13 +51,13 @@ chain (text s) (whole b) (text u) h k = absurd (false≢true (sym k))
 chain (text s) e (text u) h k = absurd (false≢true (sym h))
 chain d e f h k = kinds.chain (kind_rank d) (kind_rank e) (kind_rank f) h k
 
-order : IsStrictWeakOrder comes_before
+pub order : IsStrictWeakOrder comes_before
 order = record { one_way = λ p q h. one_way p.0 q.0 h; chain = λ p q r h k. chain p.0 q.0 r.0 h k }
 
 abbrev Pair : Type 0
 Pair = Document × Document
 
-by_both : (a b : Bool) → (not a && not b) ≡ true → (a ≡ false) × (b ≡ false)
+pub by_both : (a b : Bool) → (not a && not b) ≡ true → (a ≡ false) × (b ≡ false)
 by_both false false h = (refl, refl)
 by_both false true h = absurd (false≢true h)
 by_both true b h = absurd (false≢true h)

@@ -1,6 +1,6 @@
 -- What functions of this crate answer; for private clauses.
 use denote.Ref.{Bor}
-use Rattle.std.specs.Prelude.{◌≡◌, ℕ, List, [], ◌∷◌, ◌++◌, Option, Some, None, map, option_map, Result, Ok, Err, String, string_bytes}
+use Rattle.std.specs.Prelude.{◌≡◌, ℕ, Bool, List, [], ◌∷◌, ◌++◌, Option, Some, None, map, option_map, Result, Ok, Err, String, string_bytes}
 use Rattle.std.specs.declared.alloc.Global.{Global}
 use Rattle.farm_text.specs.Document.{Document, text, array, object}
 use Rattle.farm_text.specs.Doc.{document}
@@ -8,6 +8,7 @@ use Rattle.farm_text.specs.declared.doc.Doc.{Doc}
 use Rattle.jsone_values.specs.declared.faults.Fault.{Fault}
 use Rattle.jsone_values.specs.declared.faults.Stop.{Stop}
 use Rattle.jsone_values.specs.declared.faults.Stop.TheVariants.{Fault as stop_fault, NoMemory as no_memory}
+use Rattle.jsone_values.specs.Truth.{is_true}
 use Rattle.jsone_expr.specs.Texts.{IsParsed, IsTooDeep}
 use Rattle.jsone_expr.specs.declared.parser.ParseFault.{ParseFault}
 use Rattle.jsone_expr.specs.declared.parser.ParseFault.TheVariants.{Syntax as syntax_fault, TooDeep as too_deep_fault, NoMemory as parse_memory}
@@ -21,9 +22,9 @@ use Rattle.jsone_render.specs.declared.faults.RenderFault.TheVariants.{Fault as 
 use Rattle.jsone_render.specs.declared.keys.Others.{Others}
 use Rattle.jsone_render.specs.declared.keys.Others.TheVariants.{None as no_others, One as one_other, More as more_others}
 use Rattle.jsone_render.specs.Conditions.{default_key}
-use Rattle.jsone_render.specs.Expressions.{HasTree}
+use Rattle.jsone_render.specs.Expressions.{HasTree, Evaluated}
 use Rattle.jsone_render.specs.Forms.{Form, plain, faulty, alone, binding}
-use Rattle.jsone_render.specs.Outcomes.{Outcome, given, faulted, too_much, worth}
+use Rattle.jsone_render.specs.Outcomes.{Outcome, given, faulted, too_much, worth, After}
 use Rattle.jsone_render.specs.Texts.{IsShortest, NoneEnds}
 
 -- an outcome of this kind, unless memory runs out; `view` says what is made
@@ -47,6 +48,10 @@ AreOthers more_others ks = (a b : List ℕ) × (more : List (List ℕ)) × (ks �
 abbrev pub Kept : {A : Type 0} → Result A RenderFault → List Document → List Document → Type 0
 Kept (Ok x) before after = after ≡ before
 Kept (Err f) before after = Unit {0}
+
+-- whether the value of an expression is true
+abbrev pub Tested : List ℕ → List Document → ℕ → Outcome Bool → Type 0
+Tested source scopes n o = After (Evaluated source scopes n) (λ d m p. p ≡ given (is_true d) m) o
 
 -- the fault of the node itself
 abbrev pub here : Fault → RenderFault
@@ -133,3 +138,12 @@ IsNoText _ = Unit {0}
 abbrev pub IsNoBranches : Option Document → Type 0
 IsNoBranches (Some (object ms)) = ⊥
 IsNoBranches _ = Unit {0}
+
+-- nothing, or a value of another kind
+abbrev pub LacksMap : Option Document → Type 0
+LacksMap (Some d) = IsNoMap d
+LacksMap None = Unit {0}
+
+abbrev pub LacksList : Option Document → Type 0
+LacksList (Some d) = IsNoList d
+LacksList None = Unit {0}

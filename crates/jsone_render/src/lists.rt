@@ -62,6 +62,16 @@ pub(crate) fn into_map(value: Doc) -> Option<BTreeMap<String, Doc>>
     }
 }
 
+/// The members of a map, which stay where they are; other values have none.
+pub(crate) fn as_map(value: &Doc) -> Option<&BTreeMap<String, Doc>>
+    ensures { MatchOption result (IsNoMap (document value.now)) (λ m. document value.now ≡ object (members_of (entries_of m.now.entries))) }
+{
+    match value {
+        Doc::Map(members) => Some(members),
+        _ => None,
+    }
+}
+
 /// The members of a list; else the value itself.
 pub(crate) fn into_list(value: Doc) -> Result<Vec<Doc>, Doc>
     ensures { MatchResult result (λ v. document value ≡ array (items_of (documents v.items)))

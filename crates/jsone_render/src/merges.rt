@@ -1,12 +1,12 @@
 //! What operators give for the value of their operand.
-ghost use Rattle.std.specs.Prelude.{◌≡◌, [], ◌∷◌, ◌++◌, IfOk, OnOk, MatchResult, Ok, Err};
-ghost use Rattle.farm_text.specs.Document.{members_of, items_of, member_at, put};
+ghost use Rattle.std.specs.Prelude.{◌≡◌, [], ◌∷◌, ◌++◌, IfOk, OnOk, MatchOption, MatchResult, Some, Ok, Err};
+ghost use Rattle.farm_text.specs.Document.{array, object, members_of, items_of, member_at, put};
 ghost use Rattle.farm_text.specs.Doc.{document, documents, entries_of};
 ghost use Rattle.jsone_values.specs.Meets.{Meets};
-ghost use Rattle.jsone_render.specs.Answers.{found_in};
+ghost use Rattle.jsone_render.specs.Answers.{found_in, LacksList, LacksMap};
 ghost use Rattle.jsone_render.specs.Merges.{put_all, merge_of, deep, deep_all, deep_merge_of, flattened, flatten_of, leaves, items_leaves, deep_flatten_of, reverse_of, json_of};
 
-use crate::lists::{into_list, into_map};
+use crate::lists::{as_map, into_list, into_map};
 use crate::maps::insert;
 use farm_text::Doc;
 use jsone_values::faults::{Fault, Stop};
@@ -52,12 +52,16 @@ pub(crate) fn merge_of(alloc: Global, value: Doc) -> Result<Doc, Stop>
 fn deep(alloc: Global, later: &Doc, before: Option<Doc>) -> Result<Doc, AllocError>
     ensures { IfOk result (λ d. document d ≡ deep (document later.now) (found_in before)) }
 {
-    match (later, before) {
-        (Doc::List(more), Some(Doc::List(items))) => Ok(Doc::List(joined(items, more)?)),
-        (Doc::Map(more), Some(Doc::Map(members))) => {
-            Ok(Doc::Map(deep_all(alloc, more, members)?))
-        }
-        (later, _) => later.clone(),
+    match later {
+        Doc::List(more) => match list_in(before) {
+            Some(items) => Ok(Doc::List(joined(items, more)?)),
+            None => later.clone(),
+        },
+        Doc::Map(more) => match map_in(before) {
+            Some(members) => Ok(Doc::Map(deep_all(alloc, more, members)?)),
+            None => later.clone(),
+        },
+        _ => later.clone(),
     }
 }
 
@@ -78,6 +82,29 @@ fn deep_all(
         drop(replaced(alloc, &mut members, key.as_str(), joined)?);
     }
     Ok(members)
+}
+
+/// The members of a list that may stand there.
+fn list_in(before: Option<Doc>) -> Option<Vec<Doc>>
+    ensures { MatchOption result (LacksList (found_in before)) (λ v. found_in before ≡ Some (array (items_of (documents v.items)))) }
+{
+    match before {
+        Some(value) => match into_list(value) {
+            Ok(items) => Some(items),
+            Err(_) => None,
+        },
+        None => None,
+    }
+}
+
+/// The members of a map that may stand there.
+fn map_in(before: Option<Doc>) -> Option<BTreeMap<String, Doc>>
+    ensures { MatchOption result (LacksMap (found_in before)) (λ m. found_in before ≡ Some (object (members_of (entries_of m.entries)))) }
+{
+    match before {
+        Some(value) => into_map(value),
+        None => None,
+    }
 }
 
 /// The value that stood at the key, which has a new one now.
@@ -115,8 +142,9 @@ pub(crate) fn deep_merge_of(alloc: Global, value: &Doc) -> Result<Doc, Stop>
     };
     let mut map = BTreeMap::new(alloc);
     for item in items {
-        let Doc::Map(more) = item else {
-            return Err(WRONG_KIND);
+        let more = match as_map(item) {
+            Some(more) => more,
+            None => return Err(WRONG_KIND),
         };
         match deep_all(alloc, more, map) {
             Ok(all) => map = all,

@@ -3,7 +3,7 @@ ghost use Rattle.std.specs.Prelude.{◌≡◌, ◌+◌, ◌++◌, ◌∷◌, [],
 ghost use Rattle.farm_text.specs.Document.{Document};
 ghost use Rattle.farm_text.specs.Doc.{document, documents};
 ghost use Rattle.jsone_eval.specs.Scopes.{scopes_of};
-ghost use Rattle.jsone_render.specs.Answers.{Answers, Kept, found_in, here, Finishes, IsParse, names_in};
+ghost use Rattle.jsone_render.specs.Answers.{Answers, Kept, Tested, found_in, here, Finishes, IsParse, names_in};
 ghost use Rattle.jsone_render.specs.Bindings.{bound_to, single};
 ghost use Rattle.jsone_render.specs.Expressions.{Evaluated};
 ghost use Rattle.jsone_render.specs.Outcomes.{pay, worth, price_of};
@@ -15,6 +15,7 @@ use farm_text::Doc;
 use jsone_eval::{Context, Cost, EvalFault, eval};
 use jsone_expr::{ParseFault, Tree, parse};
 use jsone_values::faults::{Fault, Stop};
+use jsone_values::truth::is_true;
 use jsone_values::weights::weight_of;
 use std::alloc::{AllocError, Global};
 use std::collections::BTreeMap;
@@ -127,6 +128,48 @@ impl<'a> Renderer<'a> {
     {
         let tree = parsed(alloc, source);
         self.evaluate_tree(alloc, &tree)
+    }
+
+    /// The value of an expression where the first of the names is bound.
+    pub(crate) fn evaluate_one(
+        &mut self,
+        alloc: Global,
+        tree: &Result<Tree, ParseFault>,
+        names: Names,
+        value: Doc,
+    ) -> Result<Doc, RenderFault>
+        ensures answers { (source : List ℕ) → IsParse source tree.now
+            → Answers document (Evaluated source (scopes_of self.old.context ++ bound_to (names_in names.entry) (document value ∷ [])) self.old.cost.spent) result self.new.cost.spent }
+        ensures scopes { Kept result (scopes_of self.old.context) (scopes_of self.new.context) }
+    {
+        let height = self.height();
+        self.bind_one(alloc, names, value)?;
+        let found = self.evaluate_tree(alloc, tree);
+        self.release(height);
+        found
+    }
+
+    /// Whether an expression is true where the first two of the names are bound, or the one.
+    pub(crate) fn is_true_where(
+        &mut self,
+        alloc: Global,
+        tree: &Result<Tree, ParseFault>,
+        names: Names,
+        first: Doc,
+        second: Doc,
+    ) -> Result<bool, RenderFault>
+        ensures answers { (source : List ℕ) → IsParse source tree.now
+            → Answers (λ b. b) (Tested source (scopes_of self.old.context ++ bound_to (names_in names.entry) (document first ∷ document second ∷ [])) self.old.cost.spent) result self.new.cost.spent }
+        ensures scopes { Kept result (scopes_of self.old.context) (scopes_of self.new.context) }
+    {
+        let height = self.height();
+        self.bind_two(alloc, names, first, second)?;
+        let found = self.evaluate_tree(alloc, tree);
+        self.release(height);
+        match found {
+            Ok(value) => Ok(is_true(&value)),
+            Err(fault) => Err(fault),
+        }
     }
 
     /// How many maps bind names.

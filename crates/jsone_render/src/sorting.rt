@@ -150,16 +150,14 @@ impl<'a> Renderer<'a> {
         ensures answers { Answers (λ v. pairs_of v.items) (KeysEvaluated source.now (names_in names.entry) [] (documents items.items) (scopes_of self.old.context) self.old.cost.spent) result self.new.cost.spent }
         ensures scopes { Kept result (scopes_of self.old.context) (scopes_of self.new.context) }
     {
-        let tree = parsed(alloc, source);
-        let height = self.height();
+        let read = parsed(alloc, source);
+        let tree = &read;
         let mut pairs = Vec::with_capacity(alloc, items.len())?;
         for item in items {
-            self.bind_one(alloc, names, item.clone()?)?;
-            let key = match self.evaluate_tree(alloc, &tree) {
+            let key = match self.evaluate_one(alloc, tree, names, item.clone()?) {
                 Ok(key) => key,
                 Err(fault) => return Err(fault),
             };
-            self.release(height);
             keep_pair(&mut pairs, key, item)?;
         }
         Ok(pairs)

@@ -18,7 +18,6 @@ use crate::renderer::{Renderer, parsed};
 use crate::sorting::{keep_pair, sort_of};
 use farm_text::Doc;
 use jsone_values::faults::{Fault, Stop};
-use jsone_values::truth::is_true;
 use std::alloc::{AllocError, Global};
 use std::collections::BTreeMap;
 
@@ -91,18 +90,17 @@ impl<'a> Renderer<'a> {
         ensures answers { Answers found_in (FirstTrue source.now (names_in names.entry) (pairs_of turns.items) (scopes_of self.old.context) self.old.cost.spent) result self.new.cost.spent }
         ensures scopes { Kept result (scopes_of self.old.context) (scopes_of self.new.context) }
     {
-        let tree = parsed(alloc, source);
-        let height = self.height();
+        let read = parsed(alloc, source);
+        let tree = &read;
         for (item, index) in turns {
-            self.bind_two(alloc, names, item.clone()?, index)?;
-            let value = match self.evaluate_tree(alloc, &tree) {
-                Ok(value) => value,
+            let holds = match self.is_true_where(alloc, tree, names, item.clone()?, index) {
+                Ok(holds) => holds,
                 Err(fault) => return Err(fault),
             };
-            self.release(height);
-            if is_true(&value) {
+            if holds {
                 return self.finish(Some(item));
             }
+            drop(item);
         }
         self.finish(None)
     }
@@ -119,8 +117,9 @@ impl<'a> Renderer<'a> {
         ensures answers { Answers found_in (FoundIn (member_at key.now (members_of (entries_of members.now.entries))) (names_in names.entry) (document value) (scopes_of self.old.context) self.old.cost.spent) result self.new.cost.spent }
         ensures scopes { Kept result (scopes_of self.old.context) (scopes_of self.new.context) }
     {
-        let Ok(items) = into_list(value) else {
-            return Err(here(alloc, Fault::WrongKind));
+        let items = match into_list(value) {
+            Ok(items) => items,
+            Err(_) => return Err(here(alloc, Fault::WrongKind)),
         };
         match text_at(members, key) {
             Some(source) => {
@@ -143,8 +142,9 @@ impl<'a> Renderer<'a> {
         ensures answers { Answers found_in (SortedBy (member_at key.now (members_of (entries_of members.now.entries))) (names_in names.entry) (document value) (scopes_of self.old.context) self.old.cost.spent) result self.new.cost.spent }
         ensures scopes { Kept result (scopes_of self.old.context) (scopes_of self.new.context) }
     {
-        let Ok(items) = into_list(value) else {
-            return Err(here(alloc, Fault::WrongKind));
+        let items = match into_list(value) {
+            Ok(items) => items,
+            Err(_) => return Err(here(alloc, Fault::WrongKind)),
         };
         match text_at(members, key) {
             Some(source) => {

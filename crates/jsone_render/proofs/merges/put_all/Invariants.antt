@@ -1,9 +1,6 @@
-use Rattle.std.proofs.Common.{◌≡◌, ◌++◌, drop, []}
-use Rattle.std.specs.Vec.Iter.{into_iter_items}
-use Rattle.farm_text.specs.Document.{items_of, no_members}
-use Rattle.farm_text.specs.Doc.{document, documents}
+use Rattle.std.proofs.Common.{◌≡◌}
 use Rattle.farm_text.proofs.DocLemmas.{members_in}
-use Rattle.jsone_render.specs.Merges.{put_all, merged, merged_onto, deep_all, deep_merged_onto, flattened, items_leaves}
+use Rattle.jsone_render.specs.Merges.{put_all}
 use Rattle.jsone_render.proofs.merges.put_all.Given as goal
 
 -- what is left to put makes the whole

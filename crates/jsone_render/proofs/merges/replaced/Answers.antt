@@ -1,4 +1,4 @@
-use Rattle.std.proofs.Common.{◌≡◌, ℕ, List, string_bytes, sym, ap, ◌∙◌}
+use Rattle.std.proofs.Common.{ℕ, List, string_bytes, ap, ◌∙◌}
 use Rattle.farm_text.specs.Document.{member_at, put}
 use Rattle.farm_text.specs.Doc.{document}
 use Rattle.farm_text.proofs.DocLemmas.{members_in, members_in-insert_entry, document-lookup}
