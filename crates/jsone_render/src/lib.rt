@@ -3,6 +3,7 @@
 
 mod applied;
 mod binders;
+mod bindings;
 mod conditions;
 pub mod faults;
 mod forms;

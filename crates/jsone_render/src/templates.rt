@@ -1,25 +1,21 @@
 //! Rendering: what each node of a template comes to.
-ghost use Rattle.std.specs.Prelude.{◌≡◌, [], codes, Some};
+ghost use Rattle.std.specs.Prelude.{[], codes};
 ghost use Rattle.farm_text.specs.Document.{items_of, members_of, member_at, object};
 ghost use Rattle.farm_text.specs.Doc.{document, documents, entries_of};
 ghost use Rattle.jsone_eval.specs.Scopes.{scopes_of};
-ghost use Rattle.jsone_render.specs.Answers.{Answers, Kept, found_in, names_in, pairs_of};
-ghost use Rattle.jsone_render.specs.Bindings.{LetRenders, EachRenders, MappedOver, TurnsReduce, ReducedOver};
+ghost use Rattle.jsone_render.specs.Answers.{Answers, Kept, found_in};
 ghost use Rattle.jsone_render.specs.Conditions.{SwitchRenders, MatchRenders};
-ghost use Rattle.jsone_render.specs.Templates.{Renders, ItemsRender, ValuesRender, MemberRenders, BranchRenders, AloneRenders, BindingRenders, BoundOver, FromNowRenders};
+ghost use Rattle.jsone_render.specs.Templates.{Renders, ItemsRender, ValuesRender, MemberRenders, BranchRenders, AloneRenders, FromNowRenders};
 
-use crate::applied::{given_by, or_before, span_of};
-use crate::binders::Names;
+use crate::applied::{given_by, span_of};
 use crate::conditions::{branch_of, branch_taken, conditions_of, keys_of};
 use crate::faults::RenderFault;
 use crate::forms::{MapForm, form_of};
-use crate::lists::{into_list, into_map, keep, keep_at, map_at, member_of, or_null};
+use crate::lists::{keep, keep_at, map_at, member_of, or_null};
 use crate::maps::has_key;
-use crate::names::are_names;
 use crate::operators::Operator;
 use crate::paths::{here, under_index, under_key};
 use crate::renderer::Renderer;
-use crate::turns::{merged, numbered, turns_of};
 use farm_text::Doc;
 use jsone_values::faults::Fault;
 use std::alloc::Global;
@@ -120,7 +116,7 @@ impl<'a> Renderer<'a> {
 
     /// What stands at a key; where nothing does, that is removed.
     #[cycle(render)]
-    fn operand(
+    pub(crate) fn operand(
         &mut self,
         alloc: Global,
         members: &BTreeMap<String, Doc>,
@@ -264,37 +260,6 @@ impl<'a> Renderer<'a> {
         self.finish(Some(Doc::List(done)))
     }
 
-    /// `$let`: what stands at `in`, where the members of a map are bound.
-    #[cycle(render)]
-    fn bind_in(
-        &mut self,
-        alloc: Global,
-        members: &BTreeMap<String, Doc>,
-    ) -> Result<Option<Doc>, RenderFault>
-        ensures answers { let ms = members_of (entries_of members.now.entries) in
-            Answers found_in (LetRenders (λ key. MemberRenders key ms) (scopes_of self.old.context) self.old.cost.spent) result self.new.cost.spent }
-        ensures scopes { Kept result (scopes_of self.old.context) (scopes_of self.new.context) }
-    {
-        let value = match self.operand(alloc, members, "$let") {
-            Ok(value) => or_null(value),
-            Err(fault) => return Err(fault),
-        };
-        let Some(bound) = into_map(value) else {
-            return Err(here(alloc, Fault::WrongKind));
-        };
-        if !are_names(&bound) {
-            return Err(here(alloc, Fault::BadOperator));
-        }
-        let height = self.height();
-        self.bind_map(Doc::Map(bound))?;
-        let found = match self.operand(alloc, members, "in") {
-            Ok(found) => found,
-            Err(fault) => return Err(fault),
-        };
-        self.release(height);
-        self.finish(found)
-    }
-
     /// `$fromNow`, from a moment that is rendered, or else from what `now` is bound to.
     #[cycle(render)]
     fn from_now(
@@ -319,134 +284,5 @@ impl<'a> Renderer<'a> {
         }
         let made = span_of(alloc, &or_null(span), self.context.get("now"));
         self.finish_made(alloc, made)
-    }
-
-    /// An operator over the value of its operand, beside which a key binds names.
-    #[cycle(render)]
-    fn over(
-        &mut self,
-        alloc: Global,
-        members: &BTreeMap<String, Doc>,
-        operator: Operator,
-        key: &str,
-        names: Names,
-        value: Doc,
-    ) -> Result<Option<Doc>, RenderFault>
-        ensures answers { let ms = members_of (entries_of members.now.entries) in
-            Answers found_in (BoundOver operator key.now (names_in names.entry) ms (λ key. MemberRenders key ms) (document value) (scopes_of self.old.context) self.old.cost.spent) result self.new.cost.spent }
-        ensures scopes { Kept result (scopes_of self.old.context) (scopes_of self.new.context) }
-    {
-        match operator {
-            Operator::Map => self.mapped(alloc, members, key, names, value),
-            Operator::Reduce => {
-                let initial = match self.operand(alloc, members, "initial") {
-                    Ok(initial) => initial,
-                    Err(fault) => return Err(fault),
-                };
-                self.reduced(alloc, members, key, names, value, or_null(initial))
-            }
-            Operator::Find => self.found_in(alloc, members, key, names, value),
-            Operator::Sort => self.sorted_by(alloc, members, key, names, value),
-            _ => Err(here(alloc, Fault::BadOperator)),
-        }
-    }
-
-    /// `$map` over a list or a map.
-    #[cycle(render)]
-    fn mapped(
-        &mut self,
-        alloc: Global,
-        members: &BTreeMap<String, Doc>,
-        key: &str,
-        names: Names,
-        value: Doc,
-    ) -> Result<Option<Doc>, RenderFault>
-        ensures answers { let ms = members_of (entries_of members.now.entries) in
-            Answers found_in (MappedOver (MemberRenders key.now ms) (names_in names.entry) (document value) (scopes_of self.old.context) self.old.cost.spent) result self.new.cost.spent }
-        ensures scopes { Kept result (scopes_of self.old.context) (scopes_of self.new.context) }
-    {
-        match into_list(value) {
-            Ok(items) => {
-                let turns = numbered(alloc, items)?;
-                let done = match self.each(alloc, members, key, names, turns) {
-                    Ok(done) => done,
-                    Err(fault) => return Err(fault),
-                };
-                self.finish(Some(Doc::List(done)))
-            }
-            Err(value) => {
-                let Some(pairs) = into_map(value) else {
-                    return Err(here(alloc, Fault::WrongKind));
-                };
-                let turns = turns_of(alloc, names, pairs)?;
-                let done = match self.each(alloc, members, key, names, turns) {
-                    Ok(done) => done,
-                    Err(fault) => return Err(fault),
-                };
-                self.finish_made(alloc, merged(alloc, done))
-            }
-        }
-    }
-
-    /// What the turns give.
-    #[cycle(render)]
-    fn each(
-        &mut self,
-        alloc: Global,
-        members: &BTreeMap<String, Doc>,
-        key: &str,
-        names: Names,
-        turns: Vec<(Doc, Doc)>,
-    ) -> Result<Vec<Doc>, RenderFault>
-        ensures answers { let ms = members_of (entries_of members.now.entries) in
-            Answers (λ v. documents v.items) (EachRenders (MemberRenders key.now ms) (names_in names.entry) [] (pairs_of turns.items) (scopes_of self.old.context) self.old.cost.spent) result self.new.cost.spent }
-        ensures scopes { Kept result (scopes_of self.old.context) (scopes_of self.new.context) }
-    {
-        let height = self.height();
-        let mut done = Vec::new(alloc);
-        for (item, index) in turns {
-            self.bind_two(alloc, names, item, index)?;
-            let found = match self.operand(alloc, members, key) {
-                Ok(found) => found,
-                Err(fault) => return Err(fault),
-            };
-            self.release(height);
-            keep(&mut done, found)?;
-        }
-        Ok(done)
-    }
-
-    /// `$reduce` over a list.
-    #[cycle(render)]
-    fn reduced(
-        &mut self,
-        alloc: Global,
-        members: &BTreeMap<String, Doc>,
-        key: &str,
-        names: Names,
-        value: Doc,
-        initial: Doc,
-    ) -> Result<Option<Doc>, RenderFault>
-        ensures answers { let ms = members_of (entries_of members.now.entries) in
-            Answers found_in (ReducedOver (MemberRenders key.now ms) (names_in names.entry) (document initial) (document value) (scopes_of self.old.context) self.old.cost.spent) result self.new.cost.spent }
-        ensures scopes { Kept result (scopes_of self.old.context) (scopes_of self.new.context) }
-    {
-        let Ok(items) = into_list(value) else {
-            return Err(here(alloc, Fault::WrongKind));
-        };
-        let turns = numbered(alloc, items)?;
-        let mut before = initial;
-        for (item, index) in turns {
-            let height = self.height();
-            self.bind_three(alloc, names, before, item, index)?;
-            let found = match self.operand(alloc, members, key) {
-                Ok(found) => found,
-                Err(fault) => return Err(fault),
-            };
-            self.release(height + 1);
-            let kept = self.take_back();
-            before = or_before(kept, found);
-        }
-        self.finish(Some(before))
     }
 }

@@ -58,7 +58,7 @@ pub value-returns-in-Int-clause-answers : goal.value-returns-in-Int-clause-answe
 value-returns-in-Int-clause-answers t c =
     let scopes = scopes_of c.args.self.now.context in
     let n = c.args.self.now.cost.spent in
-    of_plain (document c.args.template.now) (document (IntDoc c.in-Int.number)) (whole c.in-Int.number) scopes n c.pay-in-Int.result c.pay-in-Int.new.self.cost.spent (ap document c.in-Int.is) (document-Int c.in-Int.number) (λ o h. h) 
+    of_plain (document c.args.template.now) (document (IntDoc c.in-Int.number)) (whole c.in-Int.number) scopes n c.pay-in-Int.result c.pay-in-Int.new.self.cost.spent (ap document c.in-Int.is) (document-Int c.in-Int.number) (λ o h. h)
     (let same : to_z w64 (of_z w64 c.in-Int.number) ≡ c.in-Int.number = search (rules, ints, to_z-of_z) in subst (λ (z : ℤ). Answers found_in (λ o. o ≡ pay n 1 (Some (document (IntDoc z)))) c.pay-in-Int.result c.pay-in-Int.new.self.cost.spent) same (c.pay-in-Int.ensures.answers 1 refl))
 
 pub value-returns-in-Int-clause-scopes : goal.value-returns-in-Int-clause-scopes
@@ -1107,7 +1107,7 @@ reduced-loop-item-preserved t c =
     let found = found_in c.in-Ok-operand.found in
     let p = c.take_back-kept.new.self.cost.spent in
     let back = taken_back c.args.names before (document c.take_back-kept.result) (both turn) scopes (scopes_of c.operand.new.self.context) (scopes_of c.release.new.self.context) (scopes_of c.take_back-kept.new.self.context) c.height-height.result
-        (c.in-Ok-operand.ensures.scopes ∙ c.in_ok-bind_three.ensures.scopes) c.height-height.ensures c.release.ensures.scopes c.take_back-kept.ensures.scopes c.take_back-kept.ensures.value in
+    (c.in-Ok-operand.ensures.scopes ∙ c.in_ok-bind_three.ensures.scopes) c.height-height.ensures c.release.ensures.scopes c.take_back-kept.ensures.scopes c.take_back-kept.ensures.value in
     record {
       leads = reduce_more whole body names before (document c.or_before-before.result) rest left turn scopes (scopes_of c.take_back-kept.new.self.context) n p found (ap pairs_of next) l.invariant.leads
           (body_at body within inside n c.bind_three.new.self.cost.spent m p found c.in_ok-bind_three.ensures.scopes cost (ap (λ (x : Cost). x.spent) (c.take_back-kept.ensures.cost ∙ c.release.ensures.cost)) c.in-Ok-operand.ensures.answers)
