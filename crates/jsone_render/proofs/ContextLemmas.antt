@@ -10,7 +10,7 @@ use Rattle.jsone_eval.specs.declared.context.Context.{Context}
 use Rattle.jsone_eval.specs.Scopes.{scopes_of}
 use Rattle.jsone_render.specs.declared.faults.RenderFault.{RenderFault}
 use Rattle.jsone_render.specs.declared.faults.RenderFault.TheVariants.{Fault as a_fault, TooMuchWork, NoMemory}
-use Rattle.jsone_render.specs.Answers.{Answers, IsAnswer, IsNoBranches, found_in}
+use Rattle.jsone_render.specs.Answers.{Answers, IsAnswer, LacksMap, found_in}
 use Rattle.jsone_render.specs.Maps.{keys_of}
 use Rattle.jsone_render.specs.Names.{is_name}
 use Rattle.jsone_render.specs.Outcomes.{Outcome, given, faulted, or_null, After, Operand}
@@ -21,7 +21,7 @@ use Rattle.jsone_render.proofs.OutcomeLemmas.{fault_through}
 pub only_scope : (c : Context) (d : Document) → document c.outermost.now ≡ d → c.bindings.items ≡ [] → scopes_of c ≡ d ∷ []
 only_scope c d is none = ap (λ x. x ∷ documents c.bindings.items) is ∙ ap (λ xs. d ∷ documents xs) none
 
-pub no_context : (template context : Document) → IsNoBranches (Some context) → IsRendered template context (faulted BadContext [])
+pub no_context : (template context : Document) → LacksMap (Some context) → IsRendered template context (faulted BadContext [])
 no_context template (object ms) h = absurd h
 no_context template null h = refl
 no_context template (boolean b) h = refl

@@ -18,7 +18,7 @@ use Rattle.jsone_eval.specs.Scopes.{bound}
 use Rattle.jsone_render.specs.declared.faults.RenderFault.{RenderFault}
 use Rattle.jsone_render.specs.declared.operators.Operator.{Operator}
 use Rattle.jsone_render.specs.declared.operators.Operator.TheVariants.{Eval, If, Switch, Match, Let, Map, Reduce, Find, Sort, FromNow}
-use Rattle.jsone_render.specs.Answers.{Answers, Kept, IsUnder, IsNoMap, IsNoList, IsNoBranches, Finishes, branch_taken, found_in, strings_in}
+use Rattle.jsone_render.specs.Answers.{Answers, Kept, IsUnder, IsNoMap, IsNoList, LacksMap, Finishes, branch_taken, found_in, strings_in}
 use Rattle.jsone_render.specs.Bindings.{LetIn, numbered, turns_of, EachRenders, MappedOver, TurnsReduce, ReducedOver}
 use Rattle.jsone_render.specs.Conditions.{Taken, OneTaken, SwitchRenders, MatchRenders}
 use Rattle.jsone_render.specs.Forms.{Form, IsForm, key_of}
@@ -141,7 +141,7 @@ let_kind (text bs) In s m h = refl
 let_kind (array ds) In s m h = refl
 
 -- `$switch` and `$match` ask for a map
-pub switch_kind : (x : Option Document) (Branch : List ℕ → Meaning) (s : List Document) (n : ℕ) → IsNoBranches x → SwitchRenders x Branch s n (faulted WrongKind [])
+pub switch_kind : (x : Option Document) (Branch : List ℕ → Meaning) (s : List Document) (n : ℕ) → LacksMap x → SwitchRenders x Branch s n (faulted WrongKind [])
 switch_kind (Some (object ms)) Branch s n h = absurd h
 switch_kind (Some null) Branch s n h = refl
 switch_kind (Some (boolean b)) Branch s n h = refl
@@ -150,7 +150,7 @@ switch_kind (Some (text bs)) Branch s n h = refl
 switch_kind (Some (array ds)) Branch s n h = refl
 switch_kind None Branch s n h = refl
 
-pub match_kind : (x : Option Document) (Branch : List ℕ → Meaning) (s : List Document) (n : ℕ) → IsNoBranches x → MatchRenders x Branch s n (faulted WrongKind [])
+pub match_kind : (x : Option Document) (Branch : List ℕ → Meaning) (s : List Document) (n : ℕ) → LacksMap x → MatchRenders x Branch s n (faulted WrongKind [])
 match_kind (Some (object ms)) Branch s n h = absurd h
 match_kind (Some null) Branch s n h = refl
 match_kind (Some (boolean b)) Branch s n h = refl

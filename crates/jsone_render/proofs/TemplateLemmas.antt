@@ -5,7 +5,7 @@ use Rattle.std.specs.Cmp.Lexicographic.{slice_cmp}
 use Rattle.std.specs.Ordering.{match_ordering}
 use Rattle.farm_text.specs.Document.{Document, null, boolean, whole, text, array, object, Items, no_items, item, Members, no_members, member, member_at}
 use Rattle.farm_text.specs.Reading.{escaped}
-use Rattle.jsone_render.specs.Answers.{IsNoBranches}
+use Rattle.jsone_render.specs.Answers.{LacksMap}
 use Rattle.jsone_render.specs.Outcomes.{Outcome, given}
 use Rattle.jsone_render.specs.Templates.{Under, Renders, MemberRenders, BranchRenders, InnerRenders}
 use Rattle.jsone_render.proofs.OutcomeLemmas.{value_under}
@@ -45,7 +45,7 @@ branch_missing key inner no_members scopes n h = refl
 branch_missing key inner (member k e ms) scopes n h =
     at_none (slice_cmp nat_cmp key k) e (member_at key ms) (Under (escaped key) (InnerRenders inner e scopes n) (given None n)) (BranchRenders key inner ms scopes n (given None n)) h (λ more. branch_missing key inner ms scopes n more)
 
-no_inner : (inner : List ℕ) (d : Document) (scopes : List Document) (n : ℕ) → IsNoBranches (Some d) → InnerRenders inner d scopes n (given None n)
+no_inner : (inner : List ℕ) (d : Document) (scopes : List Document) (n : ℕ) → LacksMap (Some d) → InnerRenders inner d scopes n (given None n)
 no_inner inner (object ms) scopes n h = absurd h
 no_inner inner null scopes n h = refl
 no_inner inner (boolean b) scopes n h = refl
@@ -54,6 +54,6 @@ no_inner inner (text bs) scopes n h = refl
 no_inner inner (array ds) scopes n h = refl
 
 -- where no map stands at the key
-pub no_branches : (key inner : List ℕ) (ms : Members) (scopes : List Document) (n : ℕ) (x : Option Document) → member_at key ms ≡ x → IsNoBranches x → BranchRenders key inner ms scopes n (given None n)
+pub no_branches : (key inner : List ℕ) (ms : Members) (scopes : List Document) (n : ℕ) (x : Option Document) → member_at key ms ≡ x → LacksMap x → BranchRenders key inner ms scopes n (given None n)
 no_branches key inner ms scopes n None e h = branch_missing key inner ms scopes n e
 no_branches key inner ms scopes n (Some d) e h = branch_found key inner ms d scopes n (given None n) e (value_under (escaped key) (InnerRenders inner d scopes n) None n (no_inner inner d scopes n h))

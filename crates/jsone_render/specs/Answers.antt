@@ -134,11 +134,6 @@ abbrev pub IsNoText : Option Document → Type 0
 IsNoText (Some (text bs)) = ⊥
 IsNoText _ = Unit {0}
 
--- no map stands there
-abbrev pub IsNoBranches : Option Document → Type 0
-IsNoBranches (Some (object ms)) = ⊥
-IsNoBranches _ = Unit {0}
-
 -- nothing, or a value of another kind
 abbrev pub LacksMap : Option Document → Type 0
 LacksMap (Some d) = IsNoMap d

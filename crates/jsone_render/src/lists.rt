@@ -2,7 +2,7 @@
 ghost use Rattle.std.specs.Prelude.{◌≡◌, ◌++◌, OnOk, MatchOption, MatchResult, Some, None};
 ghost use Rattle.farm_text.specs.Document.{array, object, items_of, members_of, member_at, text as plain_text};
 ghost use Rattle.farm_text.specs.Doc.{document, documents, entries_of};
-ghost use Rattle.jsone_render.specs.Answers.{found_in, IsNoMap, IsNoList, IsNoText, IsNoBranches};
+ghost use Rattle.jsone_render.specs.Answers.{found_in, IsNoMap, IsNoList, IsNoText, LacksMap};
 ghost use Rattle.jsone_render.specs.Maps.{kept_at};
 ghost use Rattle.jsone_render.specs.Outcomes.{kept, or_null};
 
@@ -99,7 +99,7 @@ pub(crate) fn map_at<'a>(
     members: &'a BTreeMap<String, Doc>,
     key: &str,
 ) -> Option<&'a BTreeMap<String, Doc>>
-    ensures { MatchOption result (IsNoBranches (member_at key.now (members_of (entries_of members.now.entries))))
+    ensures { MatchOption result (LacksMap (member_at key.now (members_of (entries_of members.now.entries))))
         (λ m. member_at key.now (members_of (entries_of members.now.entries)) ≡ Some (object (members_of (entries_of m.now.entries)))) }
 {
     match member_of(members, key) {
@@ -121,17 +121,6 @@ fn as_text(value: &Doc) -> Option<&[u8]>
 {
     match value {
         Doc::Text(text) => Some(text.as_bytes()),
-        _ => None,
-    }
-}
-
-/// The members of a map; other values have none.
-pub(crate) fn as_map(value: &Doc) -> Option<&BTreeMap<String, Doc>>
-    ensures { MatchOption result (IsNoBranches (Some (document value.now)))
-        (λ m. document value.now ≡ object (members_of (entries_of m.now.entries))) }
-{
-    match value {
-        Doc::Map(members) => Some(members),
         _ => None,
     }
 }
