@@ -1,0 +1,161 @@
+//! Texts of a template, in which `${e}` is the value of an expression.
+ghost use Rattle.std.specs.Prelude.{◌≡◌, ◌+◌, ◌++◌, ◌∷◌, [], ℕ, List, length, IfOk, MatchResult, MatchBool, string_bytes, Ok, Err};
+ghost use Rattle.farm_text.specs.Document.{Document};
+ghost use Rattle.farm_text.specs.Doc.{document};
+ghost use Rattle.jsone_eval.specs.Scopes.{scopes_of};
+ghost use Rattle.jsone_render.specs.Answers.{Answers, Kept, found_in, EndsAt, IsParse, IsStop};
+ghost use Rattle.jsone_render.specs.Expressions.{HasTree};
+ghost use Rattle.jsone_render.specs.Texts.{ends_with_dollar, shown, Valued, Interpolated, Written, TextRenders};
+
+use crate::faults::RenderFault;
+use crate::paths::here;
+use crate::renderer::{Renderer, parsed};
+use farm_text::{Doc, Text};
+use jsone_expr::{ParseFault, Tree};
+use jsone_values::builtins::text_of;
+use jsone_values::faults::{Fault, Stop};
+use std::alloc::{AllocError, Global};
+
+fn is_deep(fault: ParseFault) -> Result<bool, AllocError>
+    ensures { (source : List ℕ) → IsParse source (Err fault)
+        → IfOk result (λ is. MatchBool is (HasTree source) (¬ HasTree source)) }
+{
+    match fault {
+        ParseFault::TooDeep => Ok(true),
+        ParseFault::Syntax(_) => Ok(false),
+        ParseFault::NoMemory => Err(AllocError),
+    }
+}
+
+fn is_tree(tree: &Result<Tree, ParseFault>) -> Result<bool, AllocError>
+    ensures { (source : List ℕ) → IsParse source tree.now
+        → IfOk result (λ is. MatchBool is (HasTree source) (¬ HasTree source)) }
+{
+    match tree {
+        Ok(_) => Ok(true),
+        Err(fault) => is_deep(*fault),
+    }
+}
+
+/// Whether the text is an expression, however deep.
+fn has_tree(alloc: Global, source: &[u8]) -> Result<bool, AllocError>
+    ensures { IfOk result (λ is. MatchBool is (HasTree source.now) (¬ HasTree source.now)) }
+{
+    is_tree(&parsed(alloc, source))
+}
+
+/// The expression that ends before the first `}` before which one can end, and what stands behind that.
+fn cut_expression<'a>(
+    alloc: Global,
+    behind: &'a str,
+) -> Result<Option<(&'a [u8], &'a str)>, AllocError>
+    ensures { IfOk result (EndsAt behind.now) }
+{
+    let bytes = behind.as_bytes();
+    let mut taken = 0usize;
+    let mut rest = behind;
+    while let Some((piece, next)) = rest.split_once("}") {
+        let end = taken + piece.len();
+        if has_tree(alloc, &bytes[..end])? {
+            return Ok(Some((&bytes[..end], next)));
+        }
+        taken = end + 1;
+        rest = next;
+    }
+    Ok(None)
+}
+
+fn ends_with_dollar(text: &[u8]) -> bool
+    ensures { result ≡ ends_with_dollar text.now }
+{
+    match text {
+        [] => false,
+        [.., last] => *last == b'$',
+    }
+}
+
+/// The text that a value gives.
+fn shown(alloc: Global, value: &Doc) -> Result<Text, Stop>
+    ensures { MatchResult result (λ t. shown (document value.now) ≡ Ok t)
+        (λ stop. IsStop (shown (document value.now)) stop) }
+{
+    match value {
+        Doc::Null => Ok(Text::from_string(String::new(alloc))),
+        _ => text_of(alloc, value),
+    }
+}
+
+impl<'a> Renderer<'a> {
+    /// The text of the value of an expression.
+    fn valued(&mut self, alloc: Global, source: &[u8]) -> Result<Text, RenderFault>
+        ensures answers { Answers (λ t. t) (Valued source.now (scopes_of self.old.context) self.old.cost.spent) result self.new.cost.spent }
+        ensures scopes { Kept result (scopes_of self.old.context) (scopes_of self.new.context) }
+    {
+        let value = match self.evaluate(alloc, source) {
+            Ok(value) => value,
+            Err(fault) => return Err(fault),
+        };
+        match shown(alloc, &value) {
+            Ok(text) => Ok(text),
+            Err(Stop::Fault(rule)) => Err(here(alloc, rule)),
+            Err(Stop::NoMemory) => Err(RenderFault::NoMemory),
+        }
+    }
+
+    /// The text with the values of its expressions.
+    fn interpolate(&mut self, alloc: Global, text: &str) -> Result<String, RenderFault>
+        ensures answers { Answers string_bytes (Interpolated text.now (scopes_of self.old.context) self.old.cost.spent) result self.new.cost.spent }
+        ensures scopes { Kept result (scopes_of self.old.context) (scopes_of self.new.context) }
+    {
+        let mut out = String::new(alloc);
+        let mut rest = text;
+        while let Some((front, behind)) = rest.split_once("${") {
+            out.push_str(front)?;
+            if ends_with_dollar(front.as_bytes()) {
+                out.push_str("{")?;
+                rest = behind;
+            } else {
+                match cut_expression(alloc, behind)? {
+                    Some((source, next)) => {
+                        let value = match self.valued(alloc, source) {
+                            Ok(value) => value,
+                            Err(fault) => return Err(fault),
+                        };
+                        out.push_str(value.as_str())?;
+                        rest = next;
+                    }
+                    None => return Err(here(alloc, Fault::Syntax)),
+                }
+            }
+        }
+        out.push_str(rest)?;
+        Ok(out)
+    }
+
+    /// The same, paid for by its bytes.
+    pub(crate) fn written(&mut self, alloc: Global, text: &str) -> Result<String, RenderFault>
+        ensures answers { Answers string_bytes (Written text.now (scopes_of self.old.context) self.old.cost.spent) result self.new.cost.spent }
+        ensures scopes { Kept result (scopes_of self.old.context) (scopes_of self.new.context) }
+    {
+        let out = match self.interpolate(alloc, text) {
+            Ok(out) => out,
+            Err(fault) => return Err(fault),
+        };
+        match self.charge((out.len() as u64).saturating_add(1)) {
+            Ok(()) => Ok(out),
+            Err(fault) => Err(fault),
+        }
+    }
+
+    /// A text of the template.
+    pub(crate) fn text(&mut self, alloc: Global, text: &str) -> Result<Option<Doc>, RenderFault>
+        ensures answers { Answers found_in (TextRenders text.now (scopes_of self.old.context) self.old.cost.spent) result self.new.cost.spent }
+        ensures scopes { Kept result (scopes_of self.old.context) (scopes_of self.new.context) }
+    {
+        let out = match self.written(alloc, text) {
+            Ok(out) => out,
+            Err(fault) => return Err(fault),
+        };
+        Ok(Some(Doc::Text(Text::from_string(out))))
+    }
+}
