@@ -1,0 +1,5 @@
+pub mod BinderLemmas
+pub mod FormLemmas
+pub mod OneParts
+pub mod OneSorting
+pub mod OneRendering

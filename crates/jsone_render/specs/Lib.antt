@@ -1,0 +1,12 @@
+pub mod Outcomes
+pub mod Names
+pub mod Expressions
+pub mod Texts
+pub mod Maps
+pub mod Forms
+pub mod Merges
+pub mod Conditions
+pub mod Bindings
+pub mod Sorting
+pub mod Templates
+pub mod Answers
