@@ -109,7 +109,6 @@ pub work_status : (halted : Bool) (served : Served) (status : Status) → halted
 work_status true served status still is = cc
 work_status false served status still is = is
 
-
 -- the opening of its history
 abbrev pub begun_from : Config → Contents → List Change → ℕ → Opening
 begun_from config contents changes faults = record { state = state_of config contents false; records = changes; faults = faults }

@@ -1,5 +1,5 @@
 //! The commands, over what a house lends.
-ghost use Rattle.std.specs.Prelude.{◌≡◌};
+ghost use Rattle.std.specs.Prelude.{◌≡◌, ◌≤◌};
 ghost use Rattle.farm_cli.specs.Checking.{Checks};
 ghost use Rattle.farm_cli.specs.Expanding.{Expands};
 ghost use Rattle.farm_cli.specs.Loading.{Loads};
@@ -29,6 +29,7 @@ pub(crate) fn obey<H: House>(alloc: Global, work: &Work, config: Config, house: 
         Obeyed views (H.lends house.old) (H.lends house.new) (H.refusals house.old) (H.refusals house.new) config work.now result.status }
     ensures file { (H.lends house.new).file ≡ (H.lends house.old).file }
     ensures notes { (H.lends house.new).notes ≡ (H.lends house.old).notes }
+    ensures later { H.refusals house.old ≤ H.refusals house.new }
 {
     match work {
         Work::Answer { disk: None } => converse(alloc, config, house),

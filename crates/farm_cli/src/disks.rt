@@ -1,5 +1,5 @@
 //! Farms that a disk keeps.
-ghost use Rattle.std.specs.Prelude.{◌≡◌, ◌⊎◌, MatchResult};
+ghost use Rattle.std.specs.Prelude.{◌≡◌, ◌≤◌, ◌⊎◌, MatchResult};
 ghost use Rattle.farm_cli.specs.Checking.{CheckedOver};
 ghost use Rattle.farm_cli.specs.Disks.{HasFarm, IsMissing, WasUnopened, status_of_fault};
 ghost use Rattle.farm_cli.specs.Run.{DidOver};
@@ -33,6 +33,7 @@ fn open_farm<H: House>(
         ⊎ WasUnopened views (H.lends house.old) (H.lends house.new) (H.refusals house.old) (H.refusals house.new) name.now ended.status) }
     ensures file { (H.lends house.new).file ≡ (H.lends house.old).file }
     ensures notes { (H.lends house.new).notes ≡ (H.lends house.old).notes }
+    ensures later { H.refusals house.old ≤ H.refusals house.new }
 {
     let disk = match house.disk(name) {
         Ok(disk) => disk,
@@ -103,6 +104,7 @@ pub(crate) fn converse_over<H: House>(
         (ConversedOver views (H.lends house.old) (H.lends house.new) (H.refusals house.old) (H.refusals house.new) config name.now result.status) }
     ensures file { (H.lends house.new).file ≡ (H.lends house.old).file }
     ensures notes { (H.lends house.new).notes ≡ (H.lends house.old).notes }
+    ensures later { H.refusals house.old ≤ H.refusals house.new }
 {
     let farm = match open_farm(alloc, name, config, house) {
         Ok(farm) => farm,
@@ -144,6 +146,7 @@ pub(crate) fn check_disk<H: House>(
         (CheckedOver views (H.lends house.old) (H.lends house.new) (H.refusals house.old) (H.refusals house.new) config name.now result.status) }
     ensures file { (H.lends house.new).file ≡ (H.lends house.old).file }
     ensures notes { (H.lends house.new).notes ≡ (H.lends house.old).notes }
+    ensures later { H.refusals house.old ≤ H.refusals house.new }
 {
     let has = config.counts();
     let farm = match open_farm(alloc, name, config, house) {

@@ -2,7 +2,7 @@
 ghost use Rattle.std.specs.Prelude.{◌≡◌, string_bytes, option_map};
 ghost use Rattle.std.specs.Option.{option_copied};
 ghost use Rattle.farm_cli.specs.declared.lending.Lending.TheVariants.{Ready};
-ghost use Rattle.farm_cli.specs.House.{unopened, refuses, returned};
+ghost use Rattle.farm_cli.specs.House.{after_opening, unopened, refuses, returned, CanOpenAmong};
 ghost use Rattle.farm_cli.specs.MemoryHouse.{disks_of, files_of, only_file};
 
 use crate::house::House;
@@ -154,15 +154,17 @@ impl House for MemoryHouse {
     }
 
     fn disk(&mut self, name: &str) -> Result<MemoryDisk, Failed> {
-        if let Some(named) = &mut self.disk
-            && named.name.as_str() == name
-            && matches!(named.disk, Lending::Ready(_))
-            && let Some(disk) = named.disk.give()
-        {
-            return Ok(disk);
+        let Some(named) = &mut self.disk else {
+            self.refusals.raise();
+            return Err(Failed);
+        };
+        match open_named(named.name.as_str(), &mut named.disk, name) {
+            Ok(disk) => Ok(disk),
+            Err(Failed) => {
+                self.refusals.raise();
+                Err(Failed)
+            }
         }
-        self.refusals.raise();
-        Err(Failed)
     }
 
     fn back_disk(&mut self, disk: MemoryDisk) {
@@ -223,4 +225,18 @@ impl House for MemoryHouse {
     fn back_draws(&mut self, draws: ListDraws) {
         self.draws.take_back(draws);
     }
+}
+
+/// Gives what has the first name, where it is asked for by that, and is there.
+fn open_named<T: Drop>(name: &str, object: &mut Lending<T>, asked: &str) -> Result<T, Failed>
+    ensures opens { CanOpenAmong (files_of name.now object.old) asked.now result }
+    ensures after { files_of name.now object.new ≡ after_opening (files_of name.now object.old) result }
+{
+    if name == asked
+        && matches!(object, Lending::Ready(_))
+        && let Some(given) = object.give()
+    {
+        return Ok(given);
+    }
+    Err(Failed)
 }
