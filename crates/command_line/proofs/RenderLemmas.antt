@@ -53,17 +53,17 @@ flag_fails w more flag = level_fails leaf [] (w ∷ more) false [] (first_fails 
 
 -- ---- both ways
 
-fails : (rest : List Text) → is_empty (faults rest) ≡ false → reading (codes "render" ∷ rest) ≡ None
+none_read : (rest : List Text) → is_empty (faults rest) ≡ false → reading (codes "render" ∷ rest) ≡ None
 unfolding clap_on_literals
-fails rest fails =
-    no_reading (codes "render" ∷ rest) (fails_below farm_app (codes "render" ∷ rest) (ap is_empty (ap (entered_fault (built farm_app)) (render_stops rest)) ∙ fails))
+none_read rest bad =
+    no_reading (codes "render" ∷ rest) (fails_below farm_app (codes "render" ∷ rest) (ap is_empty (ap (entered_fault (built farm_app)) (render_stops rest)) ∙ bad))
 
 unread : (rest : List Text) (command : Command) → is_empty (faults rest) ≡ false → reading (codes "render" ∷ rest) ≡ Some command → EndsOptions rest
-unread rest command bad read = absurd (none_some command (sym (fails rest bad) ∙ read))
+unread rest command bad read = absurd (none_some command (sym (none_read rest bad) ∙ read))
 
 dashes_end : (w : Text) (more : List Text) (command : Command) → w ≡ codes "--" → reading (codes "render" ∷ codes "--" ∷ more) ≡ Some command → EndsOptions (w ∷ more)
 dashes_end w [] command is read = inr (ap (λ a. a ∷ []) is)
-dashes_end w (u ∷ more) command is read = absurd (none_some command (sym (fails (codes "--" ∷ u ∷ more) (ap is_empty (dashes_fail u more))) ∙ read))
+dashes_end w (u ∷ more) command is read = absurd (none_some command (sym (none_read (codes "--" ∷ u ∷ more) (ap is_empty (dashes_fail u more))) ∙ read))
 
 pub render_ends : (rest : List Text) (command : Command) → All IsUtf8 rest → reading (codes "render" ∷ rest) ≡ Some command → EndsOptions rest
 render_ends [] command utf8 read = inl refl
