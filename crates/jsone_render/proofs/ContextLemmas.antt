@@ -4,7 +4,6 @@ use Rattle.std.specs.Bool.{MatchBool}
 use Rattle.std.specs.List.{list_all}
 use Rattle.farm_text.specs.Document.{Document, null, boolean, whole, text, array, object, Members}
 use Rattle.farm_text.specs.Doc.{document, documents}
-use Rattle.farm_text.specs.declared.doc.Doc.{Doc}
 use Rattle.jsone_values.specs.declared.faults.Fault.TheVariants.{BadContext}
 use Rattle.jsone_eval.specs.declared.context.Context.{Context}
 use Rattle.jsone_eval.specs.Scopes.{scopes_of}
@@ -13,7 +12,7 @@ use Rattle.jsone_render.specs.declared.faults.RenderFault.TheVariants.{Fault as 
 use Rattle.jsone_render.specs.Answers.{Answers, IsAnswer, LacksMap, found_in}
 use Rattle.jsone_render.specs.Maps.{keys_of}
 use Rattle.jsone_render.specs.Names.{is_name}
-use Rattle.jsone_render.specs.Outcomes.{Outcome, given, faulted, or_null, After, Operand}
+use Rattle.jsone_render.specs.Outcomes.{Outcome, given, faulted, or_null, Operand}
 use Rattle.jsone_render.specs.Templates.{Renders, IsRendered}
 use Rattle.jsone_render.proofs.OutcomeLemmas.{fault_through}
 

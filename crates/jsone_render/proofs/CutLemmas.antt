@@ -1,5 +1,5 @@
 -- Where an expression in a text ends: what stands before the first `}` before which one can end.
-use Rattle.std.proofs.Common.{◌≡◌, ◌≢◌, ℕ, ◌+◌, ◌-◌, ◌<◌, ◌≤◌, List, [], ◌∷◌, ◌++◌, length, take, drop, get_or, slice_index, Bool, true, false, inl, inr, ◌⊎◌, refl, sym, ap, subst, ◌∙◌, arith, length-append, length-drop, add-one, drop-cons, suc}
+use Rattle.std.proofs.Common.{◌≡◌, ◌≢◌, ℕ, ◌+◌, ◌-◌, ◌<◌, ◌≤◌, List, [], ◌∷◌, ◌++◌, length, take, drop, slice_index, Bool, true, false, inl, inr, sym, ap, subst, ◌∙◌, arith, length-append, length-drop, add-one, drop-cons, suc}
 use Rattle.std.proofs.lemmas.Bool.{cases_lt, false≢true}
 use Rattle.std.specs.Bool.{MatchBool}
 use Rattle.std.proofs.lemmas.List.{drop-drop, drop-append-le, drop_all, get_or-drop, take-append-drop, length-take}

@@ -1,6 +1,6 @@
 -- Values of the wrong kind, and lists that are gathered.
-use Rattle.std.proofs.Common.{◌≡◌, ℕ, List, [], ◌∷◌, ◌++◌, Option, Some, None, Ok, Err, pos, ◌+◌, length, length-append, map, reverse, refl, sym, ap, subst, ◌∙◌, append_assoc, append-nil}
-use Rattle.farm_text.specs.Document.{Document, null, boolean, whole, whole as integer, text, array, object, Items, no_items, item, items_of, Members, no_members, member, member_at}
+use Rattle.std.proofs.Common.{◌≡◌, ℕ, List, [], ◌∷◌, ◌++◌, Option, Some, None, Ok, Err, pos, ◌+◌, length, length-append, map, reverse, refl, sym, ap, ◌∙◌, append_assoc, append-nil}
+use Rattle.farm_text.specs.Document.{Document, null, boolean, whole, whole as integer, text, array, object, items_of, Members}
 use Rattle.jsone_values.specs.declared.faults.Fault.TheVariants.{WrongKind}
 use Rattle.jsone_values.specs.Members.{listed}
 use Rattle.jsone_render.specs.Answers.{IsNoMap, IsNoList, IsNoText}

@@ -1,5 +1,5 @@
 -- The members of a map without an operator, one after the other.
-use Rattle.std.proofs.Common.{◌≡◌, ℕ, ◌+◌, Bool, true, false, List, [], ◌∷◌, is_some, Option, Some, refl, sym, ap, subst, ◌∙◌}
+use Rattle.std.proofs.Common.{◌≡◌, ℕ, ◌+◌, true, false, List, [], ◌∷◌, is_some, Option, Some, refl, sym, subst}
 use Rattle.std.specs.Bool.{MatchBool}
 use Rattle.farm_text.specs.Document.{Document, object, Members, member_at, put}
 use Rattle.jsone_values.specs.declared.faults.Fault.TheVariants.{KeyTwice}

@@ -1,5 +1,5 @@
 -- Expressions and texts of a template, and the form of a map, are one.
-use Rattle.std.proofs.Common.{◌≡◌, ◌≢◌, ℕ, ◌+◌, ◌<◌, ◌≤◌, Bool, true, false, List, [], ◌∷◌, ◌++◌, length, take, drop, slice_index, if◌then◌else◌, Option, Some, None, Result, Ok, Err, inl, inr, ◌⊎◌, refl, sym, ap, ap₂, subst, ◌∙◌, arith, length-append}
+use Rattle.std.proofs.Common.{◌≡◌, ℕ, ◌+◌, ◌≤◌, Bool, true, false, List, [], ◌∷◌, ◌++◌, length, take, drop, slice_index, if◌then◌else◌, Option, Some, None, Result, Ok, Err, inl, inr, refl, sym, ap, subst, ◌∙◌, arith, length-append}
 use Rattle.std.proofs.lemmas.Bool.{cases_lt, false≢true}
 use Rattle.std.proofs.lemmas.List.{append_cancel_left, drop-append-le, drop_all, take-append-le, take_all}
 use Rattle.std.specs.Bool.{MatchBool}
@@ -8,7 +8,7 @@ use Rattle.farm_text.specs.Document.{Document, text, Members}
 use Rattle.jsone_values.specs.declared.faults.Fault.{Fault}
 use Rattle.jsone_values.specs.declared.faults.Fault.TheVariants.{BadOperator}
 use Rattle.jsone_values.specs.Splits.{IsFirstCut}
-use Rattle.jsone_expr.specs.Texts.{IsTree, IsTooDeep}
+use Rattle.jsone_expr.specs.Texts.{IsTooDeep}
 use Rattle.jsone_expr.specs.Trees.{depth}
 use Rattle.jsone_expr.proofs.TextLemmas.{one_text_tree}
 use Rattle.jsone_eval.specs.Values.{IsOutcome}

@@ -1,12 +1,12 @@
 -- A template has one outcome.
-use Rattle.std.proofs.Common.{◌≡◌, ℕ, ◌+◌, pos, codes, Bool, true, false, List, [], ◌∷◌, ◌++◌, length, decimal, if◌then◌else◌, is_some, Option, Some, None, Result, Ok, Err, is_eq, nat_cmp, refl, sym, ap, subst, ◌∙◌}
+use Rattle.std.proofs.Common.{◌≡◌, ℕ, ◌+◌, codes, List, [], ◌∷◌, ◌++◌, length, decimal, if◌then◌else◌, is_some, Option, Some, None, Result, is_eq, nat_cmp, sym, ap, subst, ◌∙◌}
 use Rattle.std.specs.Bool.{MatchBool}
 use Rattle.std.specs.Cmp.Lexicographic.{slice_cmp}
 use Rattle.std.specs.List.{list_all}
 use Rattle.farm_text.specs.Document.{Document, null, boolean, whole, text, array, object, items_of, Items, no_items, item, Members, no_members, member, member_at, put}
 use Rattle.farm_text.specs.Reading.{escaped}
 use Rattle.jsone_values.specs.declared.faults.Fault.{Fault}
-use Rattle.jsone_values.specs.declared.faults.Fault.TheVariants.{KeyTwice, TwoBranches, WrongKind, BadOperator, BadContext}
+use Rattle.jsone_values.specs.declared.faults.Fault.TheVariants.{KeyTwice, BadOperator, BadContext}
 use Rattle.jsone_values.specs.Members.{listed}
 use Rattle.jsone_values.specs.Truth.{is_true}
 use Rattle.jsone_values.proofs.OneLemmas.{IsOne, one_from_now}
@@ -16,14 +16,14 @@ use Rattle.jsone_render.specs.declared.operators.Operator.{Operator}
 use Rattle.jsone_render.specs.declared.operators.Operator.TheVariants.{Eval, If, Switch, Match, Let, Map, Reduce, Find, Sort, FromNow}
 use Rattle.jsone_render.specs.Bindings.{LetIn, LetRenders, bound_to, numbered, turns_of, both, EachRenders, MappedOver, or_before, TurnsReduce, ReducedOver, FirstTrue, FoundIn}
 use Rattle.jsone_render.specs.Conditions.{Taken, EvalRenders, branch_of, IfRenders, AreTrue, default_key, conditions_of, OneTaken, SwitchRenders, AllTaken, MatchRenders}
-use Rattle.jsone_render.specs.Expressions.{Evaluated, OfText, ValueAt}
-use Rattle.jsone_render.specs.Forms.{Form, plain, faulty, alone, binding, key_of, IsForm}
+use Rattle.jsone_render.specs.Expressions.{Evaluated, ValueAt}
+use Rattle.jsone_render.specs.Forms.{Form, plain, faulty, alone, binding, key_of}
 use Rattle.jsone_render.specs.Maps.{keys_of, key_text, kept_at, KeysRender}
 use Rattle.jsone_render.specs.Merges.{merged}
 use Rattle.jsone_render.specs.Names.{is_name}
-use Rattle.jsone_render.specs.Outcomes.{Outcome, given, faulted, too_much, pay, worth, at_operator, as_found, under, Then, After, or_null, kept, Meaning, Operand}
-use Rattle.jsone_render.specs.Sorting.{IsSortOf, IsSortAlone, KeysEvaluated, Sorted, SortedBy}
-use Rattle.jsone_render.specs.Templates.{IsGivenBy, Given, SpanRenders, FromNowRenders, AloneRenders, BoundOver, BindingRenders, FormRenders, Under, Renders, ItemsRender, ValuesRender, MemberRenders, BranchRenders, InnerRenders, IsRendered}
+use Rattle.jsone_render.specs.Outcomes.{Outcome, given, faulted, pay, worth, at_operator, as_found, under, After, or_null, kept, Meaning, Operand}
+use Rattle.jsone_render.specs.Sorting.{IsSortOf, KeysEvaluated, Sorted, SortedBy}
+use Rattle.jsone_render.specs.Templates.{IsGivenBy, Given, SpanRenders, FromNowRenders, AloneRenders, BoundOver, FormRenders, Under, Renders, ItemsRender, ValuesRender, MemberRenders, BranchRenders, InnerRenders, IsRendered}
 use Rattle.jsone_render.specs.Texts.{Written}
 use Rattle.jsone_render.proofs.OneParts.{One, one_after, one_is, one_branch, one_of_text, one_evaluated, one_written, one_form}
 use Rattle.jsone_render.proofs.OneSorting.{one_sort_of, one_sort_alone}

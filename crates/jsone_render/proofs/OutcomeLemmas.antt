@@ -1,11 +1,10 @@
 -- Going on from what was found.
-use Rattle.std.proofs.Common.{◌≡◌, ℕ, ◌++◌, ◌∷◌, List, Option, Result, Ok, Err, refl, sym, ap, subst, ◌∙◌}
+use Rattle.std.proofs.Common.{◌≡◌, ℕ, List, Option, Result, Ok, Err, refl, sym, ap, subst, ◌∙◌}
 use Rattle.farm_text.specs.Document.{Document}
-use Rattle.farm_text.specs.declared.doc.Doc.{Doc}
 use Rattle.jsone_render.specs.declared.faults.RenderFault.{RenderFault}
 use Rattle.jsone_render.specs.declared.faults.RenderFault.TheVariants.{Fault as a_fault, TooMuchWork, NoMemory}
-use Rattle.jsone_render.specs.Answers.{Answers, Kept, IsUnder}
-use Rattle.jsone_render.specs.Outcomes.{Outcome, given, faulted, too_much, under, Then, After}
+use Rattle.jsone_render.specs.Answers.{Answers, IsUnder}
+use Rattle.jsone_render.specs.Outcomes.{Outcome, given, faulted, too_much, After}
 use Rattle.jsone_render.specs.Templates.{Under}
 
 -- a fault is the outcome of the whole

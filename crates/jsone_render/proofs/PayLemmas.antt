@@ -1,10 +1,10 @@
 -- What is paid.
-use Rattle.std.proofs.Common.{◌≡◌, ℕ, ◌+◌, ◌<◌, ◌≤◌, if◌then◌else◌, Bool, Option, Some, Result, Ok, Err, refl, sym, ap, subst, ◌∙◌}
+use Rattle.std.proofs.Common.{◌≡◌, ℕ, ◌+◌, ◌<◌, ◌≤◌, if◌then◌else◌, Bool, Err, sym, ap, subst, ◌∙◌}
 use Rattle.std.proofs.lemmas.Bool.{le-leb, lt-leb}
 use Rattle.jsone_render.specs.declared.faults.RenderFault.{RenderFault}
 use Rattle.jsone_render.specs.declared.faults.RenderFault.TheVariants.{TooMuchWork}
 use Rattle.jsone_render.specs.Answers.{Answers}
-use Rattle.jsone_render.specs.Outcomes.{Outcome, given, too_much, pay}
+use Rattle.jsone_render.specs.Outcomes.{given, too_much, pay}
 
 pub pay_within : {A : Type 0} (spent n m : ℕ) (x : A) → spent + n ≤ 1000000 → m ≡ spent + n → given x m ≡ pay spent n x
 pay_within {A} spent n m x within is =

@@ -25,7 +25,7 @@ use Rattle.jsone_render.specs.Forms.{Form, IsForm, key_of}
 use Rattle.jsone_render.specs.Maps.{keys_of, kept_at, KeysRender}
 use Rattle.jsone_render.specs.Merges.{merged}
 use Rattle.jsone_render.specs.Names.{is_name}
-use Rattle.jsone_render.specs.Outcomes.{Outcome, given, faulted, pay, worth, at_operator, as_found, kept, Then, After, Meaning, Operand}
+use Rattle.jsone_render.specs.Outcomes.{Outcome, given, faulted, pay, worth, at_operator, as_found, kept, After, Meaning, Operand}
 use Rattle.jsone_render.specs.Templates.{Given, SpanRenders, AloneRenders, BoundOver, Under, Renders, ItemsRender, ValuesRender, MemberRenders, BranchRenders, FormRenders}
 use Rattle.farm_text.proofs.DocLemmas.{Entry, members_in}
 use Rattle.jsone_render.proofs.KindLemmas.{listed-items_of}

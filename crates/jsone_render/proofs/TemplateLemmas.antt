@@ -1,9 +1,9 @@
 -- The members of a map, and what they come to.
-use Rattle.std.proofs.Common.{◌≡◌, ℕ, ◌+◌, ◌<◌, ◌≤◌, List, [], ◌∷◌, ◌++◌, Option, Some, None, Result, Ok, Err, Ordering, Less, Equal, Greater, is_eq, nat_cmp, refl, sym, ap, subst, ◌∙◌, arith}
+use Rattle.std.proofs.Common.{◌≡◌, ℕ, List, Option, Some, None, Ordering, Less, Equal, Greater, is_eq, nat_cmp, refl, sym, subst}
 use Rattle.std.specs.Bool.{MatchBool}
 use Rattle.std.specs.Cmp.Lexicographic.{slice_cmp}
 use Rattle.std.specs.Ordering.{match_ordering}
-use Rattle.farm_text.specs.Document.{Document, null, boolean, whole, text, array, object, Items, no_items, item, Members, no_members, member, member_at}
+use Rattle.farm_text.specs.Document.{Document, null, boolean, whole, text, array, object, Members, no_members, member, member_at}
 use Rattle.farm_text.specs.Reading.{escaped}
 use Rattle.jsone_render.specs.Answers.{LacksMap}
 use Rattle.jsone_render.specs.Outcomes.{Outcome, given}

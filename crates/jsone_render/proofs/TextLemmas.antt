@@ -1,5 +1,5 @@
 -- The parts of a text, one after the other.
-use Rattle.std.proofs.Common.{◌≡◌, ℕ, ◌≤◌, Bool, true, false, codes, List, [], ◌∷◌, ◌++◌, length, Result, Ok, Err, String, Global, string_bytes, refl, sym, ap, subst, ◌∙◌}
+use Rattle.std.proofs.Common.{◌≡◌, ℕ, ◌≤◌, true, false, codes, List, [], ◌∷◌, ◌++◌, length, Err, String, Global, refl, sym, subst}
 use Rattle.std.specs.Str.Pattern.{LacksTextAt}
 use Rattle.farm_text.specs.Document.{Document}
 use Rattle.jsone_values.specs.declared.faults.Fault.TheVariants.{Syntax}

@@ -1,7 +1,7 @@
 -- Turns of `$map`, `$reduce` and `$match`, one after the other.
-use Rattle.std.proofs.Common.{◌≡◌, ℕ, ◌+◌, ◌<◌, List, [], ◌∷◌, ◌++◌, length, Vec, Global, Option, Some, None, Result, Ok, Err, refl, sym, ap, subst, ◌∙◌, arith, append_assoc, length-append}
-use Rattle.farm_text.specs.Document.{Document, array, items_of}
-use Rattle.farm_text.specs.Doc.{document, documents}
+use Rattle.std.proofs.Common.{◌≡◌, ℕ, ◌+◌, ◌<◌, List, [], ◌∷◌, ◌++◌, length, Vec, Global, Option, Err, refl, sym, ap, subst, ◌∙◌, arith, append_assoc, length-append}
+use Rattle.farm_text.specs.Document.{Document}
+use Rattle.farm_text.specs.Doc.{documents}
 use Rattle.farm_text.specs.declared.doc.Doc.{Doc}
 use Rattle.jsone_render.specs.declared.faults.RenderFault.{RenderFault}
 use Rattle.jsone_render.specs.declared.binders.Names.{Names}
@@ -9,7 +9,7 @@ use Rattle.jsone_render.specs.declared.binders.Names.TheVariants.{One as one_nam
 use Rattle.jsone_render.specs.Answers.{Answers, found_in, names_in}
 use Rattle.jsone_render.specs.Bindings.{single, bound_to, both, EachRenders, or_before, TurnsReduce}
 use Rattle.jsone_render.specs.Conditions.{AllTaken}
-use Rattle.jsone_render.specs.Outcomes.{Outcome, given, worth, kept, Then, After, Meaning}
+use Rattle.jsone_render.specs.Outcomes.{Outcome, given, kept, Meaning}
 use Rattle.jsone_render.proofs.OutcomeLemmas.{loop_step, loop_fault}
 
 abbrev pub Turns : Type 0

@@ -1,9 +1,8 @@
 -- `$let`, `$map`, `$reduce` and `$find` (JSON-e, "Operators").
-use Rattle.std.specs.Prelude.{◌≡◌, ℕ, pos, ◌+◌, codes, List, [], ◌∷◌, ◌++◌, Option, Some, None, Result, Ok, Err}
+use Rattle.std.specs.Prelude.{◌≡◌, ℕ, pos, ◌+◌, codes, List, [], ◌∷◌, ◌++◌, Option, Some, None}
 use Rattle.std.specs.Bool.{MatchBool}
 use Rattle.std.specs.List.{list_all}
-use Rattle.farm_text.specs.Document.{Document, whole, text, array, object, items_of, Members, no_members, member, member_at, put}
-use Rattle.jsone_values.specs.declared.faults.Fault.{Fault}
+use Rattle.farm_text.specs.Document.{Document, whole, text, array, object, items_of, Members, no_members, member}
 use Rattle.jsone_values.specs.declared.faults.Fault.TheVariants.{WrongKind, BadOperator}
 use Rattle.jsone_values.specs.Members.{listed}
 use Rattle.jsone_values.specs.Truth.{is_true}
@@ -12,7 +11,7 @@ use Rattle.jsone_render.specs.Conditions.{Taken}
 use Rattle.jsone_render.specs.Maps.{keys_of}
 use Rattle.jsone_render.specs.Merges.{merged}
 use Rattle.jsone_render.specs.Names.{is_name}
-use Rattle.jsone_render.specs.Outcomes.{Outcome, given, faulted, worth, at_operator, as_found, Then, After, kept, Meaning, Operand}
+use Rattle.jsone_render.specs.Outcomes.{Outcome, given, faulted, worth, at_operator, as_found, After, kept, Meaning, Operand}
 
 -- `$let`: the members of a map, whose keys are names, are bound
 abbrev pub LetIn : Document → Meaning → Meaning

@@ -1,13 +1,13 @@
 -- `$eval`, `$if`, `$switch` and `$match` (JSON-e, "Operators").
-use Rattle.std.specs.Prelude.{◌≡◌, ℕ, Bool, not, codes, if◌then◌else◌, List, [], ◌∷◌, ◌++◌, Option, Some, None}
+use Rattle.std.specs.Prelude.{◌≡◌, ℕ, not, codes, if◌then◌else◌, List, [], ◌∷◌, ◌++◌, Option, Some}
 use Rattle.std.specs.List.{filter}
 use Rattle.std.specs.Str.{bytes_eq}
-use Rattle.farm_text.specs.Document.{Document, array, object, items_of, Members, member_at}
+use Rattle.farm_text.specs.Document.{Document, array, object, items_of, Members}
 use Rattle.jsone_values.specs.declared.faults.Fault.TheVariants.{WrongKind, TwoBranches}
 use Rattle.jsone_values.specs.Truth.{is_true}
 use Rattle.jsone_render.specs.Expressions.{Evaluated, ValueAt}
 use Rattle.jsone_render.specs.Maps.{keys_of}
-use Rattle.jsone_render.specs.Outcomes.{Outcome, given, faulted, worth, Then, After, kept, Meaning}
+use Rattle.jsone_render.specs.Outcomes.{Outcome, given, faulted, worth, After, kept, Meaning}
 
 -- a branch, or another member that an operator stands for
 abbrev pub Taken : Meaning → Meaning

@@ -1,10 +1,10 @@
 -- Maps of a template without an operator (JSON-e, "Object Keys"; that two equal keys are a fault is this project's).
-use Rattle.std.specs.Prelude.{◌≡◌, ℕ, ◌+◌, Bool, false, ◌&&◌, ◌==◌, if◌then◌else◌, is_some, List, [], ◌∷◌, map, drop, Option, Some, None}
+use Rattle.std.specs.Prelude.{◌≡◌, ℕ, ◌+◌, Bool, false, ◌&&◌, ◌==◌, if◌then◌else◌, is_some, List, [], ◌∷◌, drop, Option, Some, None}
 use Rattle.std.specs.Bool.{MatchBool}
 use Rattle.farm_text.specs.Document.{Document, object, Members, no_members, member, member_at, put}
 use Rattle.jsone_values.specs.declared.faults.Fault.TheVariants.{KeyTwice}
 use Rattle.jsone_expr.specs.Tokens.{is_letter}
-use Rattle.jsone_render.specs.Outcomes.{Outcome, faulted, pay, Then, After}
+use Rattle.jsone_render.specs.Outcomes.{Outcome, faulted, pay, After}
 use Rattle.jsone_render.specs.Texts.{Written}
 
 abbrev pub keys_of : Members → List (List ℕ)

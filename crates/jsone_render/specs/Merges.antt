@@ -1,6 +1,6 @@
 -- `$merge`, `$mergeDeep`, `$flatten`, `$flattenDeep`, `$reverse` and `$json`: what they give for a value (JSON-e, "Operators").
-use Rattle.std.specs.Prelude.{ℕ, List, [], ◌∷◌, ◌++◌, reverse, Option, Some, None, Result, Ok, Err}
-use Rattle.farm_text.specs.Document.{Document, null, boolean, whole, text, array, object, Items, no_items, item, items_of, Members, no_members, member, member_at, put, document_text}
+use Rattle.std.specs.Prelude.{List, [], ◌∷◌, ◌++◌, reverse, Option, Some, Result, Ok, Err}
+use Rattle.farm_text.specs.Document.{Document, text, array, object, Items, no_items, item, items_of, Members, no_members, member, member_at, put, document_text}
 use Rattle.jsone_values.specs.declared.faults.Fault.{Fault}
 use Rattle.jsone_values.specs.declared.faults.Fault.TheVariants.{WrongKind}
 use Rattle.jsone_values.specs.Members.{listed}

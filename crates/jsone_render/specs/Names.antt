@@ -1,5 +1,5 @@
 -- Names, which operators bind (JSON-e, "Language"), and the keys that bind them: `each(v)`, `each(v,i)` and `by(v)`.
-use Rattle.std.specs.Prelude.{◌≡◌, ℕ, Bool, true, false, not, ◌&&◌, ◌||◌, ◌==◌, codes, List, [], ◌∷◌, ◌++◌}
+use Rattle.std.specs.Prelude.{◌≡◌, ℕ, Bool, true, false, not, ◌&&◌, ◌||◌, codes, List, [], ◌∷◌, ◌++◌}
 use Rattle.std.specs.List.{list_all}
 use Rattle.std.specs.Str.{bytes_eq}
 use Rattle.jsone_expr.specs.Tokens.{is_letter, is_word_byte}

@@ -6,7 +6,7 @@ use Rattle.jsone_values.specs.declared.faults.Fault.{Fault}
 use Rattle.jsone_values.specs.declared.faults.Fault.TheVariants.{Syntax}
 use Rattle.jsone_values.specs.Builtins.{text_of}
 use Rattle.jsone_values.specs.Splits.{IsFirstCut}
-use Rattle.jsone_render.specs.Outcomes.{Outcome, given, faulted, pay, Then, After}
+use Rattle.jsone_render.specs.Outcomes.{Outcome, given, faulted, pay, After}
 use Rattle.jsone_render.specs.Expressions.{HasTree, Evaluated}
 
 -- what a text has up to its next `${`

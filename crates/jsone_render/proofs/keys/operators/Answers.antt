@@ -1,9 +1,7 @@
-use Rattle.std.proofs.Common.{◌≡◌, [], ◌∷◌, ◌++◌, ℕ, List, Bool, not, ◌||◌, refl, sym, ap, subst, ◌∙◌}
-use Rattle.std.specs.List.{filter, list_any}
-use Rattle.std.specs.Str.{bytes_eq}
+use Rattle.std.proofs.Common.{◌≡◌, [], ◌∷◌, ◌++◌, ℕ, List, Bool, refl, sym, ap, subst, ◌∙◌}
+use Rattle.std.specs.List.{filter}
 use Rattle.farm_text.proofs.DocLemmas.{Entry}
 use Rattle.jsone_render.specs.Answers.{AreOthers}
-use Rattle.jsone_render.specs.Forms.{words_of}
 use Rattle.jsone_render.specs.Maps.{is_operator_key}
 use Rattle.jsone_render.proofs.KeyLemmas.{keys_in, counted, none_left}
 use Rattle.jsone_render.proofs.keys.operators.Goals as goal

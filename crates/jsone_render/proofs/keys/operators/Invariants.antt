@@ -1,8 +1,6 @@
-use Rattle.std.proofs.Common.{◌≡◌, ◌++◌, ℕ, List, not, ◌||◌}
-use Rattle.std.specs.List.{filter, list_any}
-use Rattle.std.specs.Str.{bytes_eq}
+use Rattle.std.proofs.Common.{◌≡◌, ◌++◌, ℕ, List}
+use Rattle.std.specs.List.{filter}
 use Rattle.jsone_render.specs.Answers.{AreOthers}
-use Rattle.jsone_render.specs.Forms.{others_of, words_of}
 use Rattle.jsone_render.specs.Maps.{is_operator_key}
 use Rattle.jsone_render.proofs.KeyLemmas.{keys_in}
 use Rattle.jsone_render.proofs.keys.operators.Given as goal

@@ -1,4 +1,4 @@
-use Rattle.std.proofs.Common.{◌≡◌, List, Bor, Option, Some, None, option_map, MatchOption, sym, ap, ◌∙◌}
+use Rattle.std.proofs.Common.{◌≡◌, Bor, Option, Some, None, option_map, MatchOption, sym, ap, ◌∙◌}
 use Rattle.farm_text.specs.Document.{Document, member_at}
 use Rattle.farm_text.specs.Doc.{document}
 use Rattle.farm_text.specs.declared.doc.Doc.{Doc}

@@ -1,12 +1,11 @@
 use Rattle.std.proofs.Common.{Err, ap, sym, subst, ◌∙◌}
 use Rattle.farm_text.specs.Doc.{document}
 use Rattle.farm_text.proofs.DocLemmas.{members_in}
-use Rattle.jsone_values.specs.declared.faults.Fault.TheVariants.{BadContext}
 use Rattle.jsone_eval.specs.Scopes.{scopes_of}
 use Rattle.jsone_render.specs.declared.faults.RenderFault.{RenderFault}
 use Rattle.jsone_render.specs.Answers.{IsAnswer, found_in}
 use Rattle.jsone_render.specs.Templates.{IsRendered}
-use Rattle.jsone_render.proofs.ContextLemmas.{only_scope, no_context, bad_names, template_found, template_fault}
+use Rattle.jsone_render.proofs.ContextLemmas.{only_scope, no_context, bad_names, template_found}
 use Rattle.jsone_render.proofs.rendering.render.Goals as goal
 
 pub returns-in_default : goal.returns-in_default

@@ -1,6 +1,5 @@
-use Rattle.std.proofs.Common.{◌≡◌, ◌+◌, ◌<◌, [], ◌∷◌, length, refl, lit<, arith, rules}
+use Rattle.std.proofs.Common.{◌+◌, ◌<◌, [], ◌∷◌, length, refl, lit<, arith, rules}
 use Rattle.std.proofs.lemmas.Grind.{common_steps}
-use Rattle.jsone_values.specs.Splits.{IsFirstCut}
 use Rattle.jsone_values.proofs.SplitLemmas.{first_cut}
 use Rattle.jsone_render.proofs.CutLemmas.{end_within, next_at, none_left, slice_fits, ends_so, goes_past, less_left}
 use Rattle.jsone_render.proofs.texts.cut_expression.Goals as goal

@@ -1,4 +1,4 @@
-use Rattle.std.proofs.Common.{◌≡◌, ◌∷◌, ◌++◌, [], ◌+◌, ◌<◌, ℕ, Bool, List, Vec, String, Global, Some, Err, codes, length, drop, string_bytes, refl, sym, ap, subst, ◌∙◌, arith, rules, ℤ, to_z, of_z, w64}
+use Rattle.std.proofs.Common.{◌≡◌, ◌∷◌, ◌++◌, [], ◌+◌, ◌<◌, ℕ, List, Vec, String, Global, Some, Err, codes, length, drop, string_bytes, refl, sym, ap, subst, ◌∙◌, arith, rules, ℤ, to_z, of_z, w64}
 use Rattle.std.specs.Prelude.{Option}
 use Rattle.std.specs.Vec.Iter.{into_iter_items}
 use Rattle.std.proofs.lemmas.Grind.{common_steps}
@@ -30,7 +30,7 @@ use Rattle.jsone_render.specs.Outcomes.{Outcome, given, pay, worth, or_null, Mea
 use Rattle.jsone_render.specs.Templates.{Given, IsGivenBy, SpanRenders, BoundOver, Under, Renders, ItemsRender, ValuesRender, MemberRenders, BranchRenders, InnerRenders}
 use Rattle.jsone_render.specs.Texts.{TextRenders}
 use Rattle.jsone_render.proofs.OutcomeLemmas.{answer_through, fault_through, fault_under, value_through, value_under}
-use Rattle.jsone_render.proofs.RenderLemmas.{of_same, of_plain, document-Null, of_list, of_list_fault, item_more, item_fault, item_next, item_end, value_more, value_fault, of_form, length-keys_of, kept_from, body_at, body_fault, made_so, alone_is, by_operand, over_is, takes_none, let_bound, let_bad, let_kind, switch_kind, match_kind, two_taken, one_taken, string_next, string_end, FromRenders, from_there, from_now_on, of_mapped_list, of_mapped_list_fault, of_mapped_map, of_mapped_map_fault, reduce_kind, reduce_list}
+use Rattle.jsone_render.proofs.RenderLemmas.{of_same, of_plain, document-Null, of_list, of_list_fault, item_more, item_fault, item_next, item_end, value_more, value_fault, of_form, length-keys_of, kept_from, body_at, body_fault, made_so, alone_is, by_operand, over_is, takes_none, let_bound, let_bad, let_kind, switch_kind, match_kind, two_taken, one_taken, string_next, string_end, FromRenders, from_there, from_now_on, of_mapped_list, of_mapped_list_fault, reduce_kind, reduce_list}
 use Rattle.jsone_render.proofs.SizeLemmas.{member_weight, item_weight}
 use Rattle.jsone_render.proofs.TemplateLemmas.{member_found, member_missing, branch_found, no_branches}
 use Rattle.jsone_render.proofs.TurnLemmas.{turn_more, turn_fault, reduce_more, reduce_fault, taken_back, taken_more, taken_fault}

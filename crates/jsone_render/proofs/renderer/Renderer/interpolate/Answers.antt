@@ -1,4 +1,4 @@
-use Rattle.std.proofs.Common.{◌≡◌, ◌++◌, ◌∷◌, codes, ℕ, List, Err, Global, string_bytes, refl, sym, ap, subst, ◌∙◌, lit<, rules}
+use Rattle.std.proofs.Common.{◌++◌, codes, ℕ, List, Err, Global, string_bytes, refl, sym, ap, subst, ◌∙◌, lit<, rules}
 use Rattle.jsone_eval.specs.Scopes.{scopes_of}
 use Rattle.jsone_values.proofs.SplitLemmas.{first_cut}
 use Rattle.jsone_render.specs.Answers.{Answers, EndsAt}

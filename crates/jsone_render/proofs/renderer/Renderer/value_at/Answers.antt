@@ -1,5 +1,5 @@
 use Rattle.std.proofs.Common.{Option, sym, subst}
-use Rattle.farm_text.specs.Document.{Document, text}
+use Rattle.farm_text.specs.Document.{Document}
 use Rattle.farm_text.specs.Doc.{document}
 use Rattle.jsone_eval.specs.Scopes.{scopes_of}
 use Rattle.jsone_render.specs.declared.faults.RenderFault.{RenderFault}
