@@ -18,6 +18,9 @@ mod loading;
 mod memory_house;
 #[cfg(test)]
 mod note_tests;
+mod rendering;
+#[cfg(test)]
+mod rendering_tests;
 mod run;
 mod signing;
 mod status;
