@@ -16,7 +16,7 @@ use Rattle.farm_cli.specs.Checking.{Checks, CheckedOver}
 use Rattle.farm_cli.specs.Disks.{IsMissing, WasUnopened}
 use Rattle.farm_cli.specs.Expanding.{Expands}
 use Rattle.farm_cli.specs.FarmFile.{SetsUp, FileRefused}
-use Rattle.farm_cli.specs.House.{WasLent, CanOpenAmong, WasOpened, Lendings}
+use Rattle.farm_cli.specs.House.{CanOpenAmong, WasOpened, Lendings}
 use Rattle.farm_cli.specs.Loading.{Loads}
 use Rattle.farm_cli.specs.Rendering.{Renders}
 use Rattle.farm_cli.specs.Serving.{Conversed, ConversedOver}

@@ -1,5 +1,4 @@
 use Rattle.std.proofs.Common.{ℕ, ◌∙◌, refl, subst, inl}
-use Rattle.farm_cli.specs.House.{Lendings}
 use Rattle.farm_cli.specs.Run.{Obeyed}
 use Rattle.farm_cli.specs.Views.{views_of}
 use Rattle.farm_cli.proofs.RunLemmas.{Obeyed-same}
