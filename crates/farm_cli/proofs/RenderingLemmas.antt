@@ -1,12 +1,16 @@
 -- An input has one rendering, or it is refused; and which object it has to be.
-use Rattle.std.proofs.Common.{◌≡◌, ◌≢◌, ℕ, ◌++◌, List, [], ◌∷◌, inl, inr, ◌∙◌, ap, sym, subst, arith, codes, Some}
+use Rattle.std.proofs.Common.{◌≡◌, ◌≢◌, ◌-◌, ℕ, Bool, true, false, ◌++◌, List, [], ◌∷◌, inl, inr, ◌∙◌, ap, ap₂, refl, sym, subst, arith, codes, length, slice_get, Some, String, Global, string_bytes}
+use Rattle.std.specs.Prelude.{◌&&◌}
+use Rattle.std.specs.Str.{bytes_eq}
 use Rattle.serde_json.specs.Data.{Data}
-use Rattle.farm_text.specs.Document.{Document, Members, object, data_of, document_text}
+use Rattle.farm_text.specs.Document.{Document, Members, members_of, object, data_of, document_text}
+use Rattle.farm_text.specs.Doc.{document, entries_of}
+use Rattle.farm_text.specs.declared.doc.Doc.{Doc}
 use Rattle.farm_text.specs.Reading.{IsJson, unwhole}
 use Rattle.jsone_values.specs.declared.faults.Fault.{Fault}
 use Rattle.jsone_render.specs.Outcomes.{Outcome, given, faulted, too_much}
 use Rattle.jsone_render.specs.Templates.{IsRendered}
-use Rattle.farm_cli.specs.Rendering.{request_of, Says, ComesTo, IsRendering, HasUnwhole, IsUnrendered}
+use Rattle.farm_cli.specs.Rendering.{request_members, request_of, Says, ComesTo, IsRendering, HasUnwhole, IsUnrendered}
 
 -- what the laws of the crates below say
 abbrev pub OneOutcome : Type 0
@@ -67,3 +71,41 @@ rendering_not_refused outcomes documents input text is (inr (inr (inr (inr (inl 
     no_fault is.value is.cost fault.0 fault.1 (comes_to_one outcomes documents input (given is.value is.cost) (faulted fault.0 fault.1) is.comes fault.2)
 rendering_not_refused outcomes documents input text is (inr (inr (inr (inr (inr much))))) =
     not_much is.value is.cost (comes_to_one outcomes documents input (given is.value is.cost) too_much is.comes much)
+
+-- ---- which maps have exactly the two members
+
+abbrev Entry : Type 0
+Entry = String Global × Doc
+
+abbrev members_in : List Entry → Members
+members_in es = members_of (entries_of es)
+
+-- a map of them has two entries
+pub are_two : (es : List Entry) (context template : Document) → members_in es ≡ request_members context template → length es ≡ 2
+are_two [] context template is = cc
+are_two (a ∷ []) context template is = cc
+are_two (a ∷ b ∷ []) context template is = refl
+are_two (a ∷ b ∷ c ∷ more) context template is = cc
+
+-- two entries at these keys are these members
+pub both_there : (es : List Entry) (first last : String Global) (context template : Doc) → length es ≡ 2 → slice_get es 0 ≡ Some (first, context) → slice_get es 1 ≡ Some (last, template)
+    → string_bytes first ≡ codes "context" → string_bytes last ≡ codes "template" → members_in es ≡ request_members (document context) (document template)
+both_there [] first last context template two at_first at_last is_first is_last = cc
+both_there (a ∷ []) first last context template two at_first at_last is_first is_last = cc
+both_there (a ∷ b ∷ []) first last context template two at_first at_last is_first is_last =
+    let x : a ≡ (first, context) = cc in
+    let y : b ≡ (last, template) = cc in
+    rw (x, y, is_first, is_last) refl
+both_there (a ∷ b ∷ c ∷ more) first last context template two at_first at_last is_first is_last = absurd (omega (arith, two))
+
+-- and members of these keys are of entries at them
+pub are_keys : (es : List Entry) (first last : String Global) (context template : Doc) (c t : Document) → slice_get es 0 ≡ Some (first, context) → slice_get es 1 ≡ Some (last, template)
+    → members_in es ≡ request_members c t → (string_bytes first ≡ codes "context") × (string_bytes last ≡ codes "template")
+are_keys [] first last context template c t at_first at_last is = cc
+are_keys (a ∷ []) first last context template c t at_first at_last is = cc
+are_keys (a ∷ b ∷ more) first last context template c t at_first at_last is =
+    let x : a ≡ (first, context) = cc in
+    let y : b ≡ (last, template) = cc in
+    let k : string_bytes a.0 ≡ codes "context" = cc in
+    let l : string_bytes b.0 ≡ codes "template" = cc in
+    (ap (λ (e : Entry). string_bytes e.0) (sym x) ∙ k, ap (λ (e : Entry). string_bytes e.0) (sym y) ∙ l)

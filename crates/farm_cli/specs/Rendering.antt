@@ -15,9 +15,12 @@ use Rattle.farm_cli.specs.declared.status.Status.{Status}
 use Rattle.farm_cli.specs.declared.status.Status.TheVariants.{Input, NoMemory}
 use Rattle.farm_cli.specs.Inputs.{longest_input, Turns}
 
--- the object of exactly these two members
+-- exactly these two members, and the object of them where the first is a map
+abbrev pub request_members : Document → Document → Members
+request_members context template = member (codes "context") context (member (codes "template") template no_members)
+
 abbrev pub request_of : Members → Document → Document
-request_of context template = object (member (codes "context") (object context) (member (codes "template") template no_members))
+request_of context template = object (request_members (object context) template)
 
 -- the input is not too long, and is JSON (RFC 8259) of this document, each number of which is a whole one of 64 bits with a sign
 pub record Says (input : List ℕ) (document : Document) : Type 0 where

@@ -1,10 +1,10 @@
 //! The template of an input, rendered with its context.
 ghost use Rattle.std.specs.Prelude.{◌≡◌, ◌≢◌, ◌≤◌, ◌++◌, length, IfOk, MatchOption, MatchResult, codes, string_bytes};
 ghost use Rattle.http_wire.specs.Calls.{state_of};
-ghost use Rattle.farm_text.specs.Doc.{document};
-ghost use Rattle.farm_text.specs.Document.{Document, Members, object, document_text};
+ghost use Rattle.farm_text.specs.Doc.{document, entries_of};
+ghost use Rattle.farm_text.specs.Document.{Document, Members, members_of, object, document_text};
 ghost use Rattle.farm_cli.specs.Inputs.{longest_input};
-ghost use Rattle.farm_cli.specs.Rendering.{request_of, unread_status, unrendered_status, IsRendering, RenderingRefused, Renders};
+ghost use Rattle.farm_cli.specs.Rendering.{request_members, request_of, unread_status, unrendered_status, IsRendering, RenderingRefused, Renders};
 
 use crate::ended::Ended;
 use crate::inputs::LONGEST_INPUT;
@@ -15,6 +15,7 @@ use http_wire::{Link, ReadAllFault, read_all};
 use jsone_render::{RenderFault, TemplateFault};
 use jsone_values::faults::Fault;
 use std::alloc::{AllocError, Global};
+use std::collections::BTreeMap;
 
 /// Reads the object of a context and a template from the console, and writes the template's value as compact JSON, and a line feed.
 pub(crate) fn render<L: Link>(alloc: Global, console: &mut L) -> Ended
@@ -68,15 +69,30 @@ fn parts_of(request: &Doc) -> Option<(&Doc, &Doc)>
     let Doc::Map(members) = request else {
         return None;
     };
+    let Some((context, template)) = both_in(members) else {
+        return None;
+    };
+    match context {
+        Doc::Map(_) => Some((context, template)),
+        _ => None,
+    }
+}
+
+/// The context and the template of a map that has exactly these two members.
+fn both_in(members: &BTreeMap<String, Doc>) -> Option<(&Doc, &Doc)>
+    ensures { MatchOption result
+        ((context template : Document) → members_of (entries_of members.now.entries) ≢ request_members context template)
+        (λ both. members_of (entries_of members.now.entries) ≡ request_members (document both.0.now) (document both.1.now)) }
+{
     if members.len() != 2 {
         return None;
     }
-    match (members.first_key_value(), members.last_key_value()) {
-        (Some((first, context)), Some((last, template)))
-            if first.as_str() == "context"
-                && last.as_str() == "template"
-                && matches!(context, Doc::Map(_)) => { Some((context, template)) }
-        _ => None,
+    let (first, context) = members.first_key_value()?;
+    let (last, template) = members.last_key_value()?;
+    if first.as_str() == "context" && last.as_str() == "template" {
+        Some((context, template))
+    } else {
+        None
     }
 }
 
