@@ -1,5 +1,5 @@
 -- An input has one rendering, or it is refused; and which object it has to be.
-use Rattle.std.proofs.Common.{◌≡◌, ◌≢◌, ◌-◌, ℕ, Bool, true, false, ◌++◌, List, [], ◌∷◌, inl, inr, ◌∙◌, ap, ap₂, refl, sym, subst, arith, codes, length, slice_get, Some, String, Global, string_bytes}
+use Rattle.std.proofs.Common.{◌≡◌, ◌≢◌, ◌-◌, ℕ, Bool, true, false, ◌++◌, List, [], ◌∷◌, inl, inr, ◌∙◌, ap, ap₂, refl, sym, subst, arith, codes, length, slice_get, Some, Err, String, Global, string_bytes}
 use Rattle.std.specs.Prelude.{◌&&◌}
 use Rattle.std.specs.Str.{bytes_eq}
 use Rattle.serde_json.specs.Data.{Data}
@@ -9,8 +9,11 @@ use Rattle.farm_text.specs.declared.doc.Doc.{Doc}
 use Rattle.farm_text.specs.Reading.{IsJson, unwhole}
 use Rattle.jsone_values.specs.declared.faults.Fault.{Fault}
 use Rattle.jsone_render.specs.Outcomes.{Outcome, given, faulted, too_much}
+use Rattle.jsone_render.specs.Answers.{IsAnswer}
 use Rattle.jsone_render.specs.Templates.{IsRendered}
-use Rattle.farm_cli.specs.Rendering.{request_members, request_of, Says, ComesTo, IsRendering, HasUnwhole, IsUnrendered}
+use Rattle.jsone_render.specs.declared.faults.RenderFault.{RenderFault}
+use Rattle.jsone_render.specs.declared.faults.RenderFault.TheVariants as unrendered
+use Rattle.farm_cli.specs.Rendering.{request_members, request_of, Says, ComesTo, IsRendering, HasUnwhole, IsUnrendered, RenderingRefused, unrendered_status}
 
 -- what the laws of the crates below say
 abbrev pub OneOutcome : Type 0
@@ -71,6 +74,14 @@ rendering_not_refused outcomes documents input text is (inr (inr (inr (inr (inl 
     no_fault is.value is.cost fault.0 fault.1 (comes_to_one outcomes documents input (given is.value is.cost) (faulted fault.0 fault.1) is.comes fault.2)
 rendering_not_refused outcomes documents input text is (inr (inr (inr (inr (inr much))))) =
     not_much is.value is.cost (comes_to_one outcomes documents input (given is.value is.cost) too_much is.comes much)
+
+-- a template without a value refuses its input
+pub refused_by : (input : List ℕ) (context : Members) (template : Document) (fault : RenderFault) → Says input (request_of context template) → IsAnswer (IsRendered template (object context)) (Err fault)
+    → RenderingRefused input (unrendered_status fault)
+refused_by input context template (unrendered.Fault f) says is =
+    inr (inr (inr (inr (inl (f.rule, f.path, record { context = context; template = template; says = says; renders = is })))))
+refused_by input context template unrendered.TooMuchWork says is = inr (inr (inr (inr (inr (record { context = context; template = template; says = says; renders = is })))))
+refused_by input context template unrendered.NoMemory says is = tt
 
 -- ---- which maps have exactly the two members
 

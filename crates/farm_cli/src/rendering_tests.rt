@@ -102,7 +102,7 @@ fn inputs_of_another_form_are_refused(rt: HostRuntime) -> Result<(), Fail> {
 /// What is told of each rule, at a place of a template.
 #[test]
 fn faults_are_told_with_their_place(rt: HostRuntime) -> Result<(), Fail> {
-    let rows: [(&str, &str); 12] = [
+    let rows: [(&str, &str); 13] = [
         (
             "{\"$eval\":\"1+\"}",
             "fault 1 of the template at \"\": it is no expression",
@@ -138,6 +138,10 @@ fn faults_are_told_with_their_place(rt: HostRuntime) -> Result<(), Fail> {
         (
             "{\"${'a'}\":1,\"a\":2}",
             "fault 9 of the template at \"\": two keys of a map are equal",
+        ),
+        (
+            "{\"$eval\":\"((((((((((((((((((((((((((((((((((((((((((((((((((((((((((((((((1))))))))))))))))))))))))))))))))))))))))))))))))))))))))))))))))\"}",
+            "fault 10 of the template at \"\": an expression is more than 64 deep",
         ),
         (
             "{\"$fromNow\":\"1 fortnight\",\"from\":\"2017-01-19T16:27:20.974Z\"}",
