@@ -296,7 +296,10 @@ fn other_words_of_render_get_a_text(rt: HostRuntime) -> Result<(), Fail> {
         assert!(rt; usage(rt.alloc(), words)?.is_some());
     }
     let help = usage(rt.alloc(), ["render", "--help"].as_slice())?.ok_or("a text")?;
-    assert!(rt; help.as_str().contains("Renders the template of an input with its context."));
+    assert!(rt;
+        help.as_str()
+            .contains("Renders the template of an input with its context.")
+    );
     Ok(())
 }
 
