@@ -34,7 +34,7 @@ use Rattle.farm_cli.specs.Reasons.{DiskMet, FileLent, FileTaken, KeepsDisk, Sign
 use Rattle.farm_cli.specs.Run.{DidOver, Obeyed, RanOverFile, RanCommand, Ran}
 use Rattle.farm_cli.specs.Serving.{status_of, status_over, Conversed, ConversedOver}
 use Rattle.farm_cli.specs.Loading.{Loads}
-use Rattle.farm_cli.specs.Rendering.{IsRendering, IsUnrendered, Renders}
+use Rattle.farm_cli.specs.Rendering.{IsRendering, Renders}
 use Rattle.farm_cli.specs.Signing.{IsSigned, Signs, SignsAs}
 use Rattle.farm_cli.specs.Views.{Views, outside_of, talk_of}
 

@@ -1,7 +1,5 @@
 -- An input has one rendering, or it is refused; and which object it has to be.
-use Rattle.std.proofs.Common.{◌≡◌, ◌≢◌, ◌-◌, ℕ, Bool, true, false, ◌++◌, List, [], ◌∷◌, inl, inr, ◌∙◌, ap, ap₂, refl, sym, subst, arith, codes, length, slice_get, Some, Err, String, Global, string_bytes}
-use Rattle.std.specs.Prelude.{◌&&◌}
-use Rattle.std.specs.Str.{bytes_eq}
+use Rattle.std.proofs.Common.{◌≡◌, ℕ, ◌++◌, List, [], ◌∷◌, inl, inr, ◌∙◌, ap, refl, sym, subst, arith, codes, length, slice_get, Some, Err, String, Global, string_bytes}
 use Rattle.serde_json.specs.Data.{Data}
 use Rattle.farm_text.specs.Document.{Document, Members, members_of, object, data_of, document_text}
 use Rattle.farm_text.specs.Doc.{document, entries_of}
