@@ -5,6 +5,7 @@ ghost use Rattle.disk_base.specs.Contents.{StopsLeave};
 ghost use Rattle.disk_journal.specs.Images.{IsImage, IsWithin};
 ghost use Rattle.disk_journal.specs.declared.fault.OpenFault.TheVariants.{Disk, Damaged};
 ghost use Rattle.farm_rows.specs.Contents.{Contents};
+ghost use Rattle.farm_rows.specs.Summary.{summary_of};
 ghost use Rattle.farm_core.specs.Farm.{state_of, AsksDisk, TellsFaults, HoldsHistory};
 ghost use Rattle.farm_core.specs.Opened.{HasOpened, IsFarmDamaged, disk_left};
 
@@ -20,6 +21,7 @@ use farm_machine::question::Question;
 use farm_machine::reply::{Asked, Reply};
 use farm_machine::step::moment_of;
 use farm_machine::tables::Tables;
+use farm_rows::Summary;
 use std::alloc::Global;
 
 /// How much a farm keeps.
@@ -98,6 +100,13 @@ impl<D: Disk> Farm<D> {
             records: self.records.count(),
             tasks: self.tables.len(),
         }
+    }
+
+    /// How its tasks stand, counted.
+    pub fn summary(&self) -> Summary
+        ensures { result ≡ summary_of self.now.tables.rows }
+    {
+        self.tables.summary()
     }
 
     /// Whether a call of its disk failed since it was opened: then it answers no more.

@@ -5,6 +5,7 @@ ghost use Rattle.farm_text.specs.declared.moment.TheConstants.{LAST_TOLD_MOMENT}
 ghost use Rattle.farm_rows.specs.Due.{is_due};
 ghost use Rattle.farm_machine.specs.Changes.{moment_of as moment_by, changed};
 ghost use Rattle.farm_machine.specs.Deeds.{IsReady};
+ghost use Rattle.farm_machine.specs.Order.{asks};
 ghost use Rattle.farm_machine.specs.Planned.{IsPlanOf, IsPlanOn};
 ghost use Rattle.farm_machine.specs.Refused.{setting_at, IsJudged};
 ghost use Rattle.farm_machine.specs.Replies.{bad_body};
@@ -25,6 +26,7 @@ use crate::calls::rerun_task::RerunTask;
 use crate::calls::schedule_task::ScheduleTask;
 use crate::calls::status::Status;
 use crate::calls::task::Task;
+use crate::case::Called;
 use crate::config::Config;
 use crate::judged::Judged;
 use crate::order::judge;
@@ -57,133 +59,88 @@ pub fn plan(
     let moment = moment_of(tables, &question);
     let drawn = question.drawn();
     let (caller, call) = question.into_parts();
-    let judged = judgement_of(alloc, &caller, call, config, tables, moment, drawn)?;
+    let hearing = Hearing {
+        caller: &caller,
+        config,
+        moment,
+        drawn,
+    };
+    let judged = hearing.judgement(alloc, call, tables)?;
     Ok(Plan { moment, judged })
 }
 
-/// The judgement of what is called: the dispatch to the calls.
-fn judgement_of(
-    alloc: Global,
-    caller: &Caller,
-    call: Call,
-    config: &Config,
-    tables: &mut Tables,
+/// Who asks what is judged, over which configuration, when, and with which id drawn for it.
+#[derive(Drop)]
+struct Hearing<'a> {
+    caller: &'a Caller,
+    config: &'a Config,
     moment: Moment,
     drawn: SlugId,
-) -> Result<Judged, AllocError>
-    requires { IsReady (setting_at config.now tables.old moment drawn) }
-    ensures judged { IfOk result (IsJudged (setting_at config.now tables.old moment drawn) caller.now (form_of call)) }
-    ensures written { IfOk result (λ judged. AreWritten judged.change (option_map (λ r. r.items) judged.written)) }
-    ensures same { tables.new ≡ tables.old }
-{
-    match call {
-        Call::NoRoute(name) => {
-            let answer = answers::not_found(alloc, "route", name.as_str())?;
-            Ok(Judged::only(answer))
+}
+
+impl<'a> Hearing<'a> {
+    /// The judgement of what is called: the dispatch to the calls.
+    fn judgement(
+        &self,
+        alloc: Global,
+        call: Call,
+        tables: &mut Tables,
+    ) -> Result<Judged, AllocError>
+        requires { IsReady (setting_at self.now.config.now tables.old self.now.moment self.now.drawn) }
+        ensures judged { IfOk result (IsJudged (setting_at self.now.config.now tables.old self.now.moment self.now.drawn) self.now.caller.now (form_of call)) }
+        ensures written { IfOk result (λ judged. AreWritten judged.change (option_map (λ r. r.items) judged.written)) }
+        ensures same { tables.new ≡ tables.old }
+    {
+        match call {
+            Call::NoRoute(name) => {
+                let answer = answers::not_found(alloc, "route", name.as_str())?;
+                Ok(Judged::only(answer))
+            }
+            Call::BadParameter(parameter) => {
+                Ok(Judged::only(answers::bad_parameter(alloc, parameter.name())?))
+            }
+            Call::BadBody(fault) => refused_body(alloc, fault),
+            Call::Ping => self.judge(alloc, Ping {}, tables),
+            Call::Task(id) => self.judge(alloc, Task { id }, tables),
+            Call::Status(id) => self.judge(alloc, Status { id }, tables),
+            Call::ListTaskGroup(group, page) => {
+                self.judge(alloc, ListTaskGroup { group, page }, tables)
+            }
+            Call::ListDependentTasks(id, page) => {
+                self.judge(alloc, ListDependentTasks { id, page }, tables)
+            }
+            Call::PendingTasks(queue) => self.judge(alloc, PendingTasks { queue }, tables),
+            Call::CreateTask(creation) => self.judge(alloc, CreateTask { creation }, tables),
+            Call::ClaimWork(work) => self.judge(alloc, ClaimWork { work }, tables),
+            Call::ReclaimTask(name) => self.judge(alloc, ReclaimTask { name }, tables),
+            Call::ReportRun(report) => self.judge(alloc, ReportRun { report }, tables),
+            Call::ScheduleTask(id) => self.judge(alloc, ScheduleTask { id }, tables),
+            Call::RerunTask(id) => self.judge(alloc, RerunTask { id }, tables),
+            Call::CancelTask(id) => self.judge(alloc, CancelTask { id }, tables),
         }
-        Call::BadParameter(parameter) => {
-            Ok(Judged::only(answers::bad_parameter(alloc, parameter.name())?))
-        }
-        Call::BadBody(fault) => refused_body(alloc, fault),
-        Call::Ping => judge(alloc, caller, Ping {}, config, tables, moment, drawn),
-        Call::Task(id) => judge(alloc, caller, Task { id }, config, tables, moment, drawn),
-        Call::Status(id) => judge(alloc, caller, Status { id }, config, tables, moment, drawn),
-        Call::ListTaskGroup(group, page) => judge(
+    }
+
+    /// Judges a call that has a place in the one order. The tables stay as they were.
+    fn judge<C: Called + Drop>(
+        &self,
+        alloc: Global,
+        call: C,
+        tables: &mut Tables,
+    ) -> Result<Judged, AllocError>
+        requires { IsReady (setting_at self.now.config.now tables.old self.now.moment self.now.drawn) }
+        ensures judged { IfOk result (IsJudged (setting_at self.now.config.now tables.old self.now.moment self.now.drawn) self.now.caller.now (asks (C.case call))) }
+        ensures written { IfOk result (λ judged. AreWritten judged.change (option_map (λ r. r.items) judged.written)) }
+        ensures same { tables.new ≡ tables.old }
+    {
+        judge(
             alloc,
-            caller,
-            ListTaskGroup { group, page },
-            config,
+            self.caller,
+            call,
+            self.config,
             tables,
-            moment,
-            drawn,
-        ),
-        Call::ListDependentTasks(id, page) => judge(
-            alloc,
-            caller,
-            ListDependentTasks { id, page },
-            config,
-            tables,
-            moment,
-            drawn,
-        ),
-        Call::PendingTasks(queue) => judge(
-            alloc,
-            caller,
-            PendingTasks { queue },
-            config,
-            tables,
-            moment,
-            drawn,
-        ),
-        Call::CreateTask(creation) => {
-            judge(
-                alloc,
-                caller,
-                CreateTask { creation },
-                config,
-                tables,
-                moment,
-                drawn,
-            )
-        }
-        Call::ClaimWork(work) => judge(
-            alloc,
-            caller,
-            ClaimWork { work },
-            config,
-            tables,
-            moment,
-            drawn,
-        ),
-        Call::ReclaimTask(name) => {
-            judge(
-                alloc,
-                caller,
-                ReclaimTask { name },
-                config,
-                tables,
-                moment,
-                drawn,
-            )
-        }
-        Call::ReportRun(report) => {
-            judge(
-                alloc,
-                caller,
-                ReportRun { report },
-                config,
-                tables,
-                moment,
-                drawn,
-            )
-        }
-        Call::ScheduleTask(id) => judge(
-            alloc,
-            caller,
-            ScheduleTask { id },
-            config,
-            tables,
-            moment,
-            drawn,
-        ),
-        Call::RerunTask(id) => judge(
-            alloc,
-            caller,
-            RerunTask { id },
-            config,
-            tables,
-            moment,
-            drawn,
-        ),
-        Call::CancelTask(id) => judge(
-            alloc,
-            caller,
-            CancelTask { id },
-            config,
-            tables,
-            moment,
-            drawn,
-        ),
+            self.moment,
+            self.drawn,
+        )
     }
 }
 

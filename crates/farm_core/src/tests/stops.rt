@@ -192,6 +192,8 @@ fn a_lost_run_is_told_from_any_image(rt: HostRuntime) -> Result<(), Fail> {
     };
     let mut farm = farm;
     assert_eq!(rt; lose(alloc, &mut farm)?, [200, 200, 200, 409]);
+    let summary = farm.summary();
+    assert_eq!(rt; [summary.tasks, summary.completed, summary.runs], [1, 0, 2]);
     let disk = farm.into_disk();
     let images = disk.images(alloc, &[0, 0xa5])?;
     assert!(rt; !images.is_empty());
