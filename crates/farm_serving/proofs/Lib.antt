@@ -1,0 +1,3 @@
+pub mod ConnectionLemmas
+pub mod TallyLemmas
+pub mod ServingLemmas
