@@ -1,9 +1,10 @@
 -- How what a worker did goes together, connection by connection.
 use Rattle.std.proofs.Common.{◌≡◌, Err, Ok, Result, ℕ, ◌+◌, ◌-◌, ◌^◌, ◌<◌, ◌≤◌, ◌⊎◌, inl, inr, List, [], ◌∷◌, ◌++◌, length, length-append, map, Option, refl, sym, ◌∙◌, ap, subst, append-nil, arith}
-use Rattle.std.specs.List.{All}
+use Rattle.std.specs.List.{All, sum_by}
 use Rattle.std.proofs.lemmas.List.{map-append}
 use Rattle.std.proofs.lemmas.List.Concat.{flat_map-append}
 use Rattle.std.proofs.lemmas.List.Elements.{All-nil, All-cons}
+use Rattle.std.proofs.lemmas.List.Sums.{sum_by-cons}
 use Rattle.causes.specs.Causes.{Rose}
 use Rattle.causes.specs.Logs.{LogGrows}
 use Rattle.causes.proofs.LogsLemmas.{LogGrows-none, LogGrows-then}
@@ -12,7 +13,9 @@ use Rattle.history.proofs.AsksLemmas.{AsksInTurn-none, AsksInTurn-then}
 use Rattle.http_wire.specs.Calls.{LinkState}
 use Rattle.farm_machine.specs.Law.{opened}
 use Rattle.farm_machine.specs.Step.{farm_rules}
-use Rattle.farm_server.specs.Served.{Standing, questions_of}
+use Rattle.farm_server.specs.Served.{Standing, questions_of, IsCount}
+use Rattle.farm_server.specs.declared.served.Served.{Served}
+use Rattle.farm_server.specs.declared.served.Served.TheVariants.{Closed, EndedInside, WireFault, ReadFault, WriteFault, Full, NoMemory}
 use Rattle.farm_serving.specs.Connections.{Connection, Company, InTurn, Station, Part, HasCounted, Worked, ServesLink, questions_in, replies_in}
 use Rattle.farm_serving.specs.Numbers.{of_nothing, of_refusal, of_connection, FitTogether, both}
 use Rattle.farm_serving.specs.Serving.{Works}
@@ -139,3 +142,27 @@ Works-fit m n old middle new before between after first second few spare front b
     let most = AreAtMost-accepts m first (part_of before between front.failed front.connections ∷ []) (one m _ front.worked) front.tally in
     let more = AreAtMost-accepts n second (part_of between after back.failed back.connections ∷ []) (one n _ back.worked) back.tally in
     FitTogether-most first second (1 * m) (1 * n) (omega (arith, few)) (omega (arith, spare, front.spent, back.spent)) most more
+
+-- a connection's messages that were asked are at most those that there is room for
+IsCount-le : (room count : ℕ) (served : Served) → IsCount room count served → count ≤ room
+IsCount-le room count Closed counted = omega (arith, counted)
+IsCount-le room count EndedInside counted = omega (arith, counted)
+IsCount-le room count (WireFault reason) counted = omega (arith, counted)
+IsCount-le room count ReadFault counted = omega (arith, counted)
+IsCount-le room count WriteFault counted = omega (arith, counted)
+IsCount-le room count Full counted = omega (arith, counted)
+IsCount-le room count NoMemory counted = omega (arith, counted)
+
+asks_within : (before after : Company) (cs : List Connection) → InTurn before after cs → sum_by (λ c. length c.asks) cs ≤ length cs * 1000
+asks_within before after [] turns = omega arith
+asks_within before after (c ∷ cs) turns =
+    let here = IsCount-le 1000 (length c.asks) c.served turns.1.count in
+    let rest = asks_within turns.0 after cs turns.2 in
+    let sum = sum_by-cons (λ (c : Connection). length c.asks) c cs in
+    omega (arith, here, rest, sum)
+
+-- where so many accepts were made and one more is to be, there are asks left for it
+pub Works-room : (made accepts : ℕ) (old new : Standing) (before after : Station) (ended : Ended) → made < accepts → accepts * 1000 ≤ old.spare → Works made old new before after ended → 1000 ≤ new.spare
+Works-room made accepts old new before after ended more room works =
+    let asks = asks_within before.company after.company works.connections works.worked.turns in
+    omega (arith, more, room, asks, works.tally.served, works.spent, works.worked.tried)

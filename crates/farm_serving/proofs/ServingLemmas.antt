@@ -235,3 +235,38 @@ Serves-none accepts at ended none legal = (
     are = refl;
   },
 )
+
+-- so many times as two numbers together is as often as each
+times_both : (a b k : ℕ) → (a + b) * k ≡ a * k + b * k
+times_both zero b k = omega arith
+times_both (suc a) b k = let rest = times_both a b k in omega (arith, rest)
+
+-- what there is for two rows of workers is enough for the second, and the rest for the first
+pub room_for_both : (a b k n : ℕ) → (a + b) * k ≤ n → (b * k ≤ n) × (a * k ≤ n - b * k)
+room_for_both a b k n room = let sum = times_both a b k in (omega (arith, room, sum), omega (arith, room, sum))
+
+-- what is enough for some workers is enough for one
+pub room_for_one : (a k n : ℕ) → 0 < a → a * k ≤ n → k ≤ n
+room_for_one zero k n some room = absurd (omega (arith, some))
+room_for_one (suc a) k n some room = omega (arith, room)
+
+-- what is enough for the messages of connections is above their number
+pub fewer_connections : (a c : ℕ) → a * c ≤ a * (c * 1000)
+fewer_connections zero c = omega arith
+fewer_connections (suc a) c = let rest = fewer_connections a c in omega (arith, rest)
+
+-- the desk of both passes
+pub ServesLegal-desk : (accepts asks : ℕ) (old cut rest low high : Standing State Entry) (lows_before lows_after highs_before highs_after : List Station) (first second : Ended) → cut ≡ gave old asks → rest ≡ given old asks → ServesLegal accepts cut low lows_before lows_after first → ServesLegal accepts rest high highs_before highs_after second → high.desk ≡ low.desk
+ServesLegal-desk accepts asks old cut rest low high lows_before lows_after highs_before highs_after first second is also front back =
+    ap (λ h. h.desk) back.1.home ∙ (ap (λ (s : Standing State Entry). s.desk) also ∙ (sym (ap (λ (s : Standing State Entry). s.desk) is) ∙ sym (ap (λ h. h.desk) front.1.home)))
+
+-- what two rows of workers did, each over a pass of its own, both did
+pub ServesLegal-joined : (accepts asks : ℕ) (old cut rest low high new : Standing State Entry) (lows_before lows_after highs_before highs_after : List Station) (first second : Ended) → cut ≡ gave old asks → rest ≡ given old asks → asks ≤ old.left → AreJoined low high new → ((opening : State) → low.opening ≡ Some opening → IsLegal farm_rules opening new.seen) → ServesLegal accepts cut low lows_before lows_after first → ServesLegal accepts rest high highs_before highs_after second → ServesLegal accepts old new (lows_before ++ highs_before) (lows_after ++ highs_after) (both first second)
+ServesLegal-joined accepts asks old cut rest low high new lows_before lows_after highs_before highs_after first second is also few joined stays front back =
+    ServesLegal-both accepts old low high new asks lows_before lows_after highs_before highs_after first second few joined stays (subst (λ (s : Standing State Entry). ServesLegal accepts s low lows_before lows_after first) is front) (subst (λ (s : Standing State Entry). ServesLegal accepts s high highs_before highs_after second) also back)
+
+-- their numbers fit
+pub ServesLegal-joined_fit : (accepts asks : ℕ) (old cut rest low high : Standing State Entry) (lows_before lows_after highs_before highs_after : List Station) (first second : Ended) → cut ≡ gave old asks → rest ≡ given old asks → (length lows_before + length highs_before) * (accepts * 1000) ≤ old.left → old.left < 2 ^ 64 → asks ≤ old.left → ServesLegal accepts cut low lows_before lows_after first → ServesLegal accepts rest high highs_before highs_after second → FitTogether first second
+ServesLegal-joined_fit accepts asks old cut rest low high lows_before lows_after highs_before highs_after first second is also room small few front back =
+    let fewer = fewer_connections (length lows_before + length highs_before) accepts in
+    ServesLegal-fit accepts asks old low high lows_before lows_after highs_before highs_after first second (omega (arith, fewer, room, small)) small few (subst (λ (s : Standing State Entry). ServesLegal accepts s low lows_before lows_after first) is front) (subst (λ (s : Standing State Entry). ServesLegal accepts s high highs_before highs_after second) also back)

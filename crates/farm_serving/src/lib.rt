@@ -17,3 +17,6 @@ pub use memory::{MemoryListener, Returned};
 pub use serving::serve;
 pub use share::{Serve, Share};
 pub use worker::Worker;
+
+#[cfg(test)]
+mod tests;

@@ -1,6 +1,7 @@
 //! A door in memory, which tells its links.
-ghost use Rattle.std.specs.Prelude.{◌≡◌, [], Some};
-ghost use Rattle.farm_serving.specs.Memory.{links_given, links_taken, links_out, accept_faults};
+ghost use Rattle.std.specs.Prelude.{◌≡◌, ◌+◌, ◌-◌, ◌^◌, ◌<◌, [], ◌∷◌, Some};
+ghost use Rattle.causes.specs.Logs.{LogGrows};
+ghost use Rattle.farm_serving.specs.Memory.{memory_state, links_given, links_taken, links_out, accept_faults};
 
 use crate::door::Listener;
 use causes::{Failed, FaultCount};
@@ -68,7 +69,14 @@ impl MemoryListener {
     }
 
     /// Gives a link, which is kept in mind as it is now.
-    fn give(&mut self, link: MemoryLink) -> MemoryLink {
+    fn give(&mut self, link: MemoryLink) -> MemoryLink
+        requires out { self.old.out < 2 ^ 64 - 1 }
+        ensures same { result ≡ link }
+        ensures given { LogGrows (links_given self.old) (links_given self.new) (memory_state link ∷ []) }
+        ensures taken { LogGrows (links_taken self.old) (links_taken self.new) [] }
+        ensures out { links_out self.new ≡ links_out self.old + 1 }
+        ensures faults { accept_faults self.new ≡ accept_faults self.old }
+    {
         if let Err(_) = self.given.push(Snapshot::of(&link)) {
             self.tells = false;
         }

@@ -1,4 +1,5 @@
 //! One worker.
+#![tactic(none)]
 ghost use Rattle.std.specs.Prelude.{◌≡◌, ◌*◌, ◌<◌, ◌≤◌};
 ghost use Rattle.http_wire.specs.Calls.{state_of};
 ghost use Rattle.farm_server.specs.Served.{outside_of, Serves};
@@ -51,7 +52,7 @@ impl<D: Listener, C: Clock, I: Draws, G: Gate> Worker<D, C, I, G> {
         let table = Table::new(alloc).ok();
         let _most = desk.left();
         let mut ended = Ended::nothing();
-        'accepts: for _ in 0..connections {
+        'accepts: for _made in 0..connections {
             let one = self.serve_next(alloc, table.as_ref(), desk);
             ended = ended.plus(one);
         }
@@ -91,7 +92,7 @@ impl<D: Listener, C: Clock, I: Draws, G: Gate> Worker<D, C, I, G> {
         requires spare { REQUESTS ≤ K.spare desk.old }
         requires out { 0 < D.out self.old.door }
         ensures home { K.home desk.new ≡ K.home desk.old }
-        ensures serves { ServesLink (state_of D.Peer.Link peer.entry)
+        ensures serves { ServesLink (state_of D.Peer.Link peer)
             (record { stands = K.stands desk.old; spare = K.spare desk.old })
             (record { stands = K.stands desk.new; spare = K.spare desk.new })
             (station (C.told self.old.clock) (I.told self.old.draws) (G.told self.old.gate) (D.given self.old.door) (D.taken self.old.door) (D.out self.old.door) (D.faults self.old.door))
@@ -115,6 +116,7 @@ impl<D: Listener, C: Clock, I: Draws, G: Gate> Worker<D, C, I, G> {
 }
 
 /// Serves one link, with the table of routes if there is one.
+#[tactic(auto)]
 fn serve_link<
     L: Link,
     K: Desk<Question = Question, Answer = Asked, Law = Farm>,
