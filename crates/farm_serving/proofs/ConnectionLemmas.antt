@@ -17,6 +17,7 @@ use Rattle.farm_server.specs.Served.{Standing, questions_of, IsCount}
 use Rattle.farm_server.specs.declared.served.Served.{Served}
 use Rattle.farm_server.specs.declared.served.Served.TheVariants.{Closed, EndedInside, WireFault, ReadFault, WriteFault, Full, NoMemory}
 use Rattle.farm_serving.specs.Connections.{Connection, Company, InTurn, Station, Part, HasCounted, Worked, ServesLink, questions_in, replies_in}
+use Rattle.farm_serving.specs.Doors.{IsMore}
 use Rattle.farm_serving.specs.Numbers.{of_nothing, of_refusal, of_connection, FitTogether, both}
 use Rattle.farm_serving.specs.Serving.{Works}
 use Rattle.farm_serving.specs.Tally.{IsTally}
@@ -46,9 +47,24 @@ HasCounted-one : (before after : ℕ) → Rose before after → HasCounted 1 bef
 HasCounted-one before after (inl rose) = (λ none. absurd (omega (arith, none)), inl (omega (arith, rose)))
 HasCounted-one before after (inr last) = (λ none. absurd (omega (arith, none)), inr (omega (arith, last)))
 
+-- one count of accepts and then another
+IsMore-then : (m n a b c : ℕ) → IsMore m a b → IsMore n b c → IsMore (m + n) a c
+IsMore-then m n a b c (inl first) (inl second) = inl (omega (arith, first, second))
+IsMore-then m n a b c (inr first) (inl second) = inr (omega (arith, first.0, second), omega (arith, first.1, second))
+IsMore-then m n a b c (inl first) (inr second) = inr (second.0, omega (arith, first, second.1))
+IsMore-then m n a b c (inr first) (inr second) = inr (second.0, omega (arith, first.1, second.1))
+
 -- the part that these make
 abbrev part_of : Station → Station → ℕ → List Connection → Part
 part_of before after failed connections = record { before = before; after = after; failed = failed; connections = connections }
+
+-- a connection's link as it was given
+abbrev given_link : Connection → LinkState
+given_link c = c.given
+
+-- and as it was taken back
+abbrev taken_link : Connection → LinkState × ℕ
+taken_link c = (c.back, length c.asks)
 
 -- a part, and what follows it
 Worked-then : (m n : ℕ) (before between after : Station) (f g : ℕ) (cs ds : List Connection) → Worked m (part_of before between f cs) → Worked n (part_of between after g ds) → Worked (m + n) (part_of before after (f + g) (cs ++ ds))
@@ -57,9 +73,10 @@ Worked-then m n before between after f g cs ds first second =
     record {
       tried = omega (arith, long, first.tried, second.tried);
       turns = InTurn-then before.company between.company after.company cs ds first.turns second.turns;
-      given = subst (LogGrows before.given after.given) (sym (map-append (λ (c : Connection). c.given) cs ds)) (LogGrows-then before.given between.given after.given _ _ first.given second.given);
-      taken = subst (LogGrows before.taken after.taken) (sym (map-append (λ (c : Connection). (c.back, length c.asks)) cs ds)) (LogGrows-then before.taken between.taken after.taken _ _ first.taken second.taken);
+      given = subst (λ (told : List LinkState). LogGrows before.given after.given told) (sym (map-append given_link cs ds)) (LogGrows-then before.given between.given after.given (map given_link cs) (map given_link ds) first.given second.given);
+      taken = subst (λ (told : List (LinkState × ℕ)). LogGrows before.taken after.taken told) (sym (map-append taken_link cs ds)) (LogGrows-then before.taken between.taken after.taken (map taken_link cs) (map taken_link ds) first.taken second.taken);
       out = second.out ∙ first.out;
+      made = IsMore-then m n before.accepts between.accepts after.accepts first.made second.made;
       faults = HasCounted-then f g before.faults between.faults after.faults first.faults second.faults;
     }
 
@@ -74,6 +91,7 @@ Works-none at before = record {
     given = LogGrows-none before.given;
     taken = LogGrows-none before.taken;
     out = refl;
+    made = inl (omega arith);
     faults = HasCounted-none before.faults before.faults refl;
   };
   tally = record { served = refl; accept_faults = refl; read_faults = refl; write_faults = refl; wire_faults = refl; no_memory = refl };
@@ -82,8 +100,8 @@ Works-none at before = record {
 }
 
 -- an accept was made, and failed
-pub Works-refused : (at : Standing) (before after : Station) → after.company ≡ before.company → LogGrows before.given after.given [] → LogGrows before.taken after.taken [] → after.out ≡ before.out → Rose before.faults after.faults → Works 1 at at before after of_refusal
-Works-refused at before after company given taken out rose = record {
+pub Works-refused : (at : Standing) (before after : Station) → after.company ≡ before.company → LogGrows before.given after.given [] → LogGrows before.taken after.taken [] → after.out ≡ before.out → IsMore 1 before.accepts after.accepts → Rose before.faults after.faults → Works 1 at at before after of_refusal
+Works-refused at before after company given taken out made rose = record {
   failed = 1;
   connections = [];
   worked = record {
@@ -92,6 +110,7 @@ Works-refused at before after company given taken out rose = record {
     given = given;
     taken = taken;
     out = out;
+    made = made;
     faults = HasCounted-one before.faults after.faults rose;
   };
   tally = record { served = refl; accept_faults = refl; read_faults = refl; write_faults = refl; wire_faults = refl; no_memory = refl };
@@ -105,18 +124,19 @@ tally_of ended before after c is =
     subst (λ (e : Ended). IsTally e (part_of before after 0 (c ∷ []) ∷ [])) (sym is) (record { served = omega arith; accept_faults = omega arith; read_faults = omega arith; write_faults = omega arith; wire_faults = omega arith; no_memory = omega arith })
 
 -- an accept was made, and the link that came was served and handed back
-pub Works-one : (given : LinkState) (old new : Standing) (before between after : Station) (ended : Ended) → between.company ≡ before.company → LogGrows before.given between.given (given ∷ []) → LogGrows before.taken between.taken [] → between.out ≡ before.out + 1 → between.faults ≡ before.faults → ServesLink given old new between after ended → Works 1 old new before after ended
-Works-one given old new before between after ended company gave taken out faults serves =
+pub Works-one : (given : LinkState) (old new : Standing) (before between after : Station) (ended : Ended) → between.company ≡ before.company → LogGrows before.given between.given (given ∷ []) → LogGrows before.taken between.taken [] → between.out ≡ before.out + 1 → IsMore 1 before.accepts between.accepts → between.faults ≡ before.faults → ServesLink given old new between after ended → Works 1 old new before after ended
+Works-one given old new before between after ended company gave taken out made faults serves =
     let c : Connection = record { given = given; back = serves.back; asks = serves.asks; replies = serves.replies; served = serves.served } in
     record {
       failed = 0;
       connections = c ∷ [];
       worked = record {
         tried = refl;
-        turns = (after.company, subst (λ (own : Company). InTurn own after.company (c ∷ [])) company (after.company, serves.spoke, refl)).1;
+        turns = subst (λ (own : Company). InTurn own after.company (c ∷ [])) company (after.company, serves.spoke, refl);
         given = LogGrows-then before.given between.given after.given (given ∷ []) [] gave serves.none_given;
         taken = LogGrows-then before.taken between.taken after.taken [] ((serves.back, length serves.asks) ∷ []) taken serves.taken;
         out = omega (arith, out, serves.out);
+        made = subst (IsMore 1 before.accepts) (sym serves.none_made) made;
         faults = HasCounted-none before.faults after.faults (serves.faults ∙ faults);
       };
       tally = tally_of ended before after c serves.counted;
@@ -138,9 +158,10 @@ Works-then m n old middle new before between after first second front back = rec
 -- the numbers of both fit where the accepts do, and the asks that the desk has left
 pub Works-fit : (m n : ℕ) (old middle new : Standing) (before between after : Station) (first second : Ended) → m + n < 2 ^ 64 → old.spare < 2 ^ 64 → Works m old middle before between first → Works n middle new between after second → FitTogether first second
 Works-fit m n old middle new before between after first second few spare front back =
-    let one : (k : ℕ) (part : Part) → Worked k part → All (Worked k) (part ∷ []) = λ k part did. All-cons (Worked k) part [] did (All-nil (Worked k)) in
-    let most = AreAtMost-accepts m first (part_of before between front.failed front.connections ∷ []) (one m _ front.worked) front.tally in
-    let more = AreAtMost-accepts n second (part_of between after back.failed back.connections ∷ []) (one n _ back.worked) back.tally in
+    let p = part_of before between front.failed front.connections in
+    let q = part_of between after back.failed back.connections in
+    let most = AreAtMost-accepts m first (p ∷ []) (All-cons (Worked m) p [] front.worked (All-nil (Worked m))) front.tally in
+    let more = AreAtMost-accepts n second (q ∷ []) (All-cons (Worked n) q [] back.worked (All-nil (Worked n))) back.tally in
     FitTogether-most first second (1 * m) (1 * n) (omega (arith, few)) (omega (arith, spare, front.spent, back.spent)) most more
 
 -- a connection's messages that were asked are at most those that there is room for

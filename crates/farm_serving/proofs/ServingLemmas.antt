@@ -8,6 +8,7 @@ use Rattle.std.proofs.lemmas.List.Elements.{All-nil, All-cons, All-append}
 use Rattle.history.specs.Histories.{IsLegal, asked_at, reply_at}
 use Rattle.history.specs.Asks.{IsRisingWithin}
 use Rattle.history.proofs.HistoriesLemmas.{asked_at-each_stays, reply_at-each_stays}
+use Rattle.farm_desk.specs.Home.{Home}
 use Rattle.shared_desk.specs.Standing.{Standing, gave, given, AreJoined, StandsFor, home_of}
 use Rattle.farm_machine.specs.Entry.{Entry}
 use Rattle.farm_machine.specs.Law.{Opening, opened}
@@ -17,7 +18,7 @@ use Rattle.farm_server.specs.Served.{Ask, questions_of}
 use Rattle.farm_server.specs.Served.{Standing as DeskStanding}
 use Rattle.farm_serving.specs.Connections.{Connection, Company, InTurn, Station, Part, Worked, questions_in, replies_in}
 use Rattle.farm_serving.specs.Numbers.{FitTogether, both}
-use Rattle.farm_serving.specs.Serving.{Works, IsPortion, ArePortions, AreShares, Gains, AreParts, Serves, ServesLegal}
+use Rattle.farm_serving.specs.Serving.{Works, IsPortion, ArePortions, AreShares, HasGained, AreParts, Serves, ServesLegal}
 use Rattle.farm_serving.specs.declared.ended.Ended.{Ended}
 use Rattle.farm_serving.proofs.TallyLemmas.{IsTally-both, AreAtMost-accepts, FitTogether-most}
 
@@ -114,7 +115,7 @@ abbrev pub standing_of : Standing State Entry → DeskStanding
 standing_of at = record { stands = λ opening seen mine. StandsFor farm_rules opened at opening seen mine; spare = at.left }
 
 -- what a desk gained by one part
-gains_one : (accepts : ℕ) (old new : Standing State Entry) (before after : Station) (ended : Ended) (works : Works accepts (standing_of old) (standing_of new) before after ended) (opening : State) → old.opening ≡ Some opening → IsLegal farm_rules opening old.seen → Gains opening old new (record { before = before; after = after; failed = works.failed; connections = works.connections } ∷ [])
+gains_one : (accepts : ℕ) (old new : Standing State Entry) (before after : Station) (ended : Ended) (works : Works accepts (standing_of old) (standing_of new) before after ended) (opening : State) → old.opening ≡ Some opening → IsLegal farm_rules opening old.seen → HasGained opening old new (record { before = before; after = after; failed = works.failed; connections = works.connections } ∷ [])
 gains_one accepts old new before after ended works opening is legal =
     let gains = works.asked (opening_in opening) old.seen old.mine (refl, refl, is, legal) in
     let now = gains.stands_now in
@@ -155,7 +156,7 @@ prefix_trans xs ys zs first second =
     (first.0 ++ second.0, sym (append_assoc xs first.0 second.0) ∙ (ap (λ (es : List Entry). es ++ second.0) first.1 ∙ second.1))
 
 -- what a desk gained by two rows of parts, each over a pass of its own, where the second pass was cut off the first and joined to it
-gains_both : (opening : State) (old low high new : Standing State Entry) (asks : ℕ) (ps qs : List Part) → AreJoined low high new → IsLegal farm_rules opening new.seen → Gains opening (gave old asks) low ps → Gains opening (given old asks) high qs → Gains opening old new (ps ++ qs)
+gains_both : (opening : State) (old low high new : Standing State Entry) (asks : ℕ) (ps qs : List Part) → AreJoined low high new → IsLegal farm_rules opening new.seen → HasGained opening (gave old asks) low ps → HasGained opening (given old asks) high qs → HasGained opening old new (ps ++ qs)
 gains_both opening old low high new asks ps qs joined legal front back = record {
   begins = prefix_trans old.seen low.seen new.seen front.begins joined.seen;
   legal = legal;
@@ -167,15 +168,15 @@ gains_both opening old low high new asks ps qs joined legal front back = record 
 -- the parts of two rows of workers
 parts_both : (accepts : ℕ) (old low high new : Standing State Entry) (asks : ℕ) (lows_before lows_after highs_before highs_after : List Station) (first second : Ended) (ps qs : List Part) → asks ≤ old.left → AreJoined low high new → AreParts accepts (gave old asks) low lows_before lows_after first ps → AreParts accepts (given old asks) high highs_before highs_after second qs → AreParts accepts old new (lows_before ++ highs_before) (lows_after ++ highs_after) (both first second) (ps ++ qs)
 parts_both accepts old low high new asks lows_before lows_after highs_before highs_after first second ps qs few joined front back =
-    let low_asks : low.left + length low.mine ≡ old.left - asks + length old.mine = ap (λ h. h.asks) front.home in
-    let high_asks : high.left + length high.mine ≡ asks + 0 = ap (λ h. h.asks) back.home in
+    let low_asks : low.left + length low.mine ≡ old.left - asks + length old.mine = ap (λ (h : Home State). h.asks) front.home in
+    let high_asks : high.left + length high.mine ≡ asks + 0 = ap (λ (h : Home State). h.asks) back.home in
     let mine : length new.mine ≡ length low.mine + length high.mine = ap length joined.mine ∙ length-append low.mine high.mine in
     record {
-      began = map-append (λ (part : Part). part.before) ps qs ∙ (ap (λ bs. bs ++ map (λ (part : Part). part.before) qs) front.began ∙ ap (λ bs. lows_before ++ bs) back.began);
-      became = map-append (λ (part : Part). part.after) ps qs ∙ (ap (λ bs. bs ++ map (λ (part : Part). part.after) qs) front.became ∙ ap (λ bs. lows_after ++ bs) back.became);
+      began = map-append (λ (part : Part). part.before) ps qs ∙ (ap (λ (bs : List Station). bs ++ map (λ (part : Part). part.before) qs) front.began ∙ ap (λ (bs : List Station). lows_before ++ bs) back.began);
+      became = map-append (λ (part : Part). part.after) ps qs ∙ (ap (λ (bs : List Station). bs ++ map (λ (part : Part). part.after) qs) front.became ∙ ap (λ (bs : List Station). lows_after ++ bs) back.became);
       worked = All-append (Worked accepts) ps qs front.worked back.worked;
       tally = IsTally-both first second ps qs front.tally back.tally;
-      home = home_same new old (joined.desk ∙ ap (λ h. h.desk) front.home) (joined.opening ∙ ap (λ h. h.opening) front.home) (omega (arith, low_asks, high_asks, mine, joined.left, few));
+      home = home_same new old (joined.desk ∙ ap (λ (h : Home State). h.desk) front.home) (joined.opening ∙ ap (λ (h : Home State). h.opening) front.home) (omega (arith, low_asks, high_asks, mine, joined.left, few));
       spent = omega (arith, joined.left, front.spent, back.spent, few);
     }
 
@@ -185,7 +186,7 @@ ServesLegal-both accepts old low high new asks lows_before lows_after highs_befo
   front.0 ++ back.0,
   parts_both accepts old low high new asks lows_before lows_after highs_before highs_after first second front.0 back.0 few joined front.1 back.1,
   λ opening is legal.
-      let began : low.opening ≡ Some opening = ap (λ h. h.opening) front.1.home ∙ is in
+      let began : low.opening ≡ Some opening = ap (λ (h : Home State). h.opening) front.1.home ∙ is in
       gains_both opening old low high new asks front.0 back.0 joined (stays opening began) (front.2 opening is legal) (back.2 opening is legal),
 )
 
@@ -194,14 +195,20 @@ parts_count : (accepts : ℕ) (old new : Standing State Entry) (befores afters :
 parts_count accepts old new befores afters ended parts are =
     sym (length-map parts (λ (part : Part). part.before)) ∙ ap length are.began
 
+-- so many times as two numbers together is as often as each
+times_both : (a b k : ℕ) → (a + b) * k ≡ a * k + b * k
+times_both zero b k = omega arith
+times_both (suc a) b k = let rest = times_both a b k in omega (arith, rest)
+
 -- the numbers of two rows of workers fit, where the desk had this many asks
 pub ServesLegal-fit : (accepts asks : ℕ) (old low high : Standing State Entry) (lows_before lows_after highs_before highs_after : List Station) (first second : Ended) → (length lows_before + length highs_before) * accepts < 2 ^ 64 → old.left < 2 ^ 64 → asks ≤ old.left → ServesLegal accepts (gave old asks) low lows_before lows_after first → ServesLegal accepts (given old asks) high highs_before highs_after second → FitTogether first second
 ServesLegal-fit accepts asks old low high lows_before lows_after highs_before highs_after first second small room few front back =
     let most = AreAtMost-accepts accepts first front.0 front.1.worked front.1.tally in
     let more = AreAtMost-accepts accepts second back.0 back.1.worked back.1.tally in
-    let lows = parts_count accepts _ low lows_before lows_after first front.0 front.1 in
-    let highs = parts_count accepts _ high highs_before highs_after second back.0 back.1 in
-    let sum : length front.0 * accepts + length back.0 * accepts < 2 ^ 64 = rw (lows, highs) (omega (arith, small)) in
+    let lows = parts_count accepts (gave old asks) low lows_before lows_after first front.0 front.1 in
+    let highs = parts_count accepts (given old asks) high highs_before highs_after second back.0 back.1 in
+    let times = times_both (length lows_before) (length highs_before) accepts in
+    let sum : length front.0 * accepts + length back.0 * accepts < 2 ^ 64 = rw (lows, highs) (omega (arith, small, times)) in
     FitTogether-most first second (length front.0 * accepts) (length back.0 * accepts) sum (omega (arith, room, few, front.1.spent, back.1.spent)) most more
 
 -- from a token, what it saw is legal
@@ -212,7 +219,7 @@ Serves-legal accepts old new befores afters ended legal serves =
 -- as many places are gained as messages were asked
 pub AreParts-gained : (accepts : ℕ) (old new : Standing State Entry) (befores afters : List Station) (ended : Ended) (parts : List Part) → AreParts accepts old new befores afters ended parts → length new.mine ≡ length old.mine + ended.served
 AreParts-gained accepts old new befores afters ended parts are =
-    let asks : new.left + length new.mine ≡ old.left + length old.mine = ap (λ h. h.asks) are.home in
+    let asks : new.left + length new.mine ≡ old.left + length old.mine = ap (λ (h : Home State). h.asks) are.home in
     omega (arith, asks, are.spent)
 
 -- no worker: nothing was done
@@ -236,11 +243,6 @@ Serves-none accepts at ended none legal = (
   },
 )
 
--- so many times as two numbers together is as often as each
-times_both : (a b k : ℕ) → (a + b) * k ≡ a * k + b * k
-times_both zero b k = omega arith
-times_both (suc a) b k = let rest = times_both a b k in omega (arith, rest)
-
 -- what there is for two rows of workers is enough for the second, and the rest for the first
 pub room_for_both : (a b k n : ℕ) → (a + b) * k ≤ n → (b * k ≤ n) × (a * k ≤ n - b * k)
 room_for_both a b k n room = let sum = times_both a b k in (omega (arith, room, sum), omega (arith, room, sum))
@@ -258,7 +260,7 @@ fewer_connections (suc a) c = let rest = fewer_connections a c in omega (arith, 
 -- the desk of both passes
 pub ServesLegal-desk : (accepts asks : ℕ) (old cut rest low high : Standing State Entry) (lows_before lows_after highs_before highs_after : List Station) (first second : Ended) → cut ≡ gave old asks → rest ≡ given old asks → ServesLegal accepts cut low lows_before lows_after first → ServesLegal accepts rest high highs_before highs_after second → high.desk ≡ low.desk
 ServesLegal-desk accepts asks old cut rest low high lows_before lows_after highs_before highs_after first second is also front back =
-    ap (λ h. h.desk) back.1.home ∙ (ap (λ (s : Standing State Entry). s.desk) also ∙ (sym (ap (λ (s : Standing State Entry). s.desk) is) ∙ sym (ap (λ h. h.desk) front.1.home)))
+    ap (λ (h : Home State). h.desk) back.1.home ∙ (ap (λ (s : Standing State Entry). s.desk) also ∙ (sym (ap (λ (s : Standing State Entry). s.desk) is) ∙ sym (ap (λ (h : Home State). h.desk) front.1.home)))
 
 -- what two rows of workers did, each over a pass of its own, both did
 pub ServesLegal-joined : (accepts asks : ℕ) (old cut rest low high new : Standing State Entry) (lows_before lows_after highs_before highs_after : List Station) (first second : Ended) → cut ≡ gave old asks → rest ≡ given old asks → asks ≤ old.left → AreJoined low high new → ((opening : State) → low.opening ≡ Some opening → IsLegal farm_rules opening new.seen) → ServesLegal accepts cut low lows_before lows_after first → ServesLegal accepts rest high highs_before highs_after second → ServesLegal accepts old new (lows_before ++ highs_before) (lows_after ++ highs_after) (both first second)

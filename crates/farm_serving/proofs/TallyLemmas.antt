@@ -1,5 +1,5 @@
 -- How numbers of parts go together, and how great they are.
-use Rattle.std.proofs.Common.{◌≡◌, ℕ, ◌+◌, ◌*◌, ◌-◌, ◌^◌, ◌<◌, ◌≤◌, List, [], ◌∷◌, ◌++◌, length, refl, sym, ◌∙◌, ap, subst, arith}
+use Rattle.std.proofs.Common.{◌≡◌, ℕ, ◌+◌, ◌*◌, ◌-◌, ◌^◌, ◌<◌, ◌≤◌, List, [], ◌∷◌, ◌++◌, length, refl, sym, ◌∙◌, ap, subst, slice_index_or, arith}
 use Rattle.std.specs.List.{All, sum_by}
 use Rattle.std.proofs.lemmas.List.Sums.{sum_by-append, sum_by-le}
 use Rattle.std.proofs.lemmas.List.Elements.{All-weaker}
@@ -99,7 +99,7 @@ of_all-le f accepts parts small worked =
   where
     within : (part : Part) → Worked accepts part → sum_by f part.connections ≤ accepts
     within part did =
-        let each = sum_by-le f 1 part.connections (λ k d inside. small _) in
+        let each = sum_by-le f 1 part.connections (λ k d inside. small (slice_index_or part.connections k d)) in
         omega (arith, each, did.tried)
 
 -- no number of faults is above this

@@ -10,6 +10,7 @@ use Rattle.farm_machine.specs.Step.{farm_rules}
 use Rattle.farm_server.specs.Served.{Outside, Ask, questions_of, Spoke, Standing}
 use Rattle.farm_server.specs.declared.gate.When.{When}
 use Rattle.farm_server.specs.declared.served.Served.{Served}
+use Rattle.farm_serving.specs.Doors.{IsMore}
 use Rattle.farm_serving.specs.Numbers.{of_connection}
 use Rattle.farm_serving.specs.declared.ended.Ended.{Ended}
 
@@ -51,12 +52,13 @@ pub record Station : Type 0 where
   pub given : Option (List LinkState)
   pub taken : Option (List (LinkState × ℕ))
   pub out : ℕ
+  pub accepts : ℕ
   pub faults : ℕ
 
 -- the same, of what its clock, draws, gate and door tell
-abbrev pub station : Option (List ℕ) → Option (List (List ℕ)) → Option (List When) → Option (List LinkState) → Option (List (LinkState × ℕ)) → ℕ → ℕ → Station
-station moments ids gate given taken out faults =
-    record { company = record { moments = moments; ids = ids; gate = gate }; given = given; taken = taken; out = out; faults = faults }
+abbrev pub station : Option (List ℕ) → Option (List (List ℕ)) → Option (List When) → Option (List LinkState) → Option (List (LinkState × ℕ)) → ℕ → ℕ → ℕ → Station
+station moments ids gate given taken out accepts faults =
+    record { company = record { moments = moments; ids = ids; gate = gate }; given = given; taken = taken; out = out; accepts = accepts; faults = faults }
 
 -- the part of one worker: what it told before and after, how many of its accepts failed, and its connections
 pub record Part : Type 0 where
@@ -76,6 +78,7 @@ pub record Worked (accepts : ℕ) (part : Part) : Type 0 where
   pub given : LogGrows part.before.given part.after.given (map (λ c. c.given) part.connections)
   pub taken : LogGrows part.before.taken part.after.taken (map (λ c. (c.back, length c.asks)) part.connections)
   pub out : part.after.out ≡ part.before.out
+  pub made : IsMore accepts part.before.accepts part.after.accepts
   pub faults : HasCounted part.failed part.before.faults part.after.faults
 
 -- A link that was given so was served, and handed back: what its connection did at the desk, what the worker told before and after, and the numbers of it.
@@ -88,6 +91,7 @@ pub record ServesLink (given : LinkState) (old new : Standing) (before after : S
   pub none_given : LogGrows before.given after.given []
   pub taken : LogGrows before.taken after.taken ((back, length asks) ∷ [])
   pub out : after.out + 1 ≡ before.out
+  pub none_made : after.accepts ≡ before.accepts
   pub faults : after.faults ≡ before.faults
   pub counted : ended ≡ of_connection (length asks) served
   pub asked : AsksInTurn farm_rules opened old.stands new.stands (questions_of asks) replies

@@ -33,6 +33,10 @@ links_taken door = told_if door.tells (map (λ back. (memory_state back.link, ba
 abbrev pub links_out : MemoryListener → ℕ
 links_out door = door.out
 
+-- how many accepts were made
+abbrev pub accepts_made : MemoryListener → ℕ
+accepts_made door = door.calls
+
 -- how many of its accepts failed
 abbrev pub accept_faults : MemoryListener → ℕ
 accept_faults door = door.faults

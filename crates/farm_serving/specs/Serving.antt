@@ -43,7 +43,7 @@ AreShares opening seen first (part ∷ parts) shares =
     × ArePortions opening seen part.connections share × AreShares opening seen first parts others
 
 -- What a desk that began in this state gained by these parts: the history that it had seen goes on, and its own places gain a share for each part.
-pub record Gains (opening : State) (old new : Standing State Entry) (parts : List Part) : Type 0 where
+pub record HasGained (opening : State) (old new : Standing State Entry) (parts : List Part) : Type 0 where
   pub begins : IsPrefix old.seen new.seen
   pub legal : IsLegal farm_rules opening new.seen
   pub shares : List (List ℕ)
@@ -63,10 +63,10 @@ pub record AreParts (accepts : ℕ) (old new : Standing State Entry) (befores af
 abbrev pub Serves : ℕ → Standing State Entry → Standing State Entry → List Station → List Station → Ended → Type 0
 Serves accepts old new befores afters ended =
     (parts : List Part) × AreParts accepts old new befores afters ended parts
-    × ((opening : State) → old.opening ≡ Some opening → Gains opening old new parts)
+    × ((opening : State) → old.opening ≡ Some opening → HasGained opening old new parts)
 
 -- the same from a history that is legal
 abbrev pub ServesLegal : ℕ → Standing State Entry → Standing State Entry → List Station → List Station → Ended → Type 0
 ServesLegal accepts old new befores afters ended =
     (parts : List Part) × AreParts accepts old new befores afters ended parts
-    × ((opening : State) → old.opening ≡ Some opening → IsLegal farm_rules opening old.seen → Gains opening old new parts)
+    × ((opening : State) → old.opening ≡ Some opening → IsLegal farm_rules opening old.seen → HasGained opening old new parts)

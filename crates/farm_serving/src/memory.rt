@@ -1,7 +1,7 @@
 //! A door in memory, which tells its links.
 ghost use Rattle.std.specs.Prelude.{◌≡◌, ◌+◌, ◌-◌, ◌^◌, ◌<◌, [], ◌∷◌, Some};
 ghost use Rattle.causes.specs.Logs.{LogGrows};
-ghost use Rattle.farm_serving.specs.Memory.{memory_state, links_given, links_taken, links_out, accept_faults};
+ghost use Rattle.farm_serving.specs.Memory.{memory_state, links_given, links_taken, links_out, accepts_made, accept_faults};
 
 use crate::door::Listener;
 use causes::{Failed, FaultCount};
@@ -45,6 +45,7 @@ impl MemoryListener {
         ensures given { links_given result ≡ Some [] }
         ensures taken { links_taken result ≡ Some [] }
         ensures out { links_out result ≡ 0 }
+        ensures accepts { accepts_made result ≡ 0 }
         ensures faults { accept_faults result ≡ 0 }
     {
         MemoryListener {
@@ -75,6 +76,7 @@ impl MemoryListener {
         ensures given { LogGrows (links_given self.old) (links_given self.new) (memory_state link ∷ []) }
         ensures taken { LogGrows (links_taken self.old) (links_taken self.new) [] }
         ensures out { links_out self.new ≡ links_out self.old + 1 }
+        ensures accepts { accepts_made self.new ≡ accepts_made self.old }
         ensures faults { accept_faults self.new ≡ accept_faults self.old }
     {
         if let Err(_) = self.given.push(Snapshot::of(&link)) {
@@ -93,6 +95,8 @@ impl Listener for MemoryListener {
     ghost taken = { links_taken };
 
     ghost out = { links_out };
+
+    ghost accepts = { accepts_made };
 
     ghost faults = { accept_faults };
 

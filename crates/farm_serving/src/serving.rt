@@ -46,8 +46,8 @@ where
     requires left { length workers.old * (connections * REQUESTS) ≤ token.left }
     ensures gained { length result.0.mine ≡ length token.mine + result.1.served }
     ensures serves { Serves connections token result.0
-        (map (λ w. station (C.told w.clock) (I.told w.draws) (G.told w.gate) (D.given w.door) (D.taken w.door) (D.out w.door) (D.faults w.door)) workers.old)
-        (map (λ w. station (C.told w.clock) (I.told w.draws) (G.told w.gate) (D.given w.door) (D.taken w.door) (D.out w.door) (D.faults w.door)) workers.new)
+        (map (λ w. station (C.told w.clock) (I.told w.draws) (G.told w.gate) (D.given w.door) (D.taken w.door) (D.out w.door) (D.accepts w.door) (D.faults w.door)) workers.old)
+        (map (λ w. station (C.told w.clock) (I.told w.draws) (G.told w.gate) (D.given w.door) (D.taken w.door) (D.out w.door) (D.accepts w.door) (D.faults w.door)) workers.new)
         result.1 }
 {
     if workers.is_empty() {

@@ -84,7 +84,7 @@ impl<
     G: Gate,
 > Serve<Pass<'a, O, R>> for Worker<D, C, I, G>
 {
-    ghost station = { λ w. station_of (C.told w.clock) (I.told w.draws) (G.told w.gate) (D.given w.door) (D.taken w.door) (D.out w.door) (D.faults w.door) };
+    ghost station = { λ w. station_of (C.told w.clock) (I.told w.draws) (G.told w.gate) (D.given w.door) (D.taken w.door) (D.out w.door) (D.accepts w.door) (D.faults w.door) };
 
     fn serve_over(&mut self, alloc: Global, connections: u64, share: &mut Pass<'a, O, R>) -> Ended {
         self.serve(alloc, share, connections)

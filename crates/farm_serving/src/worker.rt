@@ -45,8 +45,8 @@ impl<D: Listener, C: Clock, I: Draws, G: Gate> Worker<D, C, I, G> {
         ensures works { Works connections
             (record { stands = K.stands desk.old; spare = K.spare desk.old })
             (record { stands = K.stands desk.new; spare = K.spare desk.new })
-            (station (C.told self.old.clock) (I.told self.old.draws) (G.told self.old.gate) (D.given self.old.door) (D.taken self.old.door) (D.out self.old.door) (D.faults self.old.door))
-            (station (C.told self.new.clock) (I.told self.new.draws) (G.told self.new.gate) (D.given self.new.door) (D.taken self.new.door) (D.out self.new.door) (D.faults self.new.door))
+            (station (C.told self.old.clock) (I.told self.old.draws) (G.told self.old.gate) (D.given self.old.door) (D.taken self.old.door) (D.out self.old.door) (D.accepts self.old.door) (D.faults self.old.door))
+            (station (C.told self.new.clock) (I.told self.new.draws) (G.told self.new.gate) (D.given self.new.door) (D.taken self.new.door) (D.out self.new.door) (D.accepts self.new.door) (D.faults self.new.door))
             result }
     {
         let table = Table::new(alloc).ok();
@@ -71,8 +71,8 @@ impl<D: Listener, C: Clock, I: Draws, G: Gate> Worker<D, C, I, G> {
         ensures works { Works 1
             (record { stands = K.stands desk.old; spare = K.spare desk.old })
             (record { stands = K.stands desk.new; spare = K.spare desk.new })
-            (station (C.told self.old.clock) (I.told self.old.draws) (G.told self.old.gate) (D.given self.old.door) (D.taken self.old.door) (D.out self.old.door) (D.faults self.old.door))
-            (station (C.told self.new.clock) (I.told self.new.draws) (G.told self.new.gate) (D.given self.new.door) (D.taken self.new.door) (D.out self.new.door) (D.faults self.new.door))
+            (station (C.told self.old.clock) (I.told self.old.draws) (G.told self.old.gate) (D.given self.old.door) (D.taken self.old.door) (D.out self.old.door) (D.accepts self.old.door) (D.faults self.old.door))
+            (station (C.told self.new.clock) (I.told self.new.draws) (G.told self.new.gate) (D.given self.new.door) (D.taken self.new.door) (D.out self.new.door) (D.accepts self.new.door) (D.faults self.new.door))
             result }
     {
         match self.door.accept() {
@@ -95,8 +95,8 @@ impl<D: Listener, C: Clock, I: Draws, G: Gate> Worker<D, C, I, G> {
         ensures serves { ServesLink (state_of D.Peer.Link peer)
             (record { stands = K.stands desk.old; spare = K.spare desk.old })
             (record { stands = K.stands desk.new; spare = K.spare desk.new })
-            (station (C.told self.old.clock) (I.told self.old.draws) (G.told self.old.gate) (D.given self.old.door) (D.taken self.old.door) (D.out self.old.door) (D.faults self.old.door))
-            (station (C.told self.new.clock) (I.told self.new.draws) (G.told self.new.gate) (D.given self.new.door) (D.taken self.new.door) (D.out self.new.door) (D.faults self.new.door))
+            (station (C.told self.old.clock) (I.told self.old.draws) (G.told self.old.gate) (D.given self.old.door) (D.taken self.old.door) (D.out self.old.door) (D.accepts self.old.door) (D.faults self.old.door))
+            (station (C.told self.new.clock) (I.told self.new.draws) (G.told self.new.gate) (D.given self.new.door) (D.taken self.new.door) (D.out self.new.door) (D.accepts self.new.door) (D.faults self.new.door))
             result }
     {
         let before = desk.left();
