@@ -17,8 +17,9 @@ use Rattle.farm_machine.specs.Step.{farm_rules}
 use Rattle.farm_server.specs.Served.{Ask, questions_of}
 use Rattle.farm_server.specs.Served.{Standing as DeskStanding}
 use Rattle.farm_serving.specs.Connections.{Connection, Company, InTurn, Station, Part, Worked, questions_in, replies_in}
-use Rattle.farm_serving.specs.Numbers.{FitTogether, both}
+use Rattle.farm_serving.specs.Numbers.{of_nothing, FitTogether, both}
 use Rattle.farm_serving.specs.Serving.{Works, IsPortion, ArePortions, AreShares, HasGained, AreParts, Serves, ServesLegal}
+use Rattle.farm_serving.specs.Tally.{IsTally}
 use Rattle.farm_serving.specs.declared.ended.Ended.{Ended}
 use Rattle.farm_serving.proofs.TallyLemmas.{IsTally-both, AreAtMost-accepts, FitTogether-most}
 
@@ -217,26 +218,27 @@ Serves-legal accepts old new befores afters ended legal serves =
     (serves.0, serves.1, λ opening is. serves.2 opening is (legal opening is))
 
 -- as many places are gained as messages were asked
-pub AreParts-gained : (accepts : ℕ) (old new : Standing State Entry) (befores afters : List Station) (ended : Ended) (parts : List Part) → AreParts accepts old new befores afters ended parts → length new.mine ≡ length old.mine + ended.served
-AreParts-gained accepts old new befores afters ended parts are =
+pub Serves-gained : (accepts : ℕ) (old new : Standing State Entry) (befores afters : List Station) (ended : Ended) → ServesLegal accepts old new befores afters ended → length new.mine ≡ length old.mine + ended.served
+Serves-gained accepts old new befores afters ended serves =
+    let are = serves.1 in
     let asks : new.left + length new.mine ≡ old.left + length old.mine = ap (λ (h : Home State). h.asks) are.home in
     omega (arith, asks, are.spent)
 
 -- no worker: nothing was done
-pub Serves-none : (accepts : ℕ) (at : Standing State Entry) (ended : Ended) → ended ≡ record { served = 0; accept_faults = 0; read_faults = 0; write_faults = 0; wire_faults = 0; no_memory = 0 } → ((opening : State) → at.opening ≡ Some opening → IsLegal farm_rules opening at.seen) → Serves accepts at at [] [] ended
-Serves-none accepts at ended none legal = (
+pub ServesLegal-none : (accepts : ℕ) (at : Standing State Entry) (befores afters : List Station) (ended : Ended) → befores ≡ [] → afters ≡ [] → ended ≡ of_nothing → ServesLegal accepts at at befores afters ended
+ServesLegal-none accepts at befores afters ended none none_after nothing = (
   [],
-  subst (λ (e : Ended). AreParts accepts at at [] [] e []) (sym none) (record {
-    began = refl;
-    became = refl;
+  record {
+    began = sym none;
+    became = sym none_after;
     worked = All-nil (Worked accepts);
-    tally = record { served = refl; accept_faults = refl; read_faults = refl; write_faults = refl; wire_faults = refl; no_memory = refl };
+    tally = subst (λ (e : Ended). IsTally e []) (sym nothing) (record { served = refl; accept_faults = refl; read_faults = refl; write_faults = refl; wire_faults = refl; no_memory = refl });
     home = refl;
-    spent = omega arith;
-  }),
-  λ opening is. record {
+    spent = subst (λ (e : Ended). at.left ≡ at.left + e.served) (sym nothing) (omega arith);
+  },
+  λ opening is legal. record {
     begins = ([], append-nil at.seen);
-    legal = legal opening is;
+    legal = legal;
     shares = [];
     mine = sym (append-nil at.mine);
     are = refl;

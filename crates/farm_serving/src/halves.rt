@@ -12,8 +12,25 @@ use std::alloc::Global;
 use std::thread::{Threads, join_mut};
 
 /// Lets all workers serve, each with its part of the share.
+pub(crate) fn serve_row<P: Share + Send, W: Serve<P> + Send, R: Threads + Sync>(
+    rt: &R,
+    alloc: Global,
+    connections: u64,
+    share: &mut P,
+    workers: &mut [W],
+) -> Ended
+    requires { length workers.old * (connections * REQUESTS) ≤ (P.standing share.old).left }
+    ensures { ServesLegal connections (P.standing share.old) (P.standing share.new) (map W.station workers.old) (map W.station workers.new) result }
+{
+    if workers.is_empty() {
+        return Ended::nothing();
+    }
+    serve_all(rt, alloc, connections, share, workers)
+}
+
+/// The same of a row of workers in which there is one at least.
 #[cycle(halves)]
-pub(crate) fn serve_all<P: Share + Send, W: Serve<P> + Send, R: Threads + Sync>(
+fn serve_all<P: Share + Send, W: Serve<P> + Send, R: Threads + Sync>(
     rt: &R,
     alloc: Global,
     connections: u64,

@@ -48,6 +48,22 @@ impl MemoryListener {
         ensures accepts { accepts_made result ≡ 0 }
         ensures faults { accept_faults result ≡ 0 }
     {
+        MemoryListener::fresh(alloc, coming, failing, twins, true)
+    }
+
+    /// The same, which tells its links or does not.
+    fn fresh(
+        alloc: Global,
+        coming: Vec<MemoryLink>,
+        failing: Vec<u64>,
+        twins: Vec<Vec<MemoryLink>>,
+        tells: bool,
+    ) -> MemoryListener
+        ensures tells { result.tells ≡ tells }
+        ensures given { result.given.items ≡ [] }
+        ensures returned { result.returned.items ≡ [] }
+        ensures counts { (result.out ≡ 0) × (result.calls ≡ 0) × (result.faults ≡ 0) }
+    {
         MemoryListener {
             alloc,
             coming,
@@ -56,7 +72,7 @@ impl MemoryListener {
             calls: 0,
             faults: FaultCount::new(),
             out: 0,
-            tells: true,
+            tells,
             given: Vec::new(alloc),
             returned: Vec::new(alloc),
         }
@@ -79,11 +95,14 @@ impl MemoryListener {
         ensures accepts { accepts_made self.new ≡ accepts_made self.old }
         ensures faults { accept_faults self.new ≡ accept_faults self.old }
     {
-        if let Err(_) = self.given.push(Snapshot::of(&link)) {
-            self.tells = false;
-        }
         self.out += 1;
-        link
+        match self.given.push(Snapshot::of(&link)) {
+            Ok(()) => link,
+            Err(_) => {
+                self.tells = false;
+                link
+            }
+        }
     }
 }
 
@@ -118,8 +137,9 @@ impl Listener for MemoryListener {
 
     fn done(&mut self, peer: MemoryLink, asked: u64) {
         self.out -= 1;
-        if let Err(_) = self.returned.push(Returned { link: peer, asked }) {
-            self.tells = false;
+        match self.returned.push(Returned { link: peer, asked }) {
+            Ok(()) => {}
+            Err(_) => self.tells = false,
         }
     }
 
@@ -128,14 +148,12 @@ impl Listener for MemoryListener {
             Some(links) => links,
             None => Vec::new(self.alloc),
         };
-        Ok(MemoryListener {
-            tells: self.tells,
-            ..MemoryListener::new(
-                self.alloc,
-                coming,
-                Vec::new(self.alloc),
-                Vec::new(self.alloc),
-            )
-        })
+        Ok(MemoryListener::fresh(
+            self.alloc,
+            coming,
+            Vec::new(self.alloc),
+            Vec::new(self.alloc),
+            self.tells,
+        ))
     }
 }

@@ -7,7 +7,7 @@ ghost use Rattle.farm_serving.specs.Serving.{Serves};
 
 use crate::door::Listener;
 use crate::ended::Ended;
-use crate::halves::serve_all;
+use crate::halves::serve_row;
 use crate::worker::Worker;
 use farm_desk::Object;
 use farm_machine::law::Farm;
@@ -50,10 +50,7 @@ where
         (map (λ w. station (C.told w.clock) (I.told w.draws) (G.told w.gate) (D.given w.door) (D.taken w.door) (D.out w.door) (D.accepts w.door) (D.faults w.door)) workers.new)
         result.1 }
 {
-    if workers.is_empty() {
-        return (token, Ended::nothing());
-    }
     let mut pass = shared.pass(rt, token);
-    let ended = serve_all(rt, alloc, connections, &mut pass, workers);
+    let ended = serve_row(rt, alloc, connections, &mut pass, workers);
     (pass.token(), ended)
 }
