@@ -1,5 +1,5 @@
 -- How what a worker did goes together, connection by connection.
-use Rattle.std.proofs.Common.{◌≡◌, ℕ, ◌+◌, ◌-◌, ◌^◌, ◌<◌, ◌≤◌, ◌⊎◌, inl, inr, List, [], ◌∷◌, ◌++◌, length, length-append, map, Option, refl, sym, ◌∙◌, ap, subst, append-nil, arith}
+use Rattle.std.proofs.Common.{◌≡◌, ℕ, ◌+◌, ◌*◌, ◌-◌, ◌^◌, ◌<◌, ◌≤◌, ◌⊎◌, inl, inr, List, [], ◌∷◌, ◌++◌, length, length-append, map, Option, refl, sym, ◌∙◌, ap, subst, append-nil, arith}
 use Rattle.std.specs.List.{All, sum_by}
 use Rattle.std.proofs.lemmas.List.{map-append}
 use Rattle.std.proofs.lemmas.List.Concat.{flat_map-append}
@@ -162,7 +162,9 @@ Works-fit m n old middle new before between after first second few spare front b
     let q = part_of between after back.failed back.connections in
     let most = AreAtMost-accepts m first (p ∷ []) (All-cons (Worked m) p [] front.worked (All-nil (Worked m))) front.tally in
     let more = AreAtMost-accepts n second (q ∷ []) (All-cons (Worked n) q [] back.worked (All-nil (Worked n))) back.tally in
-    FitTogether-most first second (1 * m) (1 * n) (omega (arith, few)) (omega (arith, spare, front.spent, back.spent)) most more
+    let whole : length (p ∷ []) * m ≡ m = omega arith in
+    let rest : length (q ∷ []) * n ≡ n = omega arith in
+    FitTogether-most first second (length (p ∷ []) * m) (length (q ∷ []) * n) (omega (arith, few, whole, rest)) (omega (arith, spare, front.spent, back.spent)) most more
 
 -- a connection's messages that were asked are at most those that there is room for
 IsCount-le : (room count : ℕ) (served : Served) → IsCount room count served → count ≤ room

@@ -1,5 +1,5 @@
 -- Whose places are whose: from what one worker did, and from two rows of workers to both.
-use Rattle.std.proofs.Common.{◌≡◌, ℕ, suc, zero, ◌+◌, ◌*◌, ◌-◌, ◌^◌, ◌<◌, ◌≤◌, List, [], ◌∷◌, ◌++◌, length, length-append, map, take, drop, Some, Option, refl, sym, ◌∙◌, ap, subst, append_assoc, append-nil, arith}
+use Rattle.std.proofs.Common.{◌≡◌, ℕ, suc, zero, ◌+◌, ◌*◌, ◌-◌, ◌^◌, ◌<◌, ◌≤◌, List, [], ◌∷◌, ◌++◌, length, length-append, map, take, drop, Some, Option, refl, sym, ◌∙◌, ap, subst, append_assoc, append-nil, slice_index_or, arith}
 use mathlib.Core.List.{IsPrefix}
 use Rattle.std.specs.List.{All, flat_map}
 use Rattle.std.proofs.lemmas.List.{map-append, length-map, take-append-drop}
@@ -27,11 +27,11 @@ use Rattle.farm_serving.proofs.TallyLemmas.{IsTally-both, AreAtMost-accepts, Fit
 cut : {X : Type 0} (f : ℕ → Option X) (places : List ℕ) (xs ys : List X) → map f places ≡ map Some (xs ++ ys) → (map f (take (length xs) places) ≡ map Some xs) × (map f (drop (length xs) places) ≡ map Some ys) × (length (take (length xs) places) ≡ length xs)
 cut f places [] ys found = (refl, found, refl)
 cut f [] (x ∷ xs) ys found = cc
-cut f (place ∷ places) (x ∷ xs) ys found =
+cut {X = X} f (place ∷ places) (x ∷ xs) ys found =
     let here : f place ≡ Some x = cc in
     let there : map f places ≡ map Some (xs ++ ys) = cc in
     let rest = cut f places xs ys there in
-    (ap (λ o. o ∷ map f (take (length xs) places)) here ∙ ap (λ os. Some x ∷ os) rest.0, rest.1, ap suc rest.2)
+    (ap (λ (o : Option X). o ∷ map f (take (length xs) places)) here ∙ ap (λ (os : List (Option X)). Some x ∷ os) rest.0, rest.1, ap suc rest.2)
 
 -- a worker's places are cut into portions of its connections
 ArePortions-all : (opening : State) (seen : List Entry) (before after : Company) (cs : List Connection) (places : List ℕ) → InTurn before after cs → map (asked_at farm_rules seen) places ≡ map Some (questions_in cs) → map (reply_at farm_rules opening seen) places ≡ map Some (replies_in cs) → ArePortions opening seen cs places
@@ -274,3 +274,9 @@ pub ServesLegal-joined_fit : (accepts asks : ℕ) (old cut rest low high : Stand
 ServesLegal-joined_fit accepts asks old cut rest low high lows_before lows_after highs_before highs_after first second is also room small few front back =
     let fewer = fewer_connections (length lows_before + length highs_before) accepts in
     ServesLegal-fit accepts asks old low high lows_before lows_after highs_before highs_after first second (omega (arith, fewer, room, small)) small few (subst (λ (s : Standing State Entry). ServesLegal accepts s low lows_before lows_after first) is front) (subst (λ (s : Standing State Entry). ServesLegal accepts s high highs_before highs_after second) also back)
+
+-- a row of one
+pub one_row : {A B : Type 0} (f : A → B) (xs : List A) (x : A) → length xs ≡ 1 → map f xs ≡ f (slice_index_or xs 0 x) ∷ []
+one_row f [] x one = absurd (omega (arith, one))
+one_row f (y ∷ []) x one = refl
+one_row f (y ∷ z ∷ ys) x one = absurd (omega (arith, one))
