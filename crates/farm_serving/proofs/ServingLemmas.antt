@@ -47,8 +47,7 @@ ArePortions-all opening seen before after (c ∷ cs) places turns asked replied 
       each = subst (λ k. length (take k places) ≡ k) questions first.2;
       asked = subst (λ k. map (asked_at farm_rules seen) (take k places) ≡ map Some (questions_of c.asks)) questions first.0;
       replied = subst (λ k. map (reply_at farm_rules opening seen) (take k places) ≡ map Some c.replies) replies second.0;
-    } in
-    (
+    } in (
       take n places,
       drop n places,
       sym (take-append-drop places n),

@@ -1,5 +1,6 @@
 //! What workers halve among them, and who serves over a part of it.
 #![tactic(none)]
+
 ghost use Rattle.std.specs.Prelude.{◌≡◌, ◌*◌, ◌≤◌, [], ◌∷◌, Some};
 ghost use Rattle.history.specs.Histories.{IsLegal};
 ghost use Rattle.shared_desk.specs.Standing.{Standing, gave, given, AreJoined};
@@ -57,8 +58,7 @@ pub trait Serve<P: Share> {
 }
 
 impl<'a, O: Object<Question = Question, Answer = Asked, Law = Farm>, R: Wait> Share
-    for Pass<'a, O, R>
-{
+    for Pass<'a, O, R> {
     ghost standing = { λ pass. pass };
 
     fn room(&self) -> u64 {
@@ -82,8 +82,7 @@ impl<
     C: Clock,
     I: Draws,
     G: Gate,
-> Serve<Pass<'a, O, R>> for Worker<D, C, I, G>
-{
+> Serve<Pass<'a, O, R>> for Worker<D, C, I, G> {
     ghost station = { λ w. station_of (C.told w.clock) (I.told w.draws) (G.told w.gate) (D.given w.door) (D.taken w.door) (D.out w.door) (D.accepts w.door) (D.faults w.door) };
 
     fn serve_over(&mut self, alloc: Global, connections: u64, share: &mut Pass<'a, O, R>) -> Ended {

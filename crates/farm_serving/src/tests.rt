@@ -173,7 +173,9 @@ fn four_workers(rt: HostRuntime) -> Result<(), Fail> {
     for worker in &workers {
         pings += 1;
         let back = worker.door.returned();
-        assert!(rt; back.len() == 2 && was_alive(&back[0], pings, pings) && was_alive(&back[1], 1, 1));
+        assert!(rt;
+            back.len() == 2 && was_alive(&back[0], pings, pings) && was_alive(&back[1], 1, 1)
+        );
     }
     Ok(())
 }

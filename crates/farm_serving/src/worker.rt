@@ -1,5 +1,6 @@
 //! One worker.
 #![tactic(none)]
+
 ghost use Rattle.std.specs.Prelude.{◌≡◌, ◌*◌, ◌<◌, ◌≤◌};
 ghost use Rattle.http_wire.specs.Calls.{state_of};
 ghost use Rattle.farm_server.specs.Served.{outside_of, Serves};

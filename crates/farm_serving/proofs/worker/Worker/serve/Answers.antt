@@ -41,8 +41,7 @@ accepts-preserved g c =
     let between : Station = station (g.C.Clock.told c.accepts.self.clock) (g.I.Draws.told c.accepts.self.draws) (g.G.Gate.told c.accepts.self.gate) (g.D.Listener.given c.accepts.self.door) (g.D.Listener.taken c.accepts.self.door) (g.D.Listener.out c.accepts.self.door) (g.D.Listener.accepts c.accepts.self.door) (g.D.Listener.faults c.accepts.self.door) in
     let new : Standing = record { stands = g.K.Desk.stands c.serve_next-one.new.desk; spare = g.K.Spare.spare c.serve_next-one.new.desk } in
     let after : Station = station (g.C.Clock.told c.serve_next-one.new.self.clock) (g.I.Draws.told c.serve_next-one.new.self.draws) (g.G.Gate.told c.serve_next-one.new.self.gate) (g.D.Listener.given c.serve_next-one.new.self.door) (g.D.Listener.taken c.serve_next-one.new.self.door) (g.D.Listener.out c.serve_next-one.new.self.door) (g.D.Listener.accepts c.serve_next-one.new.self.door) (g.D.Listener.faults c.serve_next-one.new.self.door) in
-    let so_far = c.accepts.invariant in
-    (
+    let so_far = c.accepts.invariant in (
       c.serve_next-one.ensures.home ∙ so_far.0,
       so_far.1,
       subst (λ (e : Ended). Works (c.accepts._made + 1) old new before after e) (sym c.plus-ended.ensures) (Works-then c.accepts._made 1 old middle new before between after c.accepts.ended c.serve_next-one.result so_far.2 c.serve_next-one.ensures.works),
