@@ -17,7 +17,7 @@ use Rattle.command_line.proofs.FlagLemmas.{IsFlag, value_cases, word_kind}
 use Rattle.command_line.specs.Forms.{EndsOptions, Gives, GivesBoth, GivesDisk, GivesValue, IsValue}
 use Rattle.command_line.specs.Words.{disk_option, farm_app, farm_argument, with_disk, work_in, work_named}
 use Rattle.command_line.specs.declared.command.Command.{Command}
-use Rattle.command_line.specs.declared.command.Command.TheVariants.{OverFarm, Sign, Bulk}
+use Rattle.command_line.specs.declared.command.Command.TheVariants.{OverFarm, Sign, Bulk, Render}
 use Rattle.command_line.specs.declared.command.Work.{Work}
 
 -- ---- a command's words, from any place in them
@@ -452,6 +452,7 @@ abbrev pub Says : Text → Command → List Text → Type 0
 Says name (OverFarm farm work) words = (disk : Option Text) × (work_named name disk ≡ Some work) × Gives farm disk words
 Says name (Sign signing) words = ⊥
 Says name (Bulk load) words = ⊥
+Says name Render words = ⊥
 
 given_command : (name farm : Text) (disk : Option Text) (command : Command) (words : List Text) → Gives farm disk words → over name farm disk ≡ Some command → Says name command words
 given_command name farm disk command words gives read = go (work_named name disk) refl

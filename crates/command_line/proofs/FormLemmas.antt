@@ -14,53 +14,27 @@ use Rattle.clap.specs.Walk.{Held, Names, Walk, finished, idle, is_empty, nothing
 use Rattle.clap.proofs.OnLiterals.{clap_on_literals}
 use Rattle.clap.specs.declared.error.ErrorKind.TheVariants.{UnknownArgument, InvalidSubcommand}
 use Rattle.command_line.proofs.DiskFormLemmas.{Says, args, both_read, end_of, faults, found, reads, start, start_said}
+use Rattle.command_line.proofs.FaultLemmas.{first_fails, held, help, level_fails, long_flag, none_some, or_left, rest_fails, short_flag}
 use Rattle.command_line.proofs.FlagLemmas.{IsFlag, value_cases, word_kind}
 use Rattle.command_line.proofs.LawLemmas.{answer_stops, bulk_stops, check_stops, empty_read, expand_stops, fails_below, help_first, no_reading, other_first, sign_stops}
-use Rattle.command_line.specs.Forms.{Gives, GivesValue, IsValue, SaysWork}
+use Rattle.command_line.proofs.RenderLemmas.{render_ends, render_read}
+use Rattle.command_line.specs.Forms.{EndsOptions, Gives, GivesValue, IsValue, SaysRender, SaysWork}
 use Rattle.command_line.specs.Words.{IsPlain, command_in, farm_app, reading, with_farm}
 use Rattle.command_line.specs.Load.{load_in}
 use Rattle.command_line.specs.Signing.{signing_in}
 use Rattle.command_line.specs.declared.command.Command.{Command}
-use Rattle.command_line.specs.declared.command.Command.TheVariants.{OverFarm, Sign, Bulk}
+use Rattle.command_line.specs.declared.command.Command.TheVariants.{OverFarm, Sign, Bulk, Render}
 use Rattle.command_line.specs.declared.command.Work.{Work}
 use Rattle.command_line.specs.declared.command.Work.TheVariants.{Answer, Expand, Check}
 use Rattle.command_line.specs.declared.load.Load.{Load}
 use Rattle.command_line.specs.declared.signing.Signing.{Signing}
 
--- the words say the command, if it is work over a farm
+-- the words say the command, if it is work over a farm or `render`
 abbrev SaysCommand : Command → List Text → Type 0
 SaysCommand (OverFarm farm work) words = SaysWork farm work words
 SaysCommand (Sign signing) words = Unit {0}
 SaysCommand (Bulk load) words = Unit {0}
-
-none_some : (command : Command) → None ≡ Some command → ⊥
-none_some command e = cc
-
--- ---- faults
-
-or_left : (a b : Kinds) → is_empty a ≡ false → is_empty (or_else a b) ≡ false
-or_left [] b e = cc
-or_left (k ∷ ks) b e = e
-
-or_right : (a b : Kinds) → is_empty b ≡ false → is_empty (or_else a b) ≡ false
-or_right [] b e = e
-or_right (k ∷ ks) b e = is_some_kind k ks
-  where
-    is_some_kind : (k : _) (ks : Kinds) → is_empty (k ∷ ks) ≡ false
-    is_some_kind k ks = ne_eqb _ _ (λ same. omega arith)
-
-abbrev help : Rule
-help = filled help_rule
-
-long_flag : (c : List Rule) (b : Bool) (v : Option Text) (h : Held) → is_empty (long_fault c false (cond b (Some help) None) v h) ≡ false
-long_flag c true (Some v) h = refl
-long_flag c true None h = or_right (settle_fault c false h) (use_fault false help [] (settled c h).rows) refl
-long_flag c false v h = refl
-
-short_flag : (c : List Rule) (b : Bool) (rest : Text) (h : Held) (next : Held → Kinds) → is_empty (short_fault c false (cond b (Some help) None) rest h next) ≡ false
-short_flag c true rest h next =
-    or_left (react_fault c false help [] h) (next (reacted c help [] h)) (or_right (settle_fault c false h) (use_fault false help [] (settled c h).rows) refl)
-short_flag c false rest h next = refl
+SaysCommand Render words = SaysRender words
 
 -- ---- a command's own words
 
@@ -96,28 +70,7 @@ dashes_no_value : (name : Text) → is_empty (leaf_faults name (codes "--" ∷ [
 unfolding clap_on_literals
 dashes_no_value name = refl
 
--- ---- where a word fails, the words fail
-
-level_fails : (s : Shape) (names : Names) (words : List Text) (b : Bool) (below : Kinds) → is_empty (walk_fault s names (walk_from nothing_held) words) ≡ false
-    → is_empty (level_fault s names nothing_held words b below) ≡ false
-level_fails s names words b below fails = or_left (walk_fault s names (walk_from nothing_held) words) _ fails
-
-first_fails : (s : Shape) (names : Names) (w : Walk) (word : Text) (rest : List Text) → w.stopped ≡ None → is_empty (word_fault s names w.is_trailing w.waiting word w.held) ≡ false
-    → is_empty (walk_fault s names w (word ∷ rest)) ≡ false
-unfolding walk_fault
-first_fails s names w word rest goes fails =
-    let turn : is_empty (turn_fault s names w word) ≡ false = simp goes (or_left (word_fault s names w.is_trailing w.waiting word w.held) _ fails) in
-    or_left (turn_fault s names w word) (walk_fault s names (walked s.rules names w word) rest) turn
-
-rest_fails : (s : Shape) (names : Names) (w : Walk) (word : Text) (rest : List Text) → is_empty (walk_fault s names (walked s.rules names w word) rest) ≡ false
-    → is_empty (walk_fault s names w (word ∷ rest)) ≡ false
-unfolding walk_fault
-rest_fails s names w word rest fails = or_right (turn_fault s names w word) (walk_fault s names (walked s.rules names w word) rest) fails
-
 -- ---- flags
-
-abbrev held : Option (Text × List Text) → Held
-held pending = record { rows = []; pending = pending; skip = 0 }
 
 leaf_flag : (name : Text) (pending : Option (Text × List Text)) (w : Text) → IsFlag w → is_empty (word_fault (leaf name) [] false idle w (held pending)) ≡ false
 unfolding clap_on_literals
@@ -191,24 +144,27 @@ dash_unread rest = refl
 -- the first word of words that have a reading is a command's name
 abbrev IsName : Text → Type 0
 IsName w =
-    (bytes_eq (codes "answer") w ≡ true) ⊎ ((bytes_eq (codes "expand") w ≡ true) ⊎ ((bytes_eq (codes "check") w ≡ true) ⊎ ((bytes_eq (codes "sign") w ≡ true) ⊎ (bytes_eq (codes "bulk") w ≡ true))))
+    (bytes_eq (codes "answer") w ≡ true) ⊎ ((bytes_eq (codes "expand") w ≡ true) ⊎ ((bytes_eq (codes "check") w ≡ true) ⊎ ((bytes_eq (codes "sign") w ≡ true)
+    ⊎ ((bytes_eq (codes "bulk") w ≡ true) ⊎ (bytes_eq (codes "render") w ≡ true)))))
 
-value_named : (w : Text) (rest : List Text) (command : Command) → IsPlain w → reading (w ∷ rest) ≡ Some command → (a e c s b h : Bool) → bytes_eq (codes "answer") w ≡ a
-    → bytes_eq (codes "expand") w ≡ e → bytes_eq (codes "check") w ≡ c → bytes_eq (codes "sign") w ≡ s → bytes_eq (codes "bulk") w ≡ b → bytes_eq (codes "help") w ≡ h → IsName w
-value_named w rest command plain read true e c s b h is_a is_e is_c is_s is_b is_h = inl is_a
-value_named w rest command plain read false true c s b h is_a is_e is_c is_s is_b is_h = inr (inl is_e)
-value_named w rest command plain read false false true s b h is_a is_e is_c is_s is_b is_h = inr (inr (inl is_c))
-value_named w rest command plain read false false false true b h is_a is_e is_c is_s is_b is_h = inr (inr (inr (inl is_s)))
-value_named w rest command plain read false false false false true h is_a is_e is_c is_s is_b is_h = inr (inr (inr (inr is_b)))
-value_named w rest command plain read false false false false false true is_a is_e is_c is_s is_b is_h =
+value_named : (w : Text) (rest : List Text) (command : Command) → IsPlain w → reading (w ∷ rest) ≡ Some command → (a e c s b r h : Bool) → bytes_eq (codes "answer") w ≡ a
+    → bytes_eq (codes "expand") w ≡ e → bytes_eq (codes "check") w ≡ c → bytes_eq (codes "sign") w ≡ s → bytes_eq (codes "bulk") w ≡ b → bytes_eq (codes "render") w ≡ r
+    → bytes_eq (codes "help") w ≡ h → IsName w
+value_named w rest command plain read true e c s b r h is_a is_e is_c is_s is_b is_r is_h = inl is_a
+value_named w rest command plain read false true c s b r h is_a is_e is_c is_s is_b is_r is_h = inr (inl is_e)
+value_named w rest command plain read false false true s b r h is_a is_e is_c is_s is_b is_r is_h = inr (inr (inl is_c))
+value_named w rest command plain read false false false true b r h is_a is_e is_c is_s is_b is_r is_h = inr (inr (inr (inl is_s)))
+value_named w rest command plain read false false false false true r h is_a is_e is_c is_s is_b is_r is_h = inr (inr (inr (inr (inl is_b))))
+value_named w rest command plain read false false false false false true h is_a is_e is_c is_s is_b is_r is_h = inr (inr (inr (inr (inr is_r))))
+value_named w rest command plain read false false false false false false true is_a is_e is_c is_s is_b is_r is_h =
     let none = help_first w rest is_h in absurd (none_some command (sym none ∙ read))
-value_named w rest command plain read false false false false false false is_a is_e is_c is_s is_b is_h =
-    let none = other_first w rest plain is_a is_e is_c is_s is_b is_h in absurd (none_some command (sym none ∙ read))
+value_named w rest command plain read false false false false false false false is_a is_e is_c is_s is_b is_r is_h =
+    let none = other_first w rest plain is_a is_e is_c is_s is_b is_r is_h in absurd (none_some command (sym none ∙ read))
 
 first_named : (w : Text) (rest : List Text) (command : Command) → IsUtf8 w → reading (w ∷ rest) ≡ Some command → IsName w
 first_named w rest command utf8 read = elim (word_kind w utf8) [
   | inl v ↦ elim v [
-    | inl plain ↦ value_named w rest command plain read _ _ _ _ _ _ refl refl refl refl refl refl
+    | inl plain ↦ value_named w rest command plain read _ _ _ _ _ _ _ refl refl refl refl refl refl refl
     | inr dash ↦ let none = no_reading ((45 ∷ []) ∷ rest) (ap is_empty (dash_unread rest)) in
         absurd (none_some command (sym none ∙ subst (λ a. reading (a ∷ rest) ≡ Some command) dash read))
   ]
@@ -367,8 +323,8 @@ met_at name = record { held = nothing_held; waiting = idle; position = 1; is_tra
 command_goes : (name : Text) (rest : List Text) → stop_after top.rules top_names (name ∷ rest) ≡ Some (name, rest) → turn_fault top top_names (walk_from nothing_held) name ≡ []
     → walked top.rules top_names (walk_from nothing_held) name ≡ met_at name → entered_fault (built farm_app) (Some (name, rest)) ≡ faults name start rest
     → entered (built farm_app) (Some (name, rest)) ≡ Some (name, finished (args name) (end_of name start rest)) → bytes_eq name (codes "sign") ≡ false → bytes_eq name (codes "bulk") ≡ false
-    → reading (name ∷ rest) ≡ reads name start rest
-command_goes name rest stops none goes below met other another =
+    → bytes_eq name (codes "render") ≡ false → reading (name ∷ rest) ≡ reads name start rest
+command_goes name rest stops none goes below met other another third =
     let app : App = built farm_app in
     let words : List Text = name ∷ rest in
     let rows : List Row = finished (args name) (end_of name start rest) in
@@ -379,18 +335,19 @@ command_goes name rest stops none goes below met other another =
     let read : option_and_then command_in (subcommand_of farm_app words) ≡ found name start rest =
     ap (λ (stop : Option (Text × List Text)). option_and_then command_in (entered app stop)) stops
     ∙ (ap (option_and_then command_in) met
-    ∙ (ap (λ (b : Bool). cond b (option_map (λ signing. Sign signing) (signing_in rows)) (cond (bytes_eq name (codes "bulk")) (option_map (λ load. Bulk load) (load_in rows)) (found name start rest))) other
-    ∙ ap (λ (b : Bool). cond b (option_map (λ load. Bulk load) (load_in rows)) (found name start rest)) another)) in
+    ∙ (ap (λ (b : Bool). cond b (option_map (λ signing. Sign signing) (signing_in rows)) (cond (bytes_eq name (codes "bulk")) (option_map (λ load. Bulk load) (load_in rows)) (cond (bytes_eq name (codes "render")) (Some Render) (found name start rest)))) other
+    ∙ (ap (λ (b : Bool). cond b (option_map (λ load. Bulk load) (load_in rows)) (cond (bytes_eq name (codes "render")) (Some Render) (found name start rest))) another
+    ∙ ap (λ (b : Bool). cond b (Some Render) (found name start rest)) third))) in
     ap (λ (k : Kinds). cond (is_empty k) (option_and_then command_in (subcommand_of farm_app words)) None) fault
     ∙ ap (λ (o : Option Command). cond (is_empty (faults name start rest)) o None) read
 
 answer_goes : (rest : List Text) → reading (codes "answer" ∷ rest) ≡ reads (codes "answer") start rest
 unfolding clap_on_literals
-answer_goes rest = command_goes (codes "answer") rest (answer_stops rest) refl refl refl refl refl refl
+answer_goes rest = command_goes (codes "answer") rest (answer_stops rest) refl refl refl refl refl refl refl
 
 check_goes : (rest : List Text) → reading (codes "check" ∷ rest) ≡ reads (codes "check") start rest
 unfolding clap_on_literals
-check_goes rest = command_goes (codes "check") rest (check_stops rest) refl refl refl refl refl refl
+check_goes rest = command_goes (codes "check") rest (check_stops rest) refl refl refl refl refl refl refl
 
 answer_says : (rest : List Text) (command : Command) → Says (codes "answer") command rest → SaysCommand command (codes "answer" ∷ rest)
 answer_says rest (OverFarm farm (Answer disk)) says = let is : says.0 ≡ disk = cc in (refl, subst (λ (d : Option Text). Gives farm d rest) is says.2)
@@ -398,6 +355,7 @@ answer_says rest (OverFarm farm Expand) says = cc
 answer_says rest (OverFarm farm (Check disk)) says = cc
 answer_says rest (Sign signing) says = tt
 answer_says rest (Bulk load) says = tt
+answer_says rest Render says = absurd says
 
 check_says : (rest : List Text) (command : Command) → Says (codes "check") command rest → SaysCommand command (codes "check" ∷ rest)
 check_says rest (OverFarm farm (Answer disk)) says = cc
@@ -405,6 +363,7 @@ check_says rest (OverFarm farm Expand) says = cc
 check_says rest (OverFarm farm (Check disk)) says = let is : says.0 ≡ disk = cc in (refl, subst (λ (d : Option Text). Gives farm d rest) is says.2)
 check_says rest (Sign signing) says = tt
 check_says rest (Bulk load) says = tt
+check_says rest Render says = absurd says
 
 answer_said : (rest : List Text) (command : Command) → All IsUtf8 rest → reading (codes "answer" ∷ rest) ≡ Some command → SaysCommand command (codes "answer" ∷ rest)
 answer_said rest command utf8 read = answer_says rest command (start_said (codes "answer") rest command utf8 (sym (answer_goes rest) ∙ read))
@@ -423,6 +382,7 @@ sign_command None words command e = absurd (none_some command e)
 sign_command (Some s) words (OverFarm farm work) e = cc
 sign_command (Some s) words (Sign signing) e = tt
 sign_command (Some s) words (Bulk load) e = tt
+sign_command (Some s) words Render e = cc
 
 sign_said : (rest : List Text) (command : Command) → reading (codes "sign" ∷ rest) ≡ Some command → SaysCommand command (codes "sign" ∷ rest)
 unfolding clap_on_literals
@@ -437,12 +397,28 @@ bulk_command None words command e = absurd (none_some command e)
 bulk_command (Some l) words (OverFarm farm work) e = cc
 bulk_command (Some l) words (Sign signing) e = tt
 bulk_command (Some l) words (Bulk load) e = tt
+bulk_command (Some l) words Render e = cc
 
 bulk_said : (rest : List Text) (command : Command) → reading (codes "bulk" ∷ rest) ≡ Some command → SaysCommand command (codes "bulk" ∷ rest)
 unfolding clap_on_literals
 bulk_said rest command read =
     let met = taken (is_empty (fault_of farm_app (codes "bulk" ∷ rest))) (option_and_then command_in (subcommand_of farm_app (codes "bulk" ∷ rest))) command read in
     bulk_command _ (codes "bulk" ∷ rest) command (sym (ap (λ stop. option_and_then command_in (entered (built farm_app) stop)) (bulk_stops rest)) ∙ met)
+
+-- ---- render
+
+render_command : (rest : List Text) (command : Command) → EndsOptions rest → reading (codes "render" ∷ rest) ≡ Some command → SaysCommand command (codes "render" ∷ rest)
+render_command rest (OverFarm farm work) ends read = let is = render_read rest ends in cc
+render_command rest (Sign signing) ends read = tt
+render_command rest (Bulk load) ends read = tt
+render_command rest Render ends read = (refl, ends)
+
+render_said : (rest : List Text) (command : Command) → All IsUtf8 rest → reading (codes "render" ∷ rest) ≡ Some command → SaysCommand command (codes "render" ∷ rest)
+render_said rest command utf8 read = render_command rest command (render_ends rest command utf8 read) read
+
+pub says_render_read : (words : List Text) → SaysRender words → reading words ≡ Some Render
+says_render_read [] says = absurd says
+says_render_read (w ∷ rest) says = subst (λ a. reading (a ∷ rest) ≡ Some Render) (sym says.0) (render_read rest says.1)
 
 -- ---- both ways
 
@@ -453,7 +429,8 @@ reading_says (w ∷ rest) command utf8 read = elim (first_named w rest command (
   | inr (inl e) ↦ named (codes "expand") e (rest_said (codes "expand") (λ f. OverFarm f Expand) expand_is rest command others)
   | inr (inr (inl c)) ↦ named (codes "check") c (check_said rest command others)
   | inr (inr (inr (inl s))) ↦ named (codes "sign") s (sign_said rest command)
-  | inr (inr (inr (inr b))) ↦ named (codes "bulk") b (bulk_said rest command)
+  | inr (inr (inr (inr (inl b)))) ↦ named (codes "bulk") b (bulk_said rest command)
+  | inr (inr (inr (inr (inr r)))) ↦ named (codes "render") r (render_said rest command others)
 ]
   where
     others : All IsUtf8 rest

@@ -49,9 +49,10 @@ no_reading words fails = ap (λ (b : Bool). cond b (option_and_then command_in (
 -- ---- the first word
 
 first_fault : (x : ℕ) (xs : List ℕ) (rest : List Text) → IsPlain (x ∷ xs) → bytes_eq (codes "answer") (x ∷ xs) ≡ false → bytes_eq (codes "expand") (x ∷ xs) ≡ false
-    → bytes_eq (codes "check") (x ∷ xs) ≡ false → bytes_eq (codes "sign") (x ∷ xs) ≡ false → bytes_eq (codes "bulk") (x ∷ xs) ≡ false → bytes_eq (codes "help") (x ∷ xs) ≡ false → fault_of farm_app ((x ∷ xs) ∷ rest) ≡ UnknownArgument ∷ InvalidSubcommand ∷ []
+    → bytes_eq (codes "check") (x ∷ xs) ≡ false → bytes_eq (codes "sign") (x ∷ xs) ≡ false → bytes_eq (codes "bulk") (x ∷ xs) ≡ false → bytes_eq (codes "render") (x ∷ xs) ≡ false
+    → bytes_eq (codes "help") (x ∷ xs) ≡ false → fault_of farm_app ((x ∷ xs) ∷ rest) ≡ UnknownArgument ∷ InvalidSubcommand ∷ []
 unfolding clap_on_literals
-first_fault x xs rest plain answer expand check sign bulk help = simp (answer, expand, check, sign, bulk, help, not_minus x xs plain)
+first_fault x xs rest plain answer expand check sign bulk render help = simp (answer, expand, check, sign, bulk, render, help, not_minus x xs plain)
 
 pub empty_fault : (rest : List Text) → fault_of farm_app ([] ∷ rest) ≡ UnknownArgument ∷ InvalidSubcommand ∷ []
 unfolding clap_on_literals
@@ -112,12 +113,19 @@ bulk_stops rest =
     let app = built farm_app in
     stopped_on app.top.rules (names_of app) (walked app.top.rules (names_of app) (walk_from nothing_held) (codes "bulk")) (codes "bulk") [] rest refl
 
+pub render_stops : (rest : List Text) → stop_after (built farm_app).top.rules (names_of (built farm_app)) (argument_words farm_app (codes "render" ∷ rest)) ≡ Some (codes "render", rest)
+unfolding clap_on_literals
+render_stops rest =
+    let app = built farm_app in
+    stopped_on app.top.rules (names_of app) (walked app.top.rules (names_of app) (walk_from nothing_held) (codes "render")) (codes "render") [] rest refl
+
 -- ---- every first word
 
 pub other_first : (w : Text) (rest : List Text) → IsPlain w → bytes_eq (codes "answer") w ≡ false → bytes_eq (codes "expand") w ≡ false
-    → bytes_eq (codes "check") w ≡ false → bytes_eq (codes "sign") w ≡ false → bytes_eq (codes "bulk") w ≡ false → bytes_eq (codes "help") w ≡ false → reading (w ∷ rest) ≡ None
-other_first [] rest plain a e c s b h = no_reading ([] ∷ rest) (ap is_empty (empty_fault rest))
-other_first (x ∷ xs) rest plain a e c s b h = no_reading ((x ∷ xs) ∷ rest) (ap is_empty (first_fault x xs rest plain a e c s b h))
+    → bytes_eq (codes "check") w ≡ false → bytes_eq (codes "sign") w ≡ false → bytes_eq (codes "bulk") w ≡ false → bytes_eq (codes "render") w ≡ false
+    → bytes_eq (codes "help") w ≡ false → reading (w ∷ rest) ≡ None
+other_first [] rest plain a e c s b r h = no_reading ([] ∷ rest) (ap is_empty (empty_fault rest))
+other_first (x ∷ xs) rest plain a e c s b r h = no_reading ((x ∷ xs) ∷ rest) (ap is_empty (first_fault x xs rest plain a e c s b r h))
 
 pub help_first : (w : Text) (rest : List Text) → bytes_eq (codes "help") w ≡ true → reading (w ∷ rest) ≡ None
 help_first w rest same =

@@ -1,3 +1,4 @@
+mod FaultLemmas
 mod FlagLemmas
 mod FormLemmas
 mod LawLemmas
@@ -5,6 +6,7 @@ mod LoadLemmas
 mod MatchLemmas
 mod OptionLemmas
 mod ReadingLemmas
+mod RenderLemmas
 mod SigningLemmas
 mod ValueLemmas
 pub mod DiskFormLemmas

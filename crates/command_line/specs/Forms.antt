@@ -36,3 +36,8 @@ Gives farm (Some disk) words = GivesBoth farm disk words
 abbrev pub SaysWork : List ℕ → Work → List (List ℕ) → Type 0
 SaysWork farm work [] = ⊥
 SaysWork farm work (first ∷ rest) = (first ≡ name_of work) × Gives farm (disk_of work) rest
+
+-- the words are `render`, alone or with a last `--`
+abbrev pub SaysRender : List (List ℕ) → Type 0
+SaysRender [] = ⊥
+SaysRender (first ∷ rest) = (first ≡ codes "render") × EndsOptions rest

@@ -6,7 +6,7 @@ use Rattle.clap.specs.Walk.{is_empty}
 use Rattle.command_line.specs.Load.{bulk_app, load_in}
 use Rattle.command_line.specs.Signing.{option_rule, sign_app, signing_in}
 use Rattle.command_line.specs.declared.command.Command.{Command}
-use Rattle.command_line.specs.declared.command.Command.TheVariants.{OverFarm, Sign, Bulk}
+use Rattle.command_line.specs.declared.command.Command.TheVariants.{OverFarm, Sign, Bulk, Render}
 use Rattle.command_line.specs.declared.command.Work.{Work}
 use Rattle.command_line.specs.declared.command.Work.TheVariants.{Answer, Expand, Check}
 
@@ -32,11 +32,15 @@ bare_app =
     let program = new_app (codes "farm") in
     record program { top = record program.top { no_binary_name = true; subcommand_required = true; arg_required_else_help = true } }
 
--- the program with its five commands
+-- the command `render`, which takes nothing
+abbrev pub render_app : App
+render_app = new_app (codes "render")
+
+-- the program with its six commands
 abbrev pub farm_app : App
 farm_app =
-    with_subcommand (with_subcommand (with_subcommand (with_subcommand (with_subcommand bare_app (with_disk (codes "answer")).top) (with_farm (codes "expand")).top) (with_disk (codes "check")).top)
-    sign_app.top) bulk_app.top
+    with_subcommand (with_subcommand (with_subcommand (with_subcommand (with_subcommand (with_subcommand bare_app (with_disk (codes "answer")).top) (with_farm (codes "expand")).top)
+    (with_disk (codes "check")).top) sign_app.top) bulk_app.top) render_app.top
 
 -- the work of a name, with this disk
 abbrev pub work_named : List ℕ → Option (List ℕ) → Option Work
@@ -56,6 +60,7 @@ abbrev pub command_in : List ℕ × List Row → Option Command
 command_in met =
     if bytes_eq met.0 (codes "sign") then option_map (λ signing. Sign signing) (signing_in met.1)
     else if bytes_eq met.0 (codes "bulk") then option_map (λ load. Bulk load) (load_in met.1)
+    else if bytes_eq met.0 (codes "render") then Some Render
     else work_in met.0 met.1
 
 -- clap finds no fault in the words, and no request for help

@@ -11,6 +11,8 @@ pub enum Command {
     Sign { signing: Signing },
     /// A generated load over a farm in memory.
     Bulk { load: Load },
+    /// A template is rendered.
+    Render,
 }
 
 /// What is done over a farm. A disk has a name, and keeps the farm; without one nothing does.

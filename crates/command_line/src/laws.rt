@@ -1,8 +1,8 @@
 //! What follows from the definitions. The functions do nothing: each contract is a law.
 ghost use Rattle.std.specs.Prelude.{◌≡◌, ◌↔◌, ℕ, List, [], ◌∷◌, Some, None, All, IsUtf8};
-ghost use Rattle.command_line.specs.Forms.{SaysWork};
+ghost use Rattle.command_line.specs.Forms.{SaysRender, SaysWork};
 ghost use Rattle.command_line.specs.Words.{disk_of, reading, name_of, IsPlain};
-ghost use Rattle.command_line.specs.declared.command.Command.TheVariants.{OverFarm};
+ghost use Rattle.command_line.specs.declared.command.Command.TheVariants.{OverFarm, Render};
 ghost use Rattle.command_line.specs.declared.command.Work.{Work as AnyWork};
 
 /// Each work over a farm that no disk keeps is read with any farm file whose name does not begin with `-`.
@@ -15,4 +15,9 @@ pub fn plain_words_are_read()
 pub fn words_that_say_a_command_are_read()
     ensures { (words : List (List ℕ)) (farm : List ℕ) (work : AnyWork) → All IsUtf8 words
         → ((reading words ≡ Some (OverFarm farm work)) ↔ SaysWork farm work words) }
+{}
+
+/// Of all texts exactly these are read as `render`: this one word, alone or before a last `--`.
+pub fn words_that_say_render_are_read()
+    ensures { (words : List (List ℕ)) → All IsUtf8 words → ((reading words ≡ Some Render) ↔ SaysRender words) }
 {}

@@ -10,7 +10,9 @@ mod signing;
 mod values;
 
 pub use command::{Command, Work};
-pub use laws::{plain_words_are_read, words_that_say_a_command_are_read};
+pub use laws::{
+    plain_words_are_read, words_that_say_a_command_are_read, words_that_say_render_are_read,
+};
 pub use load::Load;
 pub use reading::{WordsFault, read_words};
 pub use signing::Signing;

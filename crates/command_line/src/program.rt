@@ -4,7 +4,7 @@ ghost use Rattle.clap.specs.Words.{app_of, new_app, rule_of};
 ghost use Rattle.command_line.specs.Load.{bulk_app};
 ghost use Rattle.command_line.specs.Parts.{IsDiskLeaf, IsLeaf, IsPlainLeaf};
 ghost use Rattle.command_line.specs.Signing.{option_rule, request_fields, sign_app, with_fields};
-ghost use Rattle.command_line.specs.Words.{bare_app, disk_option, farm_app, farm_argument};
+ghost use Rattle.command_line.specs.Words.{bare_app, disk_option, farm_app, farm_argument, render_app};
 
 use clap::{Arg, Command};
 use std::alloc::{AllocError, Global};
@@ -119,6 +119,12 @@ fn bulk<'a>(alloc: Global) -> Result<Command<'a>, AllocError>
         .arg(option(alloc, "tasks", true, "How many tasks it creates."))
 }
 
+fn render<'a>(alloc: Global) -> Command<'a>
+    ensures { IsPlainLeaf render_app result }
+{
+    Command::new(alloc, "render").about("Renders the template of an input with its context.")
+}
+
 /// The program without its commands. Its words come without its name.
 fn without_commands<'a>(alloc: Global) -> Result<Command<'a>, AllocError>
     ensures { IfOk result (λ program. app_of program ≡ bare_app) }
@@ -142,5 +148,6 @@ pub(crate) fn farm<'a>(alloc: Global) -> Result<Command<'a>, AllocError>
         .subcommand(expand(alloc)?)?
         .subcommand(check(alloc)?)?
         .subcommand(sign(alloc)?)?
-        .subcommand(bulk(alloc)?)
+        .subcommand(bulk(alloc)?)?
+        .subcommand(render(alloc))
 }

@@ -80,6 +80,9 @@ fn command_of(alloc: Global, matches: &ArgMatches<'_>) -> Result<Command, WordsF
             Err(fault) => Err(fault),
         };
     }
+    if name == "render" {
+        return Ok(Command::Render);
+    }
     read_work(alloc, name, inner)
 }
 

@@ -5,6 +5,7 @@ ghost use Rattle.farm_bulk.specs.Still.{midnight};
 
 use crate::requests::task_of;
 use farm_text::{Clock, Draws, Moment, SlugId};
+use std::alloc::AllocError;
 use std::marker::Model;
 
 /// 2024-01-01T00:00:00.000Z, in milliseconds since 1970-01-01T00:00:00Z.
@@ -52,6 +53,10 @@ impl Clock for StillClock {
         };
         moment
     }
+
+    fn fork(&mut self) -> Result<StillClock, AllocError> {
+        Ok(StillClock::new())
+    }
 }
 
 /// Draws that always give 00000000-0000-4000-8000-000000000000.
@@ -92,5 +97,9 @@ impl Draws for StillDraws {
     fn draw(&mut self) -> SlugId {
         self.calls = self.calls.saturating_add(1);
         task_of(0)
+    }
+
+    fn fork(&mut self) -> Result<StillDraws, AllocError> {
+        Ok(StillDraws::new())
     }
 }

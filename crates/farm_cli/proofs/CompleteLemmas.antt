@@ -4,7 +4,7 @@ use Rattle.std.specs.Prelude.{IfSome}
 use Rattle.std.specs.Io.KnownBytes.{Appends}
 use Rattle.causes.specs.Causes.{Rose}
 use Rattle.command_line.specs.declared.command.Command.{Command}
-use Rattle.command_line.specs.declared.command.Command.TheVariants.{OverFarm, Sign, Bulk}
+use Rattle.command_line.specs.declared.command.Command.TheVariants.{OverFarm, Sign, Bulk, Render}
 use Rattle.command_line.specs.declared.command.Work.{Work}
 use Rattle.command_line.specs.declared.command.Work.TheVariants.{Answer, Expand, Check}
 use Rattle.command_line.specs.declared.load.Load.{Load}
@@ -42,7 +42,7 @@ use Rattle.farm_cli.specs.declared.status.Status.{Status}
 use Rattle.farm_cli.specs.declared.status.Status.TheVariants.{Done, Usage, FarmFile, Input, Opening, Disk, Read, Write, NoMemory, Wire, Damaged}
 use Rattle.farm_cli.specs.Checking.{CheckedOver, Checks, check_text, disk_text}
 use Rattle.farm_cli.specs.Disks.{BeginsFrom, IsRefusedFor, status_of_fault}
-use Rattle.farm_cli.specs.Complete.{stop_status, status_for, own_text, HasFile, NoFileFault, HasDisk, NoDiskFault, HasSoundDisk, NoConsoleFault, AnswersAll, Answers, WritesAll, Finishes, FinishesSigning, Completes, CompletesLoad, CompletesSigning, RefusesFile, RefusesDisk, MissesFile, MissesDisk, TellsUsage}
+use Rattle.farm_cli.specs.Complete.{stop_status, status_for, own_text, HasFile, NoFileFault, HasDisk, NoDiskFault, HasSoundDisk, NoConsoleFault, AnswersAll, Answers, WritesAll, Finishes, FinishesSigning, Completes, CompletesLoad, CompletesRendering, CompletesSigning, RefusesFile, RefusesDisk, MissesFile, MissesDisk, TellsUsage}
 use Rattle.farm_cli.specs.Expanding.{IsExpansion, IsBadInput, Expands}
 use Rattle.farm_cli.specs.FarmFile.{SetsUp, HasFault, FileRefused}
 use Rattle.farm_cli.specs.House.{Files, Held, holds, refuses, unopened, back, WasLent, WasOpened, Lendings}
@@ -50,6 +50,7 @@ use Rattle.farm_cli.specs.Inputs.{Tells, Turns}
 use Rattle.farm_cli.specs.Run.{DidOver, Obeyed, RanOverFile, RanOver, RanCommand, Ran}
 use Rattle.farm_cli.specs.Serving.{status_of, status_over, IsHistoryOf, ConversedOver}
 use Rattle.farm_cli.specs.Loading.{IsLoadLine, Loads}
+use Rattle.farm_cli.specs.Rendering.{IsRendering, IsUnrendered, Renders}
 use Rattle.farm_cli.specs.Signing.{IsSigned, IsTooLong, Signs, SignsAs, signed_line}
 use Rattle.farm_cli.specs.Views.{Views, outside_of, talk_of}
 
@@ -536,6 +537,23 @@ CompletesLoad-from_run {F} {C} views old new before now said status ran = λ loa
             let came_back = rw ready at used.console.returned in
             finishes_load views new load status console used.back some came_back well
             (subst (λ (x : C). Loads load (talk_of views x) (talk_of views used.back) status) given used.did)
+            )
+      ]
+    ]
+
+pub CompletesRendering-from_run : {F S C N T I : Type 0} (views : Views F S C N T I) (old new : Lendings F S C N T I) (before now : ℕ) (said : Option Command) (status : Status)
+    → Ran views old new before now said status → CompletesRendering views old new said status
+CompletesRendering-from_run {F} {C} views old new before now said status ran = λ input console asked ready known well.
+    elim (run_of views old new before now said Render status asked ran) [
+      | inl none ↦ inl none
+      | inr rendered ↦ elim (is_memory status) [
+        | inl none ↦ inl none
+        | inr some ↦ inr (
+            let used = rendered.used in
+            let given = rw ready at used.console.could in
+            let came_back = rw ready at used.console.returned in
+            turns_all views new IsRendering IsUnrendered status console used.back input some came_back known (well.reads used.back came_back) (well.writes used.back came_back)
+            (subst (λ (x : C). Renders (talk_of views x) (talk_of views used.back) status) given used.did)
             )
       ]
     ]

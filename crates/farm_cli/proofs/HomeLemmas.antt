@@ -1,7 +1,7 @@
 -- All that a run asked for is home again.
 use Rattle.std.proofs.Common.{◌≡◌, ℕ, List, Option, Some, None, refl, sym, ◌∙◌, inl, inr}
 use Rattle.command_line.specs.declared.command.Command.{Command}
-use Rattle.command_line.specs.declared.command.Command.TheVariants.{OverFarm, Sign, Bulk}
+use Rattle.command_line.specs.declared.command.Command.TheVariants.{OverFarm, Sign, Bulk, Render}
 use Rattle.command_line.specs.declared.command.Work.{Work}
 use Rattle.command_line.specs.declared.command.Work.TheVariants.{Answer, Expand, Check}
 use Rattle.farm_machine.specs.declared.config.Config.{Config}
@@ -123,6 +123,7 @@ ConsoleHome-command views old new before now (OverFarm farm work) status (inl ra
 ConsoleHome-command views old new before now (OverFarm farm work) status (inr ran) = ConsoleHome-over views old new before now work ran.opened ran.closed status ran.ran
 ConsoleHome-command views old new before now (Sign signing) status ran = ConsoleHome-used views old new _ ran.used
 ConsoleHome-command views old new before now (Bulk load) status ran = ConsoleHome-used views old new _ ran.used
+ConsoleHome-command views old new before now Render status ran = ConsoleHome-used views old new _ ran.used
 
 ConsoleHome-ran : {F S C N T I : Type 0} (views : Views F S C N T I) (old new : Lendings F S C N T I) (before now : ℕ) (said : Option Command) (status : Status) → Ran views old new before now said status → ConsoleHome old new
 ConsoleHome-ran views old new before now said status (inl ran) = ConsoleHome-left old new ran.others
@@ -133,6 +134,7 @@ AreHome-command views old new before now (OverFarm farm work) status (inl ran) =
 AreHome-command views old new before now (OverFarm farm work) status (inr ran) = AreHome-opened old.file new.file farm ran.opened ran.closed ran.file
 AreHome-command views old new before now (Sign signing) status ran = AreHome-same old.file new.file ran.file
 AreHome-command views old new before now (Bulk load) status ran = AreHome-same old.file new.file ran.file
+AreHome-command views old new before now Render status ran = AreHome-same old.file new.file ran.file
 
 AreHome-ran : {F S C N T I : Type 0} (views : Views F S C N T I) (old new : Lendings F S C N T I) (before now : ℕ) (said : Option Command) (status : Status) → Ran views old new before now said status → AreHome old.file new.file
 AreHome-ran views old new before now said status (inl ran) = AreHome-same old.file new.file ran.file

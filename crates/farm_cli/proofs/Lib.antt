@@ -5,5 +5,6 @@ mod HomeLemmas
 mod InputLemmas
 mod NoteLemmas
 pub mod ReasonLemmas
+mod RenderingLemmas
 pub mod RunLemmas
 pub mod RunsLemmas

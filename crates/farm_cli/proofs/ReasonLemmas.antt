@@ -2,7 +2,7 @@
 use Rattle.std.proofs.Common.{◌≡◌, ℕ, ◌≤◌, ◌⊎◌, Bool, true, false, List, length, Option, Some, None, refl, ap, ◌∙◌, subst, inl, inr}
 use Rattle.std.specs.Prelude.{IfSome}
 use Rattle.command_line.specs.declared.command.Command.{Command}
-use Rattle.command_line.specs.declared.command.Command.TheVariants.{OverFarm, Sign, Bulk}
+use Rattle.command_line.specs.declared.command.Command.TheVariants.{OverFarm, Sign, Bulk, Render}
 use Rattle.command_line.specs.declared.command.Work.{Work}
 use Rattle.command_line.specs.declared.command.Work.TheVariants.{Answer, Expand, Check}
 use Rattle.command_line.specs.declared.load.Load.{Load}
@@ -30,10 +30,11 @@ use Rattle.farm_cli.specs.Inputs.{Tells, longest_input}
 use Rattle.farm_cli.specs.Expanding.{IsExpansion, Expands}
 use Rattle.farm_cli.specs.FarmFile.{SetsUp, FileRefused}
 use Rattle.farm_cli.specs.House.{WasLent, WasOpened, Lendings}
-use Rattle.farm_cli.specs.Reasons.{DiskMet, FileLent, FileTaken, KeepsDisk, SigningTaken, LoadTaken, ConsoleFailed, EndsWith, IsDone, IsRefused, IsCut, IsSigningDone, IsSigningRefused, IsSigningUnread, HasReason}
+use Rattle.farm_cli.specs.Reasons.{DiskMet, FileLent, FileTaken, KeepsDisk, SigningTaken, LoadTaken, RenderingTaken, ConsoleFailed, EndsWith, IsDone, IsRefused, IsCut, IsSigningDone, IsSigningRefused, IsSigningUnread, HasReason}
 use Rattle.farm_cli.specs.Run.{DidOver, Obeyed, RanOverFile, RanCommand, Ran}
 use Rattle.farm_cli.specs.Serving.{status_of, status_over, Conversed, ConversedOver}
 use Rattle.farm_cli.specs.Loading.{Loads}
+use Rattle.farm_cli.specs.Rendering.{IsRendering, Renders}
 use Rattle.farm_cli.specs.Signing.{IsSigned, Signs, SignsAs}
 use Rattle.farm_cli.specs.Views.{Views, outside_of, talk_of}
 
@@ -355,12 +356,12 @@ HasReason-signed views old new before now said signing given back Done ran did =
 HasReason-signed views old new before now said signing given back Usage ran did = absurd (never_usage signing signing.content_type _ _ did)
 HasReason-signed views old new before now said signing given back FarmFile ran did = absurd (never_farm_file signing signing.content_type _ _ did)
 HasReason-signed views old new before now said signing given back Input ran did =
-    (ran.openings, inr (SigningTaken-from old new before now said signing given back _ ran (signing_refused views old new signing given back ran.lent signing.content_type did)))
+    (ran.openings, inr (inl (SigningTaken-from old new before now said signing given back _ ran (signing_refused views old new signing given back ran.lent signing.content_type did))))
 HasReason-signed views old new before now said signing given back Opening ran did = absurd (never_opening signing signing.content_type _ _ did)
 HasReason-signed views old new before now said signing given back Disk ran did = absurd (never_disk signing signing.content_type _ _ did)
 HasReason-signed views old new before now said signing given back Damaged ran did = absurd (never_damaged signing signing.content_type _ _ did)
 HasReason-signed views old new before now said signing given back Read ran did =
-    (ran.openings, inr (inr (SigningTaken-from old new before now said signing given back _ ran (signing_unread views old new signing given back ran.lent signing.content_type did))))
+    (ran.openings, inr (inr (inl (SigningTaken-from old new before now said signing given back _ ran (signing_unread views old new signing given back ran.lent signing.content_type did)))))
 HasReason-signed views old new before now said signing given back Write ran did =
     (ran.openings, inr (inl (SigningTaken-from old new before now said signing given back _ ran (signing_unwritten views old new signing given back ran.lent signing.content_type did))))
 HasReason-signed views old new before now said signing given back NoMemory ran did = tt
@@ -383,8 +384,8 @@ HasReason-loaded : {F S C N T I : Type 0} (views : Views F S C N T I) (old new :
     → Loaded old new before now said load given back → Loads load (talk_of views given) (talk_of views back) status → HasReason views old new before now said status
 HasReason-loaded views old new before now said load given back Done ran did = (
   ran.openings,
-  inr (inr (LoadTaken-from old new before now said load given back _ ran
-      (record { given = given; back = back; lent = ran.lent; reads_kept = did.2.0.faults; writes_kept = did.2.1.1; held = anything (views.console_left given) }))),
+  inr (inr (inl (LoadTaken-from old new before now said load given back _ ran
+      (record { given = given; back = back; lent = ran.lent; reads_kept = did.2.0.faults; writes_kept = did.2.1.1; held = anything (views.console_left given) })))),
 )
 HasReason-loaded views old new before now said load given back Usage ran did = absurd did.2.1
 HasReason-loaded views old new before now said load given back FarmFile ran did = absurd did.2.1
@@ -395,11 +396,57 @@ HasReason-loaded views old new before now said load given back Damaged ran did =
 HasReason-loaded views old new before now said load given back Read ran did = absurd did.2.1
 HasReason-loaded views old new before now said load given back Write ran did = (
   ran.openings,
-  inr (inr (LoadTaken-from old new before now said load given back _ ran
-      (record { given = given; back = back; lent = ran.lent; rose = did.2.1.1; kept = did.2.0.faults }))),
+  inr (inr (inl (LoadTaken-from old new before now said load given back _ ran
+      (record { given = given; back = back; lent = ran.lent; rose = did.2.1.1; kept = did.2.0.faults })))),
 )
 HasReason-loaded views old new before now said load given back NoMemory ran did = tt
 HasReason-loaded views old new before now said load given back Wire ran did = absurd did.2.1
+
+-- ---- a template is rendered
+
+-- what is known of its run
+record Rendered {F S C N T I : Type 0} (old new : Lendings F S C N T I) (before now : ℕ) (said : Option Command) (given back : C) : Type 0 where
+  openings : now ≡ before
+  asked : said ≡ Some Render
+  file : new.file ≡ old.file
+  lent : WasLent old.console new.console given back
+
+RenderingTaken-from : {F S C N T I : Type 0} (old new : Lendings F S C N T I) (before now : ℕ) (said : Option Command) (given back : C) (IsSo : Type 0)
+    → Rendered old new before now said given back → IsSo → RenderingTaken old new said IsSo
+RenderingTaken-from old new before now said given back IsSo ran so = record { asked = ran.asked; file = ran.file; is_so = so }
+
+-- an input that has this rendering has one
+has_rendering : (left : Option (List ℕ)) (text : List ℕ) → IfSome left (λ input. IsRendering input text) → IfSome left (λ input. (t : List ℕ) × IsRendering input t)
+has_rendering None text h = tt
+has_rendering (Some input) text h = (text, h)
+
+HasReason-rendered : {F S C N T I : Type 0} (views : Views F S C N T I) (old new : Lendings F S C N T I) (before now : ℕ) (said : Option Command) (given back : C) (status : Status)
+    → Rendered old new before now said given back → Renders (talk_of views given) (talk_of views back) status → HasReason views old new before now said status
+HasReason-rendered views old new before now said given back Done ran did = (
+  ran.openings,
+  inr (inr (inr (RenderingTaken-from old new before now said given back _ ran
+      (record { given = given; back = back; lent = ran.lent; reads_kept = did.3; writes_kept = did.4.1; held = has_rendering (views.console_left given) did.0 did.1 })))),
+)
+HasReason-rendered views old new before now said given back Usage ran did = absurd did.4
+HasReason-rendered views old new before now said given back FarmFile ran did = absurd did.4
+HasReason-rendered views old new before now said given back Input ran did = (
+  ran.openings,
+  inr (inr (RenderingTaken-from old new before now said given back _ ran
+      (record { given = given; back = back; lent = ran.lent; reads_kept = did.1; writes_kept = did.2.faults; held = did.0 }))),
+)
+HasReason-rendered views old new before now said given back Opening ran did = absurd did.4
+HasReason-rendered views old new before now said given back Disk ran did = absurd did.4
+HasReason-rendered views old new before now said given back Damaged ran did = absurd did.4
+HasReason-rendered views old new before now said given back Read ran did = (
+  ran.openings,
+  inr (inr (inr (RenderingTaken-from old new before now said given back _ ran (record { given = given; back = back; lent = ran.lent; rose = did.0; kept = did.1.faults })))),
+)
+HasReason-rendered views old new before now said given back Write ran did = (
+  ran.openings,
+  inr (inr (inr (RenderingTaken-from old new before now said given back _ ran (record { given = given; back = back; lent = ran.lent; rose = did.4.1; kept = did.3 })))),
+)
+HasReason-rendered views old new before now said given back NoMemory ran did = tt
+HasReason-rendered views old new before now said given back Wire ran did = absurd did.4
 
 -- ---- a run
 
@@ -413,6 +460,9 @@ HasReason-command views old new before now said (Sign signing) status asked ran 
     (record { openings = ran.openings; asked = asked; file = ran.file; lent = ran.used.console }) ran.used.did
 HasReason-command views old new before now said (Bulk load) status asked ran =
     HasReason-loaded views old new before now said load ran.used.given ran.used.back status
+    (record { openings = ran.openings; asked = asked; file = ran.file; lent = ran.used.console }) ran.used.did
+HasReason-command views old new before now said Render status asked ran =
+    HasReason-rendered views old new before now said ran.used.given ran.used.back status
     (record { openings = ran.openings; asked = asked; file = ran.file; lent = ran.used.console }) ran.used.did
 
 HasReason-words : {F S C N T I : Type 0} (views : Views F S C N T I) (old new : Lendings F S C N T I) (before now : ℕ) (said : Option Command) (status : Status)

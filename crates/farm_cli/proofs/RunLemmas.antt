@@ -12,7 +12,7 @@ use Rattle.farm_core.specs.Opened.{IsFarmDamaged}
 use Rattle.farm_core.specs.Records.{AreRecords, Recorded}
 use Rattle.farm_core.proofs.HoldLemmas.{holds-opened}
 use Rattle.command_line.specs.declared.command.Command.{Command}
-use Rattle.command_line.specs.declared.command.Command.TheVariants.{OverFarm, Sign, Bulk}
+use Rattle.command_line.specs.declared.command.Command.TheVariants.{OverFarm, Sign, Bulk, Render}
 use Rattle.command_line.specs.declared.command.Work.{Work}
 use Rattle.command_line.specs.declared.command.Work.TheVariants.{Answer, Expand, Check}
 use Rattle.command_line.specs.declared.load.Load.{Load}
@@ -35,7 +35,7 @@ use Rattle.farm_machine.specs.declared.config.ConfigCounts.{ConfigCounts}
 use Rattle.farm_cli.specs.Disks.{BeginsFrom, DiskHolds, HasFarm, IsMissing, IsRefusedFor, WasUnopened}
 use Rattle.farm_cli.specs.House.{CanGive, after_giving, after_return, WasLent, after_opened, after_closing, CanOpenAmong, WasOpened, Lendings}
 use Rattle.farm_cli.specs.Used.{LeavesConsole, UsedConsole}
-use Rattle.farm_cli.specs.Run.{DidOver, Obeyed, RanOverFile, RanLoad, RanSigning, RanCommand, Ran}
+use Rattle.farm_cli.specs.Run.{DidOver, Obeyed, RanOverFile, RanLoad, RanRendering, RanSigning, RanCommand, Ran}
 use Rattle.farm_cli.specs.Serving.{IsHistoryOf, Conversed, ConversedOver, status_of, status_over}
 use Rattle.http_wire.specs.Calls.{LinkState}
 use Rattle.farm_cli.specs.Views.{Views, outside_of, talk_of}
@@ -427,6 +427,11 @@ pub RanCommand-loaded : {F S C N T I : Type 0} (views : Views F S C N T I) (old 
     → command ≡ Bulk load → RanLoad views old new before now load status → RanCommand views old new before now command status
 RanCommand-loaded views old new before now command load status is ran = subst (λ c. RanCommand views old new before now c status) (sym is) ran
 
+-- a template was rendered
+pub RanCommand-rendered : {F S C N T I : Type 0} (views : Views F S C N T I) (old new : Lendings F S C N T I) (before now : ℕ) (command : Command) (status : Status)
+    → command ≡ Render → RanRendering views old new before now status → RanCommand views old new before now command status
+RanCommand-rendered views old new before now command status is ran = subst (λ c. RanCommand views old new before now c status) (sym is) ran
+
 -- ---- a run is the same run where later only what is said of notes changes
 
 RanCommand-notes : {F S C N T I : Type 0} (views : Views F S C N T I) (old new new' : Lendings F S C N T I) (before now : ℕ) (command : Command) (status : Status)
@@ -451,6 +456,11 @@ RanCommand-notes views old new new' before now (Sign signing) status file after 
   used = UsedConsole-same views old old new new' _ (LeavesConsole-none old) after h.used;
 }
 RanCommand-notes views old new new' before now (Bulk load) status file after h = record {
+  openings = h.openings;
+  file = file ∙ h.file;
+  used = UsedConsole-same views old old new new' _ (LeavesConsole-none old) after h.used;
+}
+RanCommand-notes views old new new' before now Render status file after h = record {
   openings = h.openings;
   file = file ∙ h.file;
   used = UsedConsole-same views old old new new' _ (LeavesConsole-none old) after h.used;

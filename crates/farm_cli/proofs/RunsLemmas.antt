@@ -7,7 +7,7 @@ use Rattle.farm_cli.specs.House.{Lendings}
 use Rattle.farm_cli.specs.Run.{Ran}
 use Rattle.farm_cli.specs.Runs.{Runs}
 use Rattle.farm_cli.specs.Views.{Views}
-use Rattle.farm_cli.proofs.CompleteLemmas.{Completes-from_run, CompletesLoad-from_run, CompletesSigning-from_run, RefusesFile-from_run, RefusesDisk-from_run, MissesFile-from_run, MissesDisk-from_run, TellsUsage-from_run}
+use Rattle.farm_cli.proofs.CompleteLemmas.{Completes-from_run, CompletesLoad-from_run, CompletesRendering-from_run, CompletesSigning-from_run, RefusesFile-from_run, RefusesDisk-from_run, MissesFile-from_run, MissesDisk-from_run, TellsUsage-from_run}
 use Rattle.farm_cli.proofs.ReasonLemmas.{HasReason-from_run}
 
 pub Runs-from_run : {F S C N T I : Type 0} (views : Views F S C N T I) (old new : Lendings F S C N T I) (before now : ℕ) (said : Option Command) (status : Status) → OneChange
@@ -23,4 +23,5 @@ Runs-from_run views old new before now said status one ran = record {
   complete = Completes-from_run views old new before now said status ran;
   signs = CompletesSigning-from_run views old new before now said status ran;
   loads = CompletesLoad-from_run views old new before now said status ran;
+  renders = CompletesRendering-from_run views old new before now said status ran;
 }

@@ -3,7 +3,7 @@ use Rattle.std.specs.Prelude.{◌≡◌, ℕ, ◌⊎◌, List, [], ◌++◌, len
 use Rattle.std.specs.Io.KnownBytes.{Appends}
 use Rattle.causes.specs.Causes.{Rose}
 use Rattle.command_line.specs.declared.command.Command.{Command}
-use Rattle.command_line.specs.declared.command.Command.TheVariants.{OverFarm, Sign, Bulk}
+use Rattle.command_line.specs.declared.command.Command.TheVariants.{OverFarm, Sign, Bulk, Render}
 use Rattle.command_line.specs.declared.command.Work.{Work}
 use Rattle.command_line.specs.declared.command.Work.TheVariants.{Answer, Expand, Check}
 use Rattle.command_line.specs.declared.load.Load.{Load}
@@ -31,6 +31,7 @@ use Rattle.farm_cli.specs.Expanding.{IsExpansion, IsBadInput}
 use Rattle.farm_cli.specs.FarmFile.{SetsUp, HasFault}
 use Rattle.farm_cli.specs.House.{Held, holds, refuses, unopened, back, Lendings}
 use Rattle.farm_cli.specs.Loading.{IsLoadLine}
+use Rattle.farm_cli.specs.Rendering.{IsRendering, IsUnrendered}
 use Rattle.farm_cli.specs.Serving.{IsHistoryOf}
 use Rattle.farm_cli.specs.Signing.{signed_line, IsSigned, IsTooLong}
 use Rattle.farm_cli.specs.Views.{Views}
@@ -147,6 +148,12 @@ abbrev pub CompletesLoad : {F S C N T I : Type 0} → Views F S C N T I → Lend
 CompletesLoad {F} {C} views old new said status =
     (load : Load) (console : C) → said ≡ Some (Bulk load) → old.console ≡ Ready console → NoConsoleFault views new console
     → (status ≡ NoMemory) ⊎ ((text : List ℕ) × IsLoadLine load text × WritesAll views new console text status)
+
+-- Over a console that does not fail a run writes the rendering of its input or refuses the input, or memory runs out.
+abbrev pub CompletesRendering : {F S C N T I : Type 0} → Views F S C N T I → Lendings F S C N T I → Lendings F S C N T I → Option Command → Status → Type 0
+CompletesRendering {F} {C} views old new said status =
+    (input : List ℕ) (console : C) → said ≡ Some Render → old.console ≡ Ready console → views.console_left console ≡ Some input → NoConsoleFault views new console
+    → (status ≡ NoMemory) ⊎ (((text : List ℕ) × IsRendering input text × WritesAll views new console text status) ⊎ (IsUnrendered input × (status ≡ Input)))
 
 -- Over a farm file that breaks no rule and a console that does not fail, a run finishes its work, or memory runs out.
 abbrev pub Completes : {F S C N T I : Type 0} → Views F S C N T I → Lendings F S C N T I → Lendings F S C N T I → ℕ → ℕ → Option Command → Status → Type 0

@@ -10,6 +10,7 @@ pub mod MemoryHouse
 pub mod Loading
 pub mod Notes
 pub mod Reasons
+pub mod Rendering
 pub mod Run
 pub mod Runs
 pub mod Serving

@@ -2,7 +2,7 @@
 use Rattle.std.specs.Prelude.{◌≡◌, ℕ, ◌≤◌, ◌⊎◌, List, length, Option, Some, None, IfSome}
 use Rattle.causes.specs.Causes.{Rose}
 use Rattle.command_line.specs.declared.command.Command.{Command}
-use Rattle.command_line.specs.declared.command.Command.TheVariants.{OverFarm, Sign, Bulk}
+use Rattle.command_line.specs.declared.command.Command.TheVariants.{OverFarm, Sign, Bulk, Render}
 use Rattle.command_line.specs.declared.command.Work.{Work}
 use Rattle.command_line.specs.declared.command.Work.TheVariants.{Answer, Expand, Check}
 use Rattle.command_line.specs.declared.load.Load.{Load}
@@ -20,6 +20,7 @@ use Rattle.farm_cli.specs.Expanding.{IsExpansion, IsBadInput}
 use Rattle.farm_cli.specs.FarmFile.{SetsUp, HasFault}
 use Rattle.farm_cli.specs.House.{WasLent, WasOpened, Lendings}
 use Rattle.farm_cli.specs.Inputs.{longest_input}
+use Rattle.farm_cli.specs.Rendering.{IsRendering, IsUnrendered}
 use Rattle.farm_cli.specs.Serving.{status_of}
 use Rattle.farm_cli.specs.Signing.{IsTooLong}
 use Rattle.farm_cli.specs.Views.{Views}
@@ -125,6 +126,12 @@ pub record LoadTaken {F S C N T I : Type 0} (old new : Lendings F S C N T I) (sa
   pub file : new.file ≡ old.file
   pub is_so : IsSo
 
+-- a template was to be rendered, no farm file was asked for, and this is so
+pub record RenderingTaken {F S C N T I : Type 0} (old new : Lendings F S C N T I) (said : Option Command) (IsSo : Type 0) : Type 0 where
+  pub asked : said ≡ Some Render
+  pub file : new.file ≡ old.file
+  pub is_so : IsSo
+
 -- work over a farm is done: the messages of `answer` end well, the input of `expand` has an expansion
 abbrev pub IsDone : {F S C N T I : Type 0} → Views F S C N T I → Lendings F S C N T I → Lendings F S C N T I → Config → Work → Type 0
 IsDone views old new config (Answer disk) = ConsoleHeld views old new (λ bytes. EndsWith bytes Done)
@@ -163,22 +170,26 @@ abbrev pub HasReason : {F S C N T I : Type 0} → Views F S C N T I → Lendings
 HasReason views old new before now said Done =
     (now ≡ before) × (FileTaken views old new said (IsDone views old new)
     ⊎ (SigningTaken old new said (λ signing. IsSigningDone views old new signing.content_type)
-    ⊎ LoadTaken old new said (ConsoleHeld views old new (λ bytes. Unit {0}))))
+    ⊎ (LoadTaken old new said (ConsoleHeld views old new (λ bytes. Unit {0}))
+    ⊎ RenderingTaken old new said (ConsoleHeld views old new (λ input. (text : List ℕ) × IsRendering input text)))))
 HasReason views old new before now said Usage = said ≡ None
 HasReason views old new before now said FarmFile = (now ≡ before) × FileHasFault views old new said
 HasReason views old new before now said Input =
     (now ≡ before) × (FileTaken views old new said (IsRefused views old new)
-    ⊎ SigningTaken old new said (λ signing. IsSigningRefused views old new signing.content_type))
+    ⊎ (SigningTaken old new said (λ signing. IsSigningRefused views old new signing.content_type)
+    ⊎ RenderingTaken old new said (ConsoleHeld views old new IsUnrendered)))
 HasReason views old new before now said Opening = Rose before now
 HasReason views old new before now said Disk = Rose before now ⊎ ((now ≡ before) × DiskFailed views old new said)
 HasReason views old new before now said Read =
     (now ≡ before) × (FileFailed views old new said
     ⊎ (FileTaken views old new said (λ config work. ConsoleFailed views.console_read_faults views.console_write_faults old new)
-    ⊎ SigningTaken old new said (λ signing. IsSigningUnread views old new signing.content_type)))
+    ⊎ (SigningTaken old new said (λ signing. IsSigningUnread views old new signing.content_type)
+    ⊎ RenderingTaken old new said (ConsoleFailed views.console_read_faults views.console_write_faults old new))))
 HasReason views old new before now said Write =
     (now ≡ before) × (FileTaken views old new said (λ config work. ConsoleFailed views.console_write_faults views.console_read_faults old new)
     ⊎ (SigningTaken old new said (λ signing. ConsoleFailed views.console_write_faults views.console_read_faults old new)
-    ⊎ LoadTaken old new said (ConsoleFailed views.console_write_faults views.console_read_faults old new)))
+    ⊎ (LoadTaken old new said (ConsoleFailed views.console_write_faults views.console_read_faults old new)
+    ⊎ RenderingTaken old new said (ConsoleFailed views.console_write_faults views.console_read_faults old new))))
 HasReason views old new before now said NoMemory = Unit {0}
 HasReason views old new before now said Wire = (now ≡ before) × FileTaken views old new said (IsCut views old new)
 HasReason views old new before now said Damaged = (now ≡ before) × DiskDamaged views old new said

@@ -2,7 +2,7 @@
 use Rattle.std.specs.Prelude.{◌≡◌, ℕ, ◌+◌, ◌⊎◌, List, Option, Some, None, IfSome, Err}
 use Rattle.causes.specs.Causes.{Rose}
 use Rattle.command_line.specs.declared.command.Command.{Command}
-use Rattle.command_line.specs.declared.command.Command.TheVariants.{OverFarm, Sign, Bulk}
+use Rattle.command_line.specs.declared.command.Command.TheVariants.{OverFarm, Sign, Bulk, Render}
 use Rattle.command_line.specs.declared.command.Work.{Work}
 use Rattle.command_line.specs.declared.command.Work.TheVariants.{Answer, Expand, Check}
 use Rattle.command_line.specs.declared.load.Load.{Load}
@@ -18,6 +18,7 @@ use Rattle.farm_cli.specs.Expanding.{Expands}
 use Rattle.farm_cli.specs.FarmFile.{SetsUp, FileRefused}
 use Rattle.farm_cli.specs.House.{CanOpenAmong, WasOpened, Lendings}
 use Rattle.farm_cli.specs.Loading.{Loads}
+use Rattle.farm_cli.specs.Rendering.{Renders}
 use Rattle.farm_cli.specs.Serving.{Conversed, ConversedOver}
 use Rattle.farm_cli.specs.Signing.{Signs}
 use Rattle.farm_cli.specs.Used.{LeavesConsole, UsedConsole}
@@ -70,11 +71,18 @@ pub record RanLoad {F S C N T I : Type 0} (views : Views F S C N T I) (old new :
   pub file : new.file ≡ old.file
   pub used : UsedConsole views old new (λ before after. Loads load before after status)
 
+-- a template was rendered, and no farm file was asked for
+pub record RanRendering {F S C N T I : Type 0} (views : Views F S C N T I) (old new : Lendings F S C N T I) (before now : ℕ) (status : Status) : Type 0 where
+  pub openings : now ≡ before
+  pub file : new.file ≡ old.file
+  pub used : UsedConsole views old new (λ before after. Renders before after status)
+
 -- a command was run
 abbrev pub RanCommand : {F S C N T I : Type 0} → Views F S C N T I → Lendings F S C N T I → Lendings F S C N T I → ℕ → ℕ → Command → Status → Type 0
 RanCommand views old new before now (OverFarm farm work) status = WasRefused old new before now farm status ⊎ RanOver views old new before now farm work status
 RanCommand views old new before now (Sign signing) status = RanSigning views old new before now signing status
 RanCommand views old new before now (Bulk load) status = RanLoad views old new before now load status
+RanCommand views old new before now Render status = RanRendering views old new before now status
 
 -- the words were refused: they have no reading, or memory ran out; and nothing was asked for
 pub record WordsRefused {F S C N T I : Type 0} (old new : Lendings F S C N T I) (before now : ℕ) (said : Option Command) (status : Status) : Type 0 where

@@ -3,6 +3,7 @@ ghost use Rattle.std.specs.Prelude.{◌≡◌, ◌≤◌};
 ghost use Rattle.farm_cli.specs.Checking.{Checks};
 ghost use Rattle.farm_cli.specs.Expanding.{Expands};
 ghost use Rattle.farm_cli.specs.Loading.{Loads};
+ghost use Rattle.farm_cli.specs.Rendering.{Renders};
 ghost use Rattle.farm_cli.specs.Run.{Obeyed};
 ghost use Rattle.farm_cli.specs.Used.{UsedConsole};
 ghost use Rattle.farm_cli.specs.Serving.{Conversed};
@@ -15,6 +16,7 @@ use crate::ended::Ended;
 use crate::expanding::expand;
 use crate::house::House;
 use crate::loading::run_load;
+use crate::rendering::render;
 use crate::signing::sign;
 use command_line::{Load, Signing, Work};
 use farm_core::Bare;
@@ -119,6 +121,20 @@ pub(crate) fn load_over<H: House>(alloc: Global, load: Load, house: &mut H) -> E
 {
     let mut console = house.console();
     let ended = run_load(alloc, load, &mut console);
+    house.back_console(console);
+    ended
+}
+
+/// Renders a template, over the console.
+pub(crate) fn render_over<H: House>(alloc: Global, house: &mut H) -> Ended
+    ensures used { let views = views_of H.File.Source H.Store.Disk H.Console.Link H.Notes.Sink H.Time.Clock H.Ids.Draws in
+        UsedConsole views (H.lends house.old) (H.lends house.new) (λ before after. Renders before after result.status) }
+    ensures file { (H.lends house.new).file ≡ (H.lends house.old).file }
+    ensures notes { (H.lends house.new).notes ≡ (H.lends house.old).notes }
+    ensures refusals { H.refusals house.new ≡ H.refusals house.old }
+{
+    let mut console = house.console();
+    let ended = render(alloc, &mut console);
     house.back_console(console);
     ended
 }

@@ -126,7 +126,7 @@ impl House for HostHouse {
     fn back_clock(&mut self, _clock: HostClock<HostRuntime>) {}
 
     fn draws(&mut self) -> HostDraws {
-        self.draws.fork()
+        self.draws.seed_another()
     }
 
     fn back_draws(&mut self, _draws: HostDraws) {}

@@ -20,6 +20,9 @@ mod lost_tests;
 mod memory_house;
 #[cfg(test)]
 mod note_tests;
+mod rendering;
+#[cfg(test)]
+mod rendering_tests;
 mod run;
 mod signing;
 mod status;

@@ -11,7 +11,7 @@ ghost use Rattle.farm_cli.specs.Run.{Ran, RanCommand, RanOverFile};
 ghost use Rattle.farm_cli.specs.Runs.{Runs};
 ghost use Rattle.farm_cli.specs.Views.{views_of};
 
-use crate::commands::{load_over, obey, sign_over};
+use crate::commands::{load_over, obey, render_over, sign_over};
 use crate::ended::Ended;
 use crate::farm_file::{read_config, unopened};
 use crate::house::House;
@@ -24,9 +24,9 @@ use std::alloc::Global;
 
 /// Runs what the words ask for, over what the house lends: `answer FARM` serves one connection on the console over a farm that begins
 /// without tasks, and `answer FARM --disk NAME` over the farm that a disk keeps, `expand FARM` writes all that the console's scopes give,
-/// `check FARM` counts what the farm file has, and with `--disk NAME` what the disk has, `sign` writes the header that signs a request, and
-/// `bulk` runs a generated load over a farm in memory and writes how its tasks stand then. All that was asked for is given back, and the notes
-/// are told a line where the status is not `Done`.
+/// `check FARM` counts what the farm file has, and with `--disk NAME` what the disk has, `sign` writes the header that signs a request,
+/// `bulk` runs a generated load over a farm in memory and writes how its tasks stand then, and `render` writes the value of the template that
+/// the console gives with its context. All that was asked for is given back, and the notes are told a line where the status is not `Done`.
 ///
 /// The history that `answer` leads through is legal, so the laws of `farm_machine::law` hold of it: a call is denied exactly where its
 /// caller's scopes do not hold what it asks (`a_denial_is_of_scopes_that_are_missing`), a task is created once
@@ -71,6 +71,7 @@ fn run_command<H: House>(alloc: Global, command: &Command, house: &mut H) -> End
         Command::OverFarm { farm, work } => run_over_farm(alloc, farm.as_str(), work, house),
         Command::Sign { signing } => sign_over(alloc, signing, house),
         Command::Bulk { load } => load_over(alloc, *load, house),
+        Command::Render => render_over(alloc, house),
     }
 }
 

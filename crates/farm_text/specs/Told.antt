@@ -1,5 +1,5 @@
 -- What a list tells: its values in order, and after them the last one again.
-use Rattle.std.specs.Prelude.{ℕ, ◌-◌, ◌^◌, List, [], ◌∷◌, map, min, nat_lt, slice_get, unwrap_or, if◌then◌else◌, Option, Some, None}
+use Rattle.std.specs.Prelude.{◌≡◌, ℕ, ◌-◌, ◌^◌, List, [], ◌∷◌, map, min, nat_lt, slice_get, unwrap_or, if◌then◌else◌, Option, Some, None}
 use Rattle.std.specs.List.{range_with_len, last_or}
 use Rattle.farm_text.specs.declared.moment.TheConstants.{LAST_TOLD_MOMENT}
 
@@ -10,6 +10,11 @@ told_at values other k = unwrap_or (slice_get values k) (unwrap_or (last_or None
 -- the values told by the first n calls, which are counted up to 2^64 - 2
 abbrev pub told_by : {A : Type 0} → (ℕ → A) → ℕ → Option (List A)
 told_by value n = if nat_lt n (2 ^ 64 - 1) then Some (map value (range_with_len 0 n)) else None
+
+-- where a log is told, another one is told beside it, and is empty
+abbrev pub IsNewBeside : {A : Type 0} → Option (List A) → Option (List A) → Type 0
+IsNewBeside None other = Unit {0}
+IsNewBeside (Some values) other = other ≡ Some []
 
 -- what a clock over these moments tells after k calls
 abbrev pub listed_moment : List ℕ → ℕ → ℕ

@@ -1,20 +1,26 @@
-ghost use Rattle.std.specs.Prelude.{◌≡◌, ℕ, ◌+◌, ◌-◌, ◌^◌, ◌≤◌, List, [], ◌∷◌, min, Option, Some, None};
+ghost use Rattle.std.specs.Prelude.{◌≡◌, ℕ, ◌+◌, ◌-◌, ◌^◌, ◌≤◌, List, [], ◌∷◌, min, Option, Some, None, IfOk};
 ghost use Rattle.causes.specs.Logs.{LogGrows};
-ghost use Rattle.farm_text.specs.Told.{told_by, listed_moment};
+ghost use Rattle.farm_text.specs.Told.{told_by, listed_moment, IsNewBeside};
 ghost use Rattle.farm_text.specs.declared.moment.TheConstants.{LAST_TOLD_MOMENT};
 
 use crate::moment::{LAST_TOLD_MOMENT, Moment};
+use std::alloc::AllocError;
 use std::marker::Model;
 use std::rt;
 
 /// Tells the time. No order of the moments is promised.
-pub trait Clock {
+pub trait Clock: Sized {
     /// The moments told so far, where the clock keeps them.
     ghost told: { Self → Option (List ℕ) };
 
     fn now(&mut self) -> Moment
         ensures told { LogGrows (told self.old) (told self.new) (result ∷ []) }
         ensures within { result ≤ LAST_TOLD_MOMENT };
+
+    /// A clock beside this one, for another worker. What it has told so far is nothing.
+    fn fork(&mut self) -> Result<Self, AllocError>
+        ensures told { LogGrows (told self.old) (told self.new) [] }
+        ensures new { IfOk result (λ other. IsNewBeside (told self.old) (told other)) };
 }
 
 /// A clock that tells the moments of a list in order, and after them the last one again.
@@ -58,18 +64,29 @@ impl Clock for ListClock {
         self.calls = self.calls.saturating_add(1);
         moment.min_told()
     }
+
+    /// Another clock over these moments, from the first on.
+    fn fork(&mut self) -> Result<ListClock, AllocError>
+        ensures told { LogGrows (told_by (listed_moment self.old.0) self.old.1)
+            (told_by (listed_moment self.new.0) self.new.1) [] }
+        ensures new { IfOk result (λ other. IsNewBeside (told_by (listed_moment self.old.0) self.old.1) (told_by (listed_moment other.0) other.1)) }
+        ensures moments { IfOk result (λ other. other ≡ (self.old.0, 0)) }
+        ensures kept { self.new ≡ self.old }
+    {
+        Ok(ListClock::new(self.moments.clone()?))
+    }
 }
 
 /// The clock of the runtime. Where that fails or stands before 1970, the moment told last is told again.
 ///
 /// A contract sees it as its runtime and the moment told last.
 #[derive(Drop)]
-pub struct HostClock<R: rt::Clock + Drop> {
+pub struct HostClock<R: rt::Clock + Copy> {
     rt: R,
     last: Moment,
 }
 
-impl<R: rt::Clock + Drop> Model for HostClock<R> {
+impl<R: rt::Clock + Copy> Model for HostClock<R> {
     ghost use Rattle.std.specs.Prelude.{ℕ, ◌≤◌};
     ghost use Rattle.farm_text.specs.declared.moment.TheConstants.{LAST_TOLD_MOMENT};
 
@@ -80,7 +97,7 @@ impl<R: rt::Clock + Drop> Model for HostClock<R> {
     ghost invariant = { λ c. c.last ≤ LAST_TOLD_MOMENT };
 }
 
-impl<R: rt::Clock + Drop> HostClock<R> {
+impl<R: rt::Clock + Copy> HostClock<R> {
     /// The clock of this runtime. Before its first moment it has told moment 0.
     pub fn new(rt: R) -> HostClock<R>
         ensures { result ≡ (rt, 0) }
@@ -92,7 +109,7 @@ impl<R: rt::Clock + Drop> HostClock<R> {
     }
 }
 
-impl<R: rt::Clock + Drop> Clock for HostClock<R> {
+impl<R: rt::Clock + Copy> Clock for HostClock<R> {
     ghost told = { λ _. None };
 
     fn now(&mut self) -> Moment
@@ -104,5 +121,17 @@ impl<R: rt::Clock + Drop> Clock for HostClock<R> {
             self.last = Moment::saturating(since.as_millis());
         }
         self.last
+    }
+
+    fn fork(&mut self) -> Result<HostClock<R>, AllocError>
+        ensures told { LogGrows {A = ℕ} None None [] }
+        ensures new { IfOk result (λ other. IsNewBeside {A = ℕ} None None) }
+        ensures same { IfOk result (λ other. other ≡ self.old) }
+        ensures kept { self.new ≡ self.old }
+    {
+        Ok(HostClock {
+            rt: self.rt,
+            last: self.last,
+        })
     }
 }

@@ -5,23 +5,29 @@ ghost use Rattle.rand_core.specs.Stream.{fill_bytes};
 ghost use Rattle.rand_chacha.specs.ChaCha.{of_seed};
 ghost use Rattle.uuid.specs.Parts.{v4_of_fill};
 ghost use Rattle.farm_text.specs.Draws.{IsSeeded, stream};
-ghost use Rattle.farm_text.specs.Told.{told_by, listed_id};
+ghost use Rattle.farm_text.specs.Told.{told_by, listed_id, IsNewBeside};
 
 use crate::slug::SlugId;
 use causes::{Failed, FaultCount};
 use rand::SeedableRng;
 use rand::rngs::StdRng;
+use std::alloc::AllocError;
 use std::marker::Model;
 use std::random::RandomSource;
 use uuid::Uuid;
 
 /// Draws ids.
-pub trait Draws {
+pub trait Draws: Sized {
     /// The ids drawn so far, each as its sixteen bytes, where they are kept.
     ghost told: { Self → Option (List (List ℕ)) };
 
     fn draw(&mut self) -> SlugId
         ensures told { LogGrows (told self.old) (told self.new) (result ∷ []) };
+
+    /// Draws beside these, for another worker. What they have drawn so far is nothing.
+    fn fork(&mut self) -> Result<Self, AllocError>
+        ensures told { LogGrows (told self.old) (told self.new) [] }
+        ensures new { IfOk result (λ other. IsNewBeside (told self.old) (told other)) };
 }
 
 /// Draws that give the ids of a list in order, and after them the last one again.
@@ -62,6 +68,17 @@ impl Draws for ListDraws {
         self.calls = self.calls.saturating_add(1);
         id
     }
+
+    /// Other draws of these ids, from the first on.
+    fn fork(&mut self) -> Result<ListDraws, AllocError>
+        ensures told { LogGrows (told_by (listed_id self.old.0) self.old.1)
+            (told_by (listed_id self.new.0) self.new.1) [] }
+        ensures new { IfOk result (λ other. IsNewBeside (told_by (listed_id self.old.0) self.old.1) (told_by (listed_id other.0) other.1)) }
+        ensures ids { IfOk result (λ other. other ≡ (self.old.0, 0)) }
+        ensures kept { self.new ≡ self.old }
+    {
+        Ok(ListDraws::new(self.ids.clone()?))
+    }
 }
 
 /// Random ids, of a generator that the runtime seeded once.
@@ -96,7 +113,7 @@ impl HostDraws {
     }
 
     /// Draws of a generator of their own, which this one seeds.
-    pub fn fork(&mut self) -> HostDraws
+    pub fn seed_another(&mut self) -> HostDraws
         ensures seeded { result ≡ of_seed (fill_bytes 32 (stream self.old)).0 }
         ensures rest { stream self.new ≡ (fill_bytes 32 (stream self.old)).1 }
     {
@@ -118,5 +135,15 @@ impl Draws for HostDraws {
             unreachable!();
         };
         id
+    }
+
+    /// Draws of a generator of their own, which this one seeds.
+    fn fork(&mut self) -> Result<HostDraws, AllocError>
+        ensures told { LogGrows {A = List ℕ} None None [] }
+        ensures new { IfOk result (λ other. IsNewBeside {A = List ℕ} None None) }
+        ensures seeded { IfOk result (λ other. other ≡ of_seed (fill_bytes 32 (stream self.old)).0) }
+        ensures rest { stream self.new ≡ (fill_bytes 32 (stream self.old)).1 }
+    {
+        Ok(self.seed_another())
     }
 }

@@ -273,6 +273,37 @@ fn bulk_is_read(rt: HostRuntime) -> Result<(), Fail> {
 }
 
 #[test]
+fn render_is_read(rt: HostRuntime) -> Result<(), Fail> {
+    let rows: [&[&str]; 2] = [&["render"], &["render", "--"]];
+    for words in rows {
+        assert!(rt; matches!(&read(rt.alloc(), words)?, Ok(Command::Render)));
+    }
+    Ok(())
+}
+
+#[test]
+fn other_words_of_render_get_a_text(rt: HostRuntime) -> Result<(), Fail> {
+    let rows: [&[&str]; 7] = [
+        &["render", "farm.toml"],
+        &["render", ""],
+        &["render", "-"],
+        &["render", "--", "--"],
+        &["render", "--", "a"],
+        &["render", "--disk", "d"],
+        &["rende"],
+    ];
+    for words in rows {
+        assert!(rt; usage(rt.alloc(), words)?.is_some());
+    }
+    let help = usage(rt.alloc(), ["render", "--help"].as_slice())?.ok_or("a text")?;
+    assert!(rt;
+        help.as_str()
+            .contains("Renders the template of an input with its context.")
+    );
+    Ok(())
+}
+
+#[test]
 fn a_load_off_its_form_is_told(rt: HostRuntime) -> Result<(), Fail> {
     let rows = [
         ("", "1", "--seed"),
@@ -296,7 +327,7 @@ fn help_names_the_commands(rt: HostRuntime) -> Result<(), Fail> {
     let alloc = rt.alloc();
     let help = usage(alloc, ["--help"].as_slice())?.ok_or("a text")?;
     assert!(rt; help.as_str().contains("A build farm's server."));
-    for name in ["answer", "expand", "check", "sign", "bulk"] {
+    for name in ["answer", "expand", "check", "sign", "bulk", "render"] {
         assert!(rt; help.as_str().contains(name));
     }
     let help = usage(alloc, ["check", "--help"].as_slice())?.ok_or("a text")?;
