@@ -149,7 +149,7 @@ impl Reader {
         ensures ended { IfErr result (Ends (L.left link.new)) }
         ensures only_reads { OnlyReads (state_of L.Link link.old) (state_of L.Link link.new) result }
 
-        // Where the bytes held give a whole message, the link is not asked.
+        // Where the bytes held give a whole message, the link is left as it was.
         ensures untouched { (m : Message) (rest : List ℕ) → Gives self.old (whole m rest) → link.new ≡ link.old }
     {
         next_message(&mut self.held, &mut self.spans, alloc, link)
