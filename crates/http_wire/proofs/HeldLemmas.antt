@@ -1,17 +1,16 @@
 -- A whole message among the bytes held.
-use Rattle.std.proofs.Common.{◌≡◌, ℕ, ◌+◌, ◌≤◌, Bool, true, false, List, [], ◌++◌, length, take, drop, if◌then◌else◌, nat_le, Result, Ok, Err, refl, sym, ap, ◌∙◌, subst, subst₂, arith, append-nil, length-drop, length-take-le}
+use Rattle.std.proofs.Common.{◌≡◌, ℕ, ◌+◌, ◌≤◌, Bool, true, false, List, [], length, take, drop, if◌then◌else◌, nat_le, Ok, refl, sym, ap, subst₂, arith, append-nil, length-drop, length-take-le}
 use Rattle.std.proofs.lemmas.Bool.Decides.{nat_tests}
 use Rattle.httparse.specs.declared.spans.HeaderSpan.{HeaderSpan}
 use Rattle.httparse.specs.Grammar.{RequestHead}
 use Rattle.http_wire.specs.declared.head.HeadAt.{HeadAt}
 use Rattle.http_wire.specs.declared.message.Message.{Message}
-use Rattle.http_wire.specs.declared.message.Wire.{Wire}
 use Rattle.http_wire.specs.declared.message.Wire.TheVariants.{EndedInside}
 use Rattle.http_wire.specs.Front.{IsHeadAt}
 use Rattle.http_wire.specs.Framing.{body_length}
-use Rattle.http_wire.specs.Head.{HasHead, Next, message, fault, too_large, ended, inside}
+use Rattle.http_wire.specs.Head.{HasHead, message, fault, too_large, ended, inside}
 use Rattle.http_wire.specs.Message.{message_of}
-use Rattle.http_wire.specs.Stream.{Gives, Outcome, stops, whole, with_body}
+use Rattle.http_wire.specs.Stream.{Gives, stops, whole, with_body}
 use Rattle.http_wire.proofs.StreamLemmas.{begins, fields_at, length_rule}
 use Rattle.http_wire.proofs.StreamLaws.{outcome_unique}
 
