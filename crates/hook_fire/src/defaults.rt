@@ -12,11 +12,7 @@ use std::collections::BTreeMap;
 const DAY: u64 = 86_400_000;
 
 /// The document with both defaults, where it is a map: `created` is the moment, and `deadline` a day after it.
-pub(crate) fn with_defaults(
-    alloc: Global,
-    rendered: Doc,
-    moment: Moment,
-) -> Result<Doc, AllocError>
+pub(crate) fn with_defaults(alloc: Global, rendered: Doc, moment: Moment) -> Result<Doc, AllocError>
     ensures { IfOk result (λ d. HasDefaults moment (document rendered) (document d)) }
 {
     let created = with_default(alloc, rendered, "created", moment)?;
@@ -35,12 +31,7 @@ fn a_day_after(moment: Moment) -> Moment
 }
 
 /// The document with this moment at the key, where it is a map that has nothing there.
-fn with_default(
-    alloc: Global,
-    doc: Doc,
-    key: &str,
-    moment: Moment,
-) -> Result<Doc, AllocError>
+fn with_default(alloc: Global, doc: Doc, key: &str, moment: Moment) -> Result<Doc, AllocError>
     ensures { IfOk result (λ d. HasDefault key.now moment (document doc) (document d)) }
 {
     match doc {

@@ -48,7 +48,7 @@ fn is_told(
 ) -> Result<bool, AllocError> {
     match fired {
         Ok(def) => Ok(def.doc(alloc)?.write(alloc)?.as_str().contains(wanted)),
-        Err(fault) => Ok(words(alloc, fault)?.as_str() == wanted),
+        Err(fault) => Ok(words(alloc, fault)?.as_str().trim_end() == wanted),
     }
 }
 
@@ -102,16 +102,17 @@ fn the_route_is_of_the_payload(rt: HostRuntime) -> Result<(), Fail> {
     Ok(())
 }
 
-const TEMPLATES: &str = r#","payload":{"by":{"$eval":"firedBy"},"id":{"$eval":"taskId"},"now":{"$eval":"now"},"sent":{"$eval":"payload"}},"taskQueueId":"prov/wt" ~ "payload":{"by":"triggerHook","id":"AAAAAAAAQACAAAAAAAAAAg","now":"2024-01-01T00:00:00.000Z","sent":{"x":"one"}}
+const TEMPLATES: &str =
+    r#","payload":{"by":{"$eval":"firedBy"},"id":{"$eval":"taskId"},"now":{"$eval":"now"},"sent":{"$eval":"payload"}},"taskQueueId":"prov/wt" ~ "payload":{"by":"triggerHook","id":"AAAAAAAAQACAAAAAAAAAAg","now":"2024-01-01T00:00:00.000Z","sent":{"x":"one"}}
 ,"payload":{"other":"${hookId}"},"taskQueueId":"prov/wt" ~ fault 2 /payload/other
 ,"payload":{},"routes":["r.${payload.x}"],"taskQueueId":"prov" ~ rule 2 taskQueueId
 ,"payload":{},"taskQueueId":{"$if":"false","then":"prov/wt"} ~ rule 1 taskQueueId
 {"$eval":"len(range(0,2000000))"} ~ too much
 {"a":{"$eval":"7/2"}} ~ fault 5 /a
-[{"created":"2024-01-01T00:00:00.000Z"}] ~ rule 1 
-"text" ~ rule 1 
-7 ~ rule 1 
-{"$if":"false","then":{}} ~ rule 1 
+[{"created":"2024-01-01T00:00:00.000Z"}] ~ rule 1
+"text" ~ rule 1
+7 ~ rule 1
+{"$if":"false","then":{}} ~ rule 1
 {} ~ rule 1 metadata"#;
 
 #[test]
@@ -119,7 +120,8 @@ fn what_templates_give(rt: HostRuntime) -> Result<(), Fail> {
     all_give(&rt, rt.alloc(), TEMPLATES)
 }
 
-const DEFAULTS: &str = r#","created":"2023-12-31T12:00:00.000Z","payload":{},"taskQueueId":"prov/wt" ~ {"created":"2023-12-31T12:00:00.000Z","deadline":"2024-01-02T00:00:00.000Z",
+const DEFAULTS: &str =
+    r#","created":"2023-12-31T12:00:00.000Z","payload":{},"taskQueueId":"prov/wt" ~ {"created":"2023-12-31T12:00:00.000Z","deadline":"2024-01-02T00:00:00.000Z",
 ,"deadline":"2024-01-01T06:00:00.000Z","payload":{},"taskQueueId":"prov/wt" ~ {"created":"2024-01-01T00:00:00.000Z","deadline":"2024-01-01T06:00:00.000Z",
 ,"created":"2024-01-02T00:00:00.000Z","deadline":{"$fromNow":"2 days"},"payload":{},"taskQueueId":"prov/wt" ~ {"created":"2024-01-02T00:00:00.000Z","deadline":"2024-01-03T00:00:00.000Z",
 ,"created":{"$if":"false","then":"x"},"payload":{},"taskQueueId":"prov/wt" ~ {"created":"2024-01-01T00:00:00.000Z","deadline":"2024-01-02T00:00:00.000Z",
@@ -139,18 +141,41 @@ const PLAIN: &str = r#","payload":{},"taskQueueId":"prov/wt""#;
 #[test]
 fn deadlines_past_the_last_moment(rt: HostRuntime) -> Result<(), Fail> {
     for (template, millis, wanted) in [
-        (PLAIN, LAST_READ - DAY - 1, r#""deadline":"9998-12-31T23:59:59.998Z""#),
+        (
+            PLAIN,
+            LAST_READ - DAY - 1,
+            r#""deadline":"9998-12-31T23:59:59.998Z""#,
+        ),
         (PLAIN, LAST_READ - DAY, "rule 12 expires"),
         (PLAIN, LAST_READ - DAY + 1, "rule 10 deadline"),
         (PLAIN, LAST_READ, "rule 10 deadline"),
         (PLAIN, LAST_READ + 1, "rule 10 created"),
         (PLAIN, 253_402_300_799_999, "rule 10 created"),
-        (r#","created":"x","payload":{},"taskQueueId":"prov/wt""#, LAST_READ, "rule 10 created"),
-        (r#","payload":{},"taskQueueId":"prov""#, LAST_READ, "rule 2 taskQueueId"),
-        (r#","payload":{},"retries":50,"taskQueueId":"prov/wt""#, LAST_READ, "rule 9 retries"),
-        (r#","payload":{},"scopes":[""],"taskQueueId":"prov/wt""#, LAST_READ, "rule 10 deadline"),
+        (
+            r#","created":"x","payload":{},"taskQueueId":"prov/wt""#,
+            LAST_READ,
+            "rule 10 created",
+        ),
+        (
+            r#","payload":{},"taskQueueId":"prov""#,
+            LAST_READ,
+            "rule 2 taskQueueId",
+        ),
+        (
+            r#","payload":{},"retries":50,"taskQueueId":"prov/wt""#,
+            LAST_READ,
+            "rule 9 retries",
+        ),
+        (
+            r#","payload":{},"scopes":[""],"taskQueueId":"prov/wt""#,
+            LAST_READ,
+            "rule 10 deadline",
+        ),
     ] {
-        assert!(rt; gives(rt.alloc(), template, SENT, millis, wanted)?, "{wanted}");
+        assert!(rt;
+            gives(rt.alloc(), template, SENT, millis, wanted)?,
+            "{wanted}"
+        );
     }
     Ok(())
 }
