@@ -107,11 +107,11 @@ no_fault d cost f e = cc
 not_much : (d : Document) (cost : ℕ) → given d cost ≡ too_much → ⊥
 not_much d cost e = cc
 
-fault_not_much : (f : TemplateFault) → faulted {Document} f.rule f.path ≡ too_much → ⊥
-fault_not_much f e = cc
+fault_not_much : (f : TemplateFault) (o : Outcome Document) → o ≡ faulted f.rule f.path → o ≡ too_much → ⊥
+fault_not_much f o e k = cc
 
-same_fault : (f g : TemplateFault) → faulted {Document} f.rule f.path ≡ faulted g.rule g.path → f ≡ g
-same_fault f g e =
+same_fault : (f g : TemplateFault) (o : Outcome Document) → o ≡ faulted f.rule f.path → o ≡ faulted g.rule g.path → f ≡ g
+same_fault f g o e k =
     let rules : f.rule ≡ g.rule = cc in
     let paths : f.path ≡ g.path = cc in
     rw (rules, paths) refl
@@ -135,7 +135,7 @@ made_not_much laws template payload moment id d x y =
 
 stop_not_much : Laws → (template payload : Document) (moment : ℕ) (id : List ℕ) (f : TemplateFault) → ComesTo template payload moment id (faulted f.rule f.path) → ComesTo template payload moment id too_much → ⊥
 stop_not_much laws template payload moment id f x y =
-    fault_not_much f (comes_one laws.outcomes laws.texts template payload moment id (faulted f.rule f.path) too_much x y)
+    fault_not_much f (faulted f.rule f.path) refl (comes_one laws.outcomes laws.texts template payload moment id (faulted f.rule f.path) too_much x y)
 
 one_definition : Laws → (template payload : Document) (moment : ℕ) (id : List ℕ) (a b : TaskDef) → Defines template payload moment id a → Defines template payload moment id b → a ≡ b
 one_definition laws template payload moment id a b x y =
@@ -154,7 +154,7 @@ not_both laws template payload moment id def f x y =
 
 one_stop : Laws → (template payload : Document) (moment : ℕ) (id : List ℕ) (f g : TemplateFault) → ComesTo template payload moment id (faulted f.rule f.path) → ComesTo template payload moment id (faulted g.rule g.path) → f ≡ g
 one_stop laws template payload moment id f g x y =
-    same_fault f g (comes_one laws.outcomes laws.texts template payload moment id (faulted f.rule f.path) (faulted g.rule g.path) x y)
+    same_fault f g (faulted f.rule f.path) refl (comes_one laws.outcomes laws.texts template payload moment id (faulted f.rule f.path) (faulted g.rule g.path) x y)
 
 pub one_answer : Laws → (template payload : Document) (moment : ℕ) (id : List ℕ) (a b : Result TaskDef FireFault) → a ≢ Err NoMemory → b ≢ Err NoMemory
     → IsFired template payload moment id a → IsFired template payload moment id b → a ≡ b

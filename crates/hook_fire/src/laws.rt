@@ -1,5 +1,7 @@
-//! What follows from the definitions. The function does nothing: its contract is a law.
-ghost use Rattle.std.specs.Prelude.{◌≡◌, ◌≢◌, ℕ, List, Result, Err};
+//! What follows from the definitions. The functions do nothing: each contract is a law.
+ghost use Rattle.std.specs.Prelude.{◌≡◌, ◌≢◌, ◌<◌, ℕ, List, Result, Err};
+ghost use Rattle.farm_text.specs.Moment.{IsMomentText};
+ghost use Rattle.task_defs.specs.Values.{IsMoment};
 ghost use Rattle.farm_text.specs.Document.{Document};
 ghost use Rattle.task_defs.specs.declared.task_def.TaskDef.{TaskDef};
 ghost use Rattle.hook_fire.specs.Firing.{IsFired};
@@ -21,3 +23,8 @@ pub fn the_firing_is_one()
     a_text_has_one_moment();
     the_fault_is_one();
 }
+
+/// The text of a moment past the last one that is read is read as none, and so breaks the rule of moments.
+pub fn late_moments_are_not_read()
+    ensures { (moment : ℕ) (text : List ℕ) → 253_370_764_799_999 < moment → IsMomentText moment text → ¬ IsMoment text }
+{}

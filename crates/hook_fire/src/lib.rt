@@ -9,7 +9,7 @@ mod laws;
 
 pub use fault::FireFault;
 pub use firing::{Hook, fire};
-pub use laws::the_firing_is_one;
+pub use laws::{late_moments_are_not_read, the_firing_is_one};
 
 #[cfg(test)]
 mod tests;

@@ -8,5 +8,5 @@ returns c = record {
   now = c.in_ok-now.now;
   now_text = c.in_ok-now.ensures;
   is = is_context_of c.in_ok-now.now c.in_ok-id.id c.args.drawn (document c.in_ok-fired_by.fired_by) (document c.in_ok-sent.sent) (document c.args.payload.now) (document c.into_doc.result) (held c.in_ok-names.names)
-      c.into_doc.ensures c.in_ok-names.ensures c.in_ok-fired_by.ensures c.in_ok-sent.ensures c.in_ok-id.ensures;
+      c.into_doc.ensures c.in_ok-names.ensures c.in_ok-fired_by.ensures c.in_ok-sent.ensures.cases c.in_ok-id.ensures;
 }
