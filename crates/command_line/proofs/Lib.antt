@@ -1,3 +1,4 @@
+mod CommandLemmas
 mod FaultLemmas
 mod FlagLemmas
 mod FormLemmas
@@ -7,6 +8,10 @@ mod MatchLemmas
 mod OptionLemmas
 mod ReadingLemmas
 mod RenderLemmas
+mod ServeFormLemmas
+mod ServeOptionLemmas
+mod ServeWalkLemmas
+mod ServiceLemmas
 mod SigningLemmas
 mod ValueLemmas
 pub mod DiskFormLemmas
