@@ -6,6 +6,7 @@ mod LawLemmas
 mod LoadLemmas
 mod MatchLemmas
 mod OptionLemmas
+mod RangeLemmas
 mod ReadingLemmas
 mod RenderLemmas
 mod ServeFormLemmas
