@@ -13,7 +13,7 @@ pub overflow_sub-asked : goal.overflow_sub-asked
 overflow_sub-asked g c = omega (arith, c.left-before.ensures, c.left.ensures, c.serve_link-served.ensures.serves.spent)
 
 pub done-requires : goal.done-requires
-done-requires g c = c.requires.out
+done-requires g c = record { out = c.requires.out }
 
 pub returns-clause-home : goal.returns-clause-home
 returns-clause-home g c = c.serve_link-served.ensures.home
