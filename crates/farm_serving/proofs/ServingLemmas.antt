@@ -308,10 +308,10 @@ room_for_halves n a b middle k left room front back =
 
 -- no worker tells nothing
 zero_is : (n : ℕ) (empty : Bool) → empty ≡ true → empty ≡ (n == 0) → n ≡ 0
-zero_is n empty yes is = grind (arith, nat_tests)
+zero_is n empty holds is = grind (arith, nat_tests)
 
 pub no_worker : {W : Type 0} (f : W → Station) (ws : List W) (empty : Bool) → empty ≡ true → empty ≡ (length ws == 0) → map f ws ≡ []
-no_worker f ws empty yes is = ap (map f) (nil_from_length ws (zero_is (length ws) empty yes is))
+no_worker f ws empty holds is = ap (map f) (nil_from_length ws (zero_is (length ws) empty holds is))
 
 -- the numbers of two rows of workers fit
 pub ServesLegal-rows_fit : {W : Type 0} (f : W → Station) (lows lows_after highs highs_after : List W) (accepts asks : ℕ) (old cut rest low high : Standing State Entry) (first second : Ended) → cut ≡ gave old asks → rest ≡ given old asks → (length lows + length highs) * (accepts * 1000) ≤ old.left → old.left < 2 ^ 64 → asks ≤ old.left → ServesLegal accepts cut low (map f lows) (map f lows_after) first → ServesLegal accepts rest high (map f highs) (map f highs_after) second → FitTogether first second
