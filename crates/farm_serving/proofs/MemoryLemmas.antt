@@ -1,5 +1,5 @@
 -- How the logs of a door in memory grow.
-use Rattle.std.proofs.Common.{◌≡◌, ℕ, Bool, true, false, List, [], ◌∷◌, ◌++◌, map, refl, ◌∙◌, ap}
+use Rattle.std.proofs.Common.{◌≡◌, Bool, true, false, List, [], ◌∷◌, ◌++◌, map, refl, ◌∙◌, ap}
 use Rattle.std.proofs.lemmas.List.{map-append}
 use Rattle.causes.specs.Logs.{LogGrows}
 use Rattle.causes.proofs.LogsLemmas.{LogGrows-none}

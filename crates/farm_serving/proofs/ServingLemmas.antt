@@ -2,7 +2,7 @@
 use Rattle.std.proofs.Common.{◌≡◌, ℕ, Bool, true, suc, zero, ◌+◌, ◌*◌, ◌-◌, ◌^◌, ◌<◌, ◌≤◌, List, [], ◌∷◌, ◌++◌, length, length-append, map, take, drop, Some, Option, refl, sym, ◌∙◌, ap, subst, append_assoc, append-nil, slice_index_or, slice_set, arith}
 use mathlib.Core.List.{IsPrefix}
 use Rattle.std.specs.Bool.{◌==◌}
-use Rattle.std.specs.List.{All, flat_map}
+use Rattle.std.specs.List.{flat_map}
 use Rattle.std.proofs.lemmas.Bool.Decides.{nat_tests}
 use Rattle.std.proofs.lemmas.List.{map-append, length-map, nil_from_length, take-append-drop}
 use Rattle.std.proofs.lemmas.List.Concat.{flat_map-append}
@@ -16,7 +16,7 @@ use Rattle.farm_machine.specs.Entry.{Entry}
 use Rattle.farm_machine.specs.Law.{Opening, opened}
 use Rattle.farm_machine.specs.State.{State}
 use Rattle.farm_machine.specs.Step.{farm_rules}
-use Rattle.farm_server.specs.Served.{Ask, questions_of}
+use Rattle.farm_server.specs.Served.{questions_of}
 use Rattle.farm_server.specs.Served.{Standing as DeskStanding}
 use Rattle.farm_serving.specs.Connections.{Connection, Company, InTurn, Station, Part, Worked, questions_in, replies_in}
 use Rattle.farm_serving.specs.Numbers.{of_nothing, FitTogether, both}

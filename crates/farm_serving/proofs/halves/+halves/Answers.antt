@@ -1,5 +1,5 @@
 -- Rows of workers, and their halves.
-use Rattle.std.proofs.Common.{◌≡◌, ℕ, ◌+◌, ◌*◌, ◌-◌, ◌<◌, ◌≤◌, ◌^◌, List, ◌++◌, length, map, sym, subst, arith}
+use Rattle.std.proofs.Common.{◌+◌, ◌*◌, ◌≤◌, ◌++◌, length, map, sym, subst, arith}
 use Rattle.shared_desk.specs.Standing.{Standing}
 use Rattle.farm_machine.specs.Entry.{Entry}
 use Rattle.farm_machine.specs.State.{State}

@@ -11,5 +11,5 @@ returns-clause-gained g c =
 pub returns-clause-serves : goal.returns-clause-serves
 returns-clause-serves g c =
     Serves-over c.args.connections c.args.token c.pass-pass.result c.serve_row-ended.new.share c.token.result _ _ c.serve_row-ended.result c.pass-pass.ensures.same c.token.ensures (λ opening is.
-      let from : Opening = record { state = opening; records = []; faults = 0 } in
-      (c.pass-pass.ensures.stands from is).3) c.serve_row-ended.ensures
+    let from : Opening = record { state = opening; records = []; faults = 0 } in
+    (c.pass-pass.ensures.stands from is).3) c.serve_row-ended.ensures

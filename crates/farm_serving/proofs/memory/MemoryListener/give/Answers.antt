@@ -11,14 +11,14 @@ pub returns-clause-given : goal.returns-clause-given
 returns-clause-given c =
     let grows : MemoryListener → Type 0 = λ door. LogGrows (links_given c.args.self.now) (links_given door) (memory_state c.args.link ∷ []) in
     elim c.match-push.branch [
-      in-Ok w ↦ subst grows (sym w.self-is) (told_if-one c.args.self.now.tells c.args.self.now.given.items c.push.new.self.items (λ seen. memory_state seen.value) c.of.result (memory_state c.args.link) w.in-Ok.ensures.items (ap memory_state c.of.ensures))
-    | in-Err w ↦ subst grows (sym w.self-is) tt
+      | in-Ok w ↦ subst grows (sym w.self-is) (told_if-one c.args.self.now.tells c.args.self.now.given.items c.push.new.self.items (λ seen. memory_state seen.value) c.of.result (memory_state c.args.link) w.in-Ok.ensures.items (ap memory_state c.of.ensures))
+      | in-Err w ↦ subst grows (sym w.self-is) tt
     ]
 
 pub returns-clause-taken : goal.returns-clause-taken
 returns-clause-taken c =
     let grows : MemoryListener → Type 0 = λ door. LogGrows (links_taken c.args.self.now) (links_taken door) [] in
     elim c.match-push.branch [
-      in-Ok w ↦ subst grows (sym w.self-is) (told_if-none c.args.self.now.tells _)
-    | in-Err w ↦ subst grows (sym w.self-is) tt
+      | in-Ok w ↦ subst grows (sym w.self-is) (told_if-none c.args.self.now.tells _)
+      | in-Err w ↦ subst grows (sym w.self-is) tt
     ]

@@ -1,9 +1,8 @@
 -- Accepts in turn.
-use Rattle.std.proofs.Common.{◌≡◌, ℕ, ◌+◌, ◌-◌, ◌*◌, ◌<◌, ◌≤◌, ◌^◌, refl, sym, ◌∙◌, subst, arith}
+use Rattle.std.proofs.Common.{◌≡◌, ℕ, ◌+◌, refl, sym, ◌∙◌, subst, arith}
 use Rattle.farm_server.specs.Served.{Standing}
 use Rattle.farm_serving.specs.Connections.{Station, station}
 use Rattle.farm_serving.specs.Serving.{Works}
-use Rattle.farm_serving.specs.Numbers.{both}
 use Rattle.farm_serving.specs.declared.ended.Ended.{Ended}
 use Rattle.farm_serving.proofs.ConnectionLemmas.{Works-none, Works-then, Works-fit, Works-room}
 use Rattle.farm_serving.proofs.worker.Worker.serve.Goals as goal
