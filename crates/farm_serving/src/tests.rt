@@ -146,6 +146,12 @@ fn pinged(alloc: Global, pings: u64) -> Result<MemoryWorker, AllocError> {
     worker(alloc, coming, &[])
 }
 
+/// Whether two links came back, over which this many pings were answered, and then one.
+fn was_pinged(worker: &MemoryWorker, pings: u64) -> bool {
+    let back = worker.door.returned();
+    back.len() == 2 && was_alive(&back[0], pings, pings) && was_alive(&back[1], 1, 1)
+}
+
 #[test]
 fn four_workers(rt: HostRuntime) -> Result<(), Fail> {
     let alloc = rt.alloc();
@@ -169,13 +175,7 @@ fn four_workers(rt: HostRuntime) -> Result<(), Fail> {
         }
     );
     assert_eq!(rt; token.asked(), 14);
-    let mut pings = 0;
-    for worker in &workers {
-        pings += 1;
-        let back = worker.door.returned();
-        assert!(rt;
-            back.len() == 2 && was_alive(&back[0], pings, pings) && was_alive(&back[1], 1, 1)
-        );
-    }
+    assert!(rt; was_pinged(&workers[0], 1) && was_pinged(&workers[1], 2));
+    assert!(rt; was_pinged(&workers[2], 3) && was_pinged(&workers[3], 4));
     Ok(())
 }
