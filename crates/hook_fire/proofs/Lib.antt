@@ -1,0 +1,4 @@
+pub mod ContextLemmas
+pub mod DefaultLemmas
+pub mod FiringLemmas
+pub mod LateLemmas

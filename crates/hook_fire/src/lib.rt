@@ -1,0 +1,15 @@
+//! Hooks: the definition of the task that a hook makes when it is fired (the Taskcluster reference, 'Hooks').
+#![tactic(auto)]
+
+mod context;
+mod defaults;
+mod fault;
+mod firing;
+mod laws;
+
+pub use fault::FireFault;
+pub use firing::{Hook, fire};
+pub use laws::{late_moments_are_not_read, the_firing_is_one};
+
+#[cfg(test)]
+mod tests;
