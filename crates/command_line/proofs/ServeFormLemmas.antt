@@ -316,13 +316,13 @@ of_numbers f d l (Some n) (Some m) command e = (record { disk = d; listen = l; w
     one a b e = cc
 
 told_is : (farm disk listen workers connections : Option Text) (command : Command) → command_of farm disk listen workers connections ≡ Some command
-    → (f : Text) × (s : Service) × (OverFarm f (Serve s) ≡ command) × IsTold farm disk listen workers connections f s
+    → (f : Text) × (s : Service) × (command ≡ OverFarm f (Serve s)) × IsTold farm disk listen workers connections f s
 told_is None disk listen workers connections command e = absurd (none_some command e)
 told_is (Some f) None listen workers connections command e = absurd (none_some command e)
 told_is (Some f) (Some d) None workers connections command e = absurd (none_some command e)
 told_is (Some f) (Some d) (Some l) workers connections command e =
     let of = of_numbers f d l (workers_said workers) (connections_said connections) command e in
-    (f, of.0, of.1, record { farm_file = refl; disk_name = ap Some (sym of.2); address = ap Some (sym of.3); number = of.4; each = of.5 })
+    (f, of.0, sym of.1, record { farm_file = refl; disk_name = ap Some (sym of.2); address = ap Some (sym of.3); number = of.4; each = of.5 })
 
 is_told : (farm disk listen workers connections : Option Text) (f : Text) (s : Service) → IsTold farm disk listen workers connections f s → command_of farm disk listen workers connections ≡ Some (OverFarm f (Serve s))
 is_told farm disk listen workers connections f s is =
@@ -348,7 +348,7 @@ service_said rest command utf8 read =
     let told = told_is (of farm_id) (of (codes "disk")) (of (codes "listen")) (of (codes "workers")) (of (codes "connections")) command all.3 in
     let is : IsService all.0 told.0 told.1 =
     record { farm_file = told.3.farm_file; disk = told.3.disk_name; address = told.3.address; workers = told.3.number; connections = told.3.each } in
-    (told.0, told.1, sym told.2, (all.0, all.1, all.2, is))
+    (told.0, told.1, told.2, (all.0, all.1, all.2, is))
 
 pub service_read : (rest : List Text) (farm : Text) (service : Service) → GivesService farm service rest → reading (codes "serve" ∷ rest) ≡ Some (OverFarm farm (Serve service))
 service_read rest farm service gives =

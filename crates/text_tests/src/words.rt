@@ -339,27 +339,80 @@ fn serve_is_read(rt: HostRuntime) -> Result<(), Fail> {
             "serve a.toml over d at h:1 by 4 of 1000000",
         ),
         (
-            &["serve", "--connections=1", "--workers", "64", "--listen=h:1", "--disk=d", "--", "-a"],
+            &[
+                "serve",
+                "--connections=1",
+                "--workers",
+                "64",
+                "--listen=h:1",
+                "--disk=d",
+                "--",
+                "-a",
+            ],
             "serve -a over d at h:1 by 64 of 1",
         ),
         (
-            &["serve", "--workers=001", "-", "--disk", "d", "--connections", "1000000", "--listen", "[::1]:8080", "--"],
+            &[
+                "serve",
+                "--workers=001",
+                "-",
+                "--disk",
+                "d",
+                "--connections",
+                "1000000",
+                "--listen",
+                "[::1]:8080",
+                "--",
+            ],
             "serve - over d at [::1]:8080 by 1 of 1000000",
         ),
         (
-            &["serve", "--disk", "", "--listen=", "--connections", "999999", ""],
+            &[
+                "serve",
+                "--disk",
+                "",
+                "--listen=",
+                "--connections",
+                "999999",
+                "",
+            ],
             "serve  over  at  by 4 of 999999",
         ),
         (
-            &["serve", "a", "--disk=--listen", "--listen", "-", "--workers=64"],
+            &[
+                "serve",
+                "a",
+                "--disk=--listen",
+                "--listen",
+                "-",
+                "--workers=64",
+            ],
             "serve a over --listen at - by 64 of 1000000",
         ),
         (
-            &["serve", "a", "--disk", "d", "--listen", "l", "--workers", "0000000000000000064"],
+            &[
+                "serve",
+                "a",
+                "--disk",
+                "d",
+                "--listen",
+                "l",
+                "--workers",
+                "0000000000000000064",
+            ],
             "serve a over d at l by 64 of 1000000",
         ),
         (
-            &["serve", "a", "--listen", "l", "--disk", "d=e", "--workers", "1"],
+            &[
+                "serve",
+                "a",
+                "--listen",
+                "l",
+                "--disk",
+                "d=e",
+                "--workers",
+                "1",
+            ],
             "serve a over d=e at l by 1 of 1000000",
         ),
     ];
@@ -383,7 +436,9 @@ fn other_words_of_serve_get_a_text(rt: HostRuntime) -> Result<(), Fail> {
         &["serve", "a", "--disk", "d", "--listen"],
         &["serve", "a", "--disk", "--listen", "l"],
         &["serve", "a", "--disk", "d", "--listen", "-l"],
-        &["serve", "a", "--disk", "d", "--listen", "l", "--worker", "4"],
+        &[
+            "serve", "a", "--disk", "d", "--listen", "l", "--worker", "4",
+        ],
         &["serve", "a", "--disk", "d", "--listen", "l", "-w", "4"],
         &["serve", "a", "--disk", "d", "--listen", "l", "--", "b"],
         &["serve", "a", "--disk", "d", "--listen", "l", "--help"],
@@ -411,7 +466,18 @@ fn a_service_off_its_form_is_told(rt: HostRuntime) -> Result<(), Fail> {
         ("4", "1e3", "--connections"),
     ];
     for (workers, connections, name) in rows {
-        let numbers = ["serve", "a", "--disk", "d", "--listen", "l", "--workers", workers, "--connections", connections];
+        let numbers = [
+            "serve",
+            "a",
+            "--disk",
+            "d",
+            "--listen",
+            "l",
+            "--workers",
+            workers,
+            "--connections",
+            connections,
+        ];
         let told = usage(rt.alloc(), numbers.as_slice())?.ok_or("a text")?;
         assert!(rt; told.as_str().contains(name));
     }
@@ -423,7 +489,9 @@ fn help_names_the_commands(rt: HostRuntime) -> Result<(), Fail> {
     let alloc = rt.alloc();
     let help = usage(alloc, ["--help"].as_slice())?.ok_or("a text")?;
     assert!(rt; help.as_str().contains("A build farm's server."));
-    for name in ["answer", "expand", "check", "sign", "bulk", "render", "serve"] {
+    for name in [
+        "answer", "expand", "check", "sign", "bulk", "render", "serve",
+    ] {
         assert!(rt; help.as_str().contains(name));
     }
     let help = usage(alloc, ["check", "--help"].as_slice())?.ok_or("a text")?;
