@@ -26,29 +26,40 @@ fn read(alloc: Global, text: &str) -> Result<Doc, Fail> {
     Ok(Doc::read(alloc, text.as_bytes()).ok().ok_or("no JSON")?)
 }
 
-/// The hook of a template. Where that begins with a comma, it is what follows the front.
-fn hook(alloc: Global, template: &str) -> Result<Hook, Fail> {
-    let whole = if template.starts_with(',') {
-        format!(in alloc; "{FRONT}{template}}}")?
+/// The text of a template: the front and what follows it, or the text itself where it does not begin with a comma.
+fn whole(alloc: Global, template: &str) -> Result<String, AllocError> {
+    if template.starts_with(',') {
+        format!(in alloc; "{FRONT}{template}}}")
     } else {
-        String::from_str(alloc, template)?
-    };
+        String::from_str(alloc, template)
+    }
+}
+
+fn hook_of(alloc: Global, template: Doc) -> Result<Hook, AllocError> {
+    let group = Text::from_str(alloc, "g")?;
+    let id = Text::from_str(alloc, "h")?;
     Ok(Hook {
-        group: Text::from_str(alloc, "g")?,
-        id: Text::from_str(alloc, "h")?,
-        template: read(alloc, whole.as_str())?,
+        group,
+        id,
+        template,
     })
 }
 
-/// Whether a firing gave a definition whose full form has this text in it, or this fault.
-fn is_told(
-    alloc: Global,
-    fired: &Result<TaskDef, FireFault>,
-    wanted: &str,
-) -> Result<bool, AllocError> {
-    match fired {
-        Ok(def) => Ok(def.doc(alloc)?.write(alloc)?.as_str().contains(wanted)),
-        Err(fault) => Ok(words(alloc, fault)?.as_str().trim_end() == wanted),
+fn hook(alloc: Global, template: &str) -> Result<Hook, Fail> {
+    let text = whole(alloc, template)?;
+    let template = read(alloc, text.as_str())?;
+    Ok(hook_of(alloc, template)?)
+}
+
+/// The full form of a definition.
+fn full_text(alloc: Global, def: &TaskDef) -> Result<Text, AllocError> {
+    def.doc(alloc)?.write(alloc)
+}
+
+fn has_part(alloc: Global, def: &TaskDef, part: &str) -> bool {
+    match full_text(alloc, def) {
+        Ok(text) => text.as_str().contains(part),
+        Err(_) => false,
     }
 }
 
@@ -65,6 +76,34 @@ fn words(alloc: Global, fault: &FireFault) -> Result<String, AllocError> {
     }
 }
 
+fn has_words(alloc: Global, fault: &FireFault, wanted: &str) -> bool {
+    match words(alloc, fault) {
+        Ok(words) => words.as_str().trim_end() == wanted,
+        Err(_) => false,
+    }
+}
+
+/// Whether a firing gave a definition whose full form has this text in it, or this fault.
+fn is_told(alloc: Global, fired: &Result<TaskDef, FireFault>, wanted: &str) -> bool {
+    match fired {
+        Ok(def) => has_part(alloc, def, wanted),
+        Err(fault) => has_words(alloc, fault, wanted),
+    }
+}
+
+/// Whether a hook gives this. Here alone a definition is owned, so that the proofs of the tests are short.
+fn tells(
+    alloc: Global,
+    hook: &Hook,
+    payload: &Doc,
+    moment: Moment,
+    drawn: SlugId,
+    wanted: &str,
+) -> bool {
+    let fired = fire(alloc, hook, payload, moment, drawn);
+    is_told(alloc, &fired, wanted)
+}
+
 /// Whether the hook of a template gives this, fired at this moment with this payload.
 fn gives(
     alloc: Global,
@@ -73,12 +112,11 @@ fn gives(
     millis: u64,
     wanted: &str,
 ) -> Result<bool, Fail> {
-    let hook = hook(alloc, template)?;
-    let payload = read(alloc, payload)?;
     let moment = Moment::from_millis(millis).ok_or("no moment")?;
     let drawn = SlugId::read(DRAWN).ok_or("no slugid")?;
-    let fired = fire(alloc, &hook, &payload, moment, drawn);
-    Ok(is_told(alloc, &fired, wanted)?)
+    let hook = hook(alloc, template)?;
+    let payload = read(alloc, payload)?;
+    Ok(tells(alloc, &hook, &payload, moment, drawn, wanted))
 }
 
 /// A line of the table is a template and what is wanted of it, with ` ~ ` between them.
