@@ -26,7 +26,7 @@ use Rattle.farm_cli.specs.Signing.{IsTooLong}
 use Rattle.farm_cli.specs.Views.{Views}
 
 -- the farm file that the words name was opened and came back
-pub record FileLent {F S C N T I : Type 0} (old new : Lendings F S C N T I) (said : Option Command) : Type 0 where
+pub record FileLent {F S C N T I D : Type 0} (old new : Lendings F S C N T I D) (said : Option Command) : Type 0 where
   pub farm : List ℕ
   pub work : Work
   pub asked : said ≡ Some (OverFarm farm work)
@@ -35,30 +35,30 @@ pub record FileLent {F S C N T I : Type 0} (old new : Lendings F S C N T I) (sai
   pub file : WasOpened old.file new.file farm opened closed
 
 -- the farm file breaks a rule, and no read of it failed
-pub record FileHasFault {F S C N T I : Type 0} (views : Views F S C N T I) (old new : Lendings F S C N T I) (said : Option Command) : Type 0 where
+pub record FileHasFault {F S C N T I D : Type 0} (views : Views F S C N T I D) (old new : Lendings F S C N T I D) (said : Option Command) : Type 0 where
   pub lent : FileLent old new said
   pub fault : IfSome (views.file_left lent.opened) HasFault
   pub reads_kept : views.file_faults lent.closed ≡ views.file_faults lent.opened
 
 -- the farm file's count of faults rose
-pub record FileFailed {F S C N T I : Type 0} (views : Views F S C N T I) (old new : Lendings F S C N T I) (said : Option Command) : Type 0 where
+pub record FileFailed {F S C N T I D : Type 0} (views : Views F S C N T I D) (old new : Lendings F S C N T I D) (said : Option Command) : Type 0 where
   pub lent : FileLent old new said
   pub rose : Rose (views.file_faults lent.opened) (views.file_faults lent.closed)
 
 -- the disk of this name was opened and came back, and no call of it failed
-pub record DiskKept {F S C N T I : Type 0} (views : Views F S C N T I) (old new : Lendings F S C N T I) (name : List ℕ) : Type 0 where
+pub record DiskKept {F S C N T I D : Type 0} (views : Views F S C N T I D) (old new : Lendings F S C N T I D) (name : List ℕ) : Type 0 where
   pub given : S
   pub back : S
   pub disk : WasOpened old.disk new.disk name given back
   pub kept : views.disk_faults back ≡ views.disk_faults given
 
 -- the same of the disk that is asked for, if one is
-abbrev pub KeepsDisk : {F S C N T I : Type 0} → Views F S C N T I → Lendings F S C N T I → Lendings F S C N T I → Option (List ℕ) → Type 0
+abbrev pub KeepsDisk : {F S C N T I D : Type 0} → Views F S C N T I D → Lendings F S C N T I D → Lendings F S C N T I D → Option (List ℕ) → Type 0
 KeepsDisk views old new None = new.disk ≡ old.disk
 KeepsDisk views old new (Some name) = DiskKept views old new name
 
 -- the farm file sets a farm up, no read of it failed, nor a call of the disk, and this is so of that farm and of the work
-pub record FileTaken {F S C N T I : Type 0} (views : Views F S C N T I) (old new : Lendings F S C N T I) (said : Option Command) (IsSo : Config → Work → Type 0) : Type 0 where
+pub record FileTaken {F S C N T I D : Type 0} (views : Views F S C N T I D) (old new : Lendings F S C N T I D) (said : Option Command) (IsSo : Config → Work → Type 0) : Type 0 where
   pub lent : FileLent old new said
   pub config : Config
   pub sets_up : IfSome (views.file_left lent.opened) (λ bytes. SetsUp bytes config)
@@ -67,7 +67,7 @@ pub record FileTaken {F S C N T I : Type 0} (views : Views F S C N T I) (old new
   pub is_so : IsSo config lent.work
 
 -- the farm file sets a farm up, and the disk that the work asks for was opened and came back, and this is so of it
-pub record DiskMet {F S C N T I : Type 0} (views : Views F S C N T I) (old new : Lendings F S C N T I) (said : Option Command) (IsSo : S → S → Type 0) : Type 0 where
+pub record DiskMet {F S C N T I D : Type 0} (views : Views F S C N T I D) (old new : Lendings F S C N T I D) (said : Option Command) (IsSo : S → S → Type 0) : Type 0 where
   pub lent : FileLent old new said
   pub config : Config
   pub sets_up : IfSome (views.file_left lent.opened) (λ bytes. SetsUp bytes config)
@@ -80,16 +80,16 @@ pub record DiskMet {F S C N T I : Type 0} (views : Views F S C N T I) (old new :
   pub is_so : IsSo given back
 
 -- a call of the disk failed
-abbrev pub DiskFailed : {F S C N T I : Type 0} → Views F S C N T I → Lendings F S C N T I → Lendings F S C N T I → Option Command → Type 0
+abbrev pub DiskFailed : {F S C N T I D : Type 0} → Views F S C N T I D → Lendings F S C N T I D → Lendings F S C N T I D → Option Command → Type 0
 DiskFailed views old new said = DiskMet views old new said (λ given back. Rose (views.disk_faults given) (views.disk_faults back))
 
 -- what the disk held is no farm's, where it tells what it holds
-abbrev pub DiskDamaged : {F S C N T I : Type 0} → Views F S C N T I → Lendings F S C N T I → Lendings F S C N T I → Option Command → Type 0
+abbrev pub DiskDamaged : {F S C N T I D : Type 0} → Views F S C N T I D → Lendings F S C N T I D → Lendings F S C N T I D → Option Command → Type 0
 DiskDamaged views old new said =
     (place : ℕ) × DiskMet views old new said (λ given back. views.disk_tells → IsFarmDamaged (views.disk_contents given).bytes place)
 
 -- the console was lent and came back, this count of its faults rose, and the other is as it was
-pub record ConsoleFailed {F S C N T I : Type 0} (faults others : C → ℕ) (old new : Lendings F S C N T I) : Type 0 where
+pub record ConsoleFailed {F S C N T I D : Type 0} (faults others : C → ℕ) (old new : Lendings F S C N T I D) : Type 0 where
   pub given : C
   pub back : C
   pub lent : WasLent old.console new.console given back
@@ -97,7 +97,7 @@ pub record ConsoleFailed {F S C N T I : Type 0} (faults others : C → ℕ) (old
   pub kept : others back ≡ others given
 
 -- the console was lent and came back, no call to it failed, and this is so of what it held
-pub record ConsoleHeld {F S C N T I : Type 0} (views : Views F S C N T I) (old new : Lendings F S C N T I) (IsSo : List ℕ → Type 0) : Type 0 where
+pub record ConsoleHeld {F S C N T I D : Type 0} (views : Views F S C N T I D) (old new : Lendings F S C N T I D) (IsSo : List ℕ → Type 0) : Type 0 where
   pub given : C
   pub back : C
   pub lent : WasLent old.console new.console given back
@@ -113,60 +113,60 @@ pub record EndsWith (bytes : List ℕ) (status : Status) : Type 0 where
   pub ends : EndsAs REQUESTS bytes messages served
 
 -- a request was to be signed, no farm file was asked for, and this is so of what was to be signed
-pub record SigningTaken {F S C N T I : Type 0} (old new : Lendings F S C N T I) (said : Option Command) (IsSo : Signing → Type 0) : Type 0 where
+pub record SigningTaken {F S C N T I D : Type 0} (old new : Lendings F S C N T I D) (said : Option Command) (IsSo : Signing → Type 0) : Type 0 where
   pub signing : Signing
   pub asked : said ≡ Some (Sign signing)
   pub file : new.file ≡ old.file
   pub is_so : IsSo signing
 
 -- a generated load was to be run, no farm file was asked for, and this is so
-pub record LoadTaken {F S C N T I : Type 0} (old new : Lendings F S C N T I) (said : Option Command) (IsSo : Type 0) : Type 0 where
+pub record LoadTaken {F S C N T I D : Type 0} (old new : Lendings F S C N T I D) (said : Option Command) (IsSo : Type 0) : Type 0 where
   pub load : Load
   pub asked : said ≡ Some (Bulk load)
   pub file : new.file ≡ old.file
   pub is_so : IsSo
 
 -- a template was to be rendered, no farm file was asked for, and this is so
-pub record RenderingTaken {F S C N T I : Type 0} (old new : Lendings F S C N T I) (said : Option Command) (IsSo : Type 0) : Type 0 where
+pub record RenderingTaken {F S C N T I D : Type 0} (old new : Lendings F S C N T I D) (said : Option Command) (IsSo : Type 0) : Type 0 where
   pub asked : said ≡ Some Render
   pub file : new.file ≡ old.file
   pub is_so : IsSo
 
 -- work over a farm is done: the messages of `answer` end well, the input of `expand` has an expansion
-abbrev pub IsDone : {F S C N T I : Type 0} → Views F S C N T I → Lendings F S C N T I → Lendings F S C N T I → Config → Work → Type 0
+abbrev pub IsDone : {F S C N T I D : Type 0} → Views F S C N T I D → Lendings F S C N T I D → Lendings F S C N T I D → Config → Work → Type 0
 IsDone views old new config (Answer disk) = ConsoleHeld views old new (λ bytes. EndsWith bytes Done)
 IsDone views old new config Expand = ConsoleHeld views old new (λ input. (text : List ℕ) × IsExpansion config.roles input text)
 IsDone views old new config (Check disk) = ConsoleHeld views old new (λ bytes. Unit {0})
 
 -- a request is signed: its body, if it has a content type, is not too long
-abbrev pub IsSigningDone : {F S C N T I : Type 0} → Views F S C N T I → Lendings F S C N T I → Lendings F S C N T I → Option (List ℕ) → Type 0
+abbrev pub IsSigningDone : {F S C N T I D : Type 0} → Views F S C N T I D → Lendings F S C N T I D → Lendings F S C N T I D → Option (List ℕ) → Type 0
 IsSigningDone views old new None = ConsoleHeld views old new (λ bytes. Unit {0})
 IsSigningDone views old new (Some content_type) = ConsoleHeld views old new (λ body. length body ≤ longest_input)
 
 -- the body of a request is refused
-abbrev pub IsSigningRefused : {F S C N T I : Type 0} → Views F S C N T I → Lendings F S C N T I → Lendings F S C N T I → Option (List ℕ) → Type 0
+abbrev pub IsSigningRefused : {F S C N T I D : Type 0} → Views F S C N T I D → Lendings F S C N T I D → Lendings F S C N T I D → Option (List ℕ) → Type 0
 IsSigningRefused views old new None = ⊥
 IsSigningRefused views old new (Some content_type) = ConsoleHeld views old new IsTooLong
 
 -- reads of the console failed: that of a request's body
-abbrev pub IsSigningUnread : {F S C N T I : Type 0} → Views F S C N T I → Lendings F S C N T I → Lendings F S C N T I → Option (List ℕ) → Type 0
+abbrev pub IsSigningUnread : {F S C N T I D : Type 0} → Views F S C N T I D → Lendings F S C N T I D → Lendings F S C N T I D → Option (List ℕ) → Type 0
 IsSigningUnread views old new None = ⊥
 IsSigningUnread views old new (Some content_type) = ConsoleFailed views.console_read_faults views.console_write_faults old new
 
 -- an input was refused: that of `expand`
-abbrev pub IsRefused : {F S C N T I : Type 0} → Views F S C N T I → Lendings F S C N T I → Lendings F S C N T I → Config → Work → Type 0
+abbrev pub IsRefused : {F S C N T I D : Type 0} → Views F S C N T I D → Lendings F S C N T I D → Lendings F S C N T I D → Config → Work → Type 0
 IsRefused views old new config (Answer disk) = ⊥
 IsRefused views old new config Expand = ConsoleHeld views old new (IsBadInput config.roles)
 IsRefused views old new config (Check disk) = ⊥
 
 -- a connection ended inside a message or by what is no request: that of `answer`
-abbrev pub IsCut : {F S C N T I : Type 0} → Views F S C N T I → Lendings F S C N T I → Lendings F S C N T I → Config → Work → Type 0
+abbrev pub IsCut : {F S C N T I D : Type 0} → Views F S C N T I D → Lendings F S C N T I D → Lendings F S C N T I D → Config → Work → Type 0
 IsCut views old new config (Answer disk) = ConsoleHeld views old new (λ bytes. EndsWith bytes Wire)
 IsCut views old new config Expand = ⊥
 IsCut views old new config (Check disk) = ⊥
 
 -- Each status comes only where this is so, and of several causes the one with the least number stands. Want of memory alone is free.
-abbrev pub HasReason : {F S C N T I : Type 0} → Views F S C N T I → Lendings F S C N T I → Lendings F S C N T I → ℕ → ℕ → Option Command → Status → Type 0
+abbrev pub HasReason : {F S C N T I D : Type 0} → Views F S C N T I D → Lendings F S C N T I D → Lendings F S C N T I D → ℕ → ℕ → Option Command → Status → Type 0
 HasReason views old new before now said Done =
     (now ≡ before) × (FileTaken views old new said (IsDone views old new)
     ⊎ (SigningTaken old new said (λ signing. IsSigningDone views old new signing.content_type)
