@@ -1,5 +1,6 @@
 pub mod EmptyLines
 pub mod HeadLemmas
+pub mod HeldLemmas
 pub mod KnownLemmas
 pub mod StreamLemmas
 pub mod StreamLaws

@@ -52,7 +52,7 @@ stops_inside held (Some more) short open_ at_end pairs =
 -- ---- a head, and what its rules make of it
 
 -- the head that the spans cover stands at the front of the stream
-begins : (held : List ℕ) (spans : List HeaderSpan) (at : HeadAt) (has : IsHeadAt held spans at) (more : List ℕ)
+pub begins : (held : List ℕ) (spans : List HeaderSpan) (at : HeadAt) (has : IsHeadAt held spans at) (more : List ℕ)
     → HasHead (held ++ more) has.head.0 (drop at.request.len held ++ more)
 begins held spans at has more =
     let lines = take at.lines held in
@@ -74,7 +74,7 @@ begins held spans at has more =
 abbrev pub fields_at : List ℕ → List HeaderSpan → HeadAt → List Header
 fields_at held spans at = map (header_bytes (take at.lines held)) (take at.request.headers spans)
 
-length_rule : (held : List ℕ) (spans : List HeaderSpan) (at : HeadAt) (has : IsHeadAt held spans at) (r : Result ℕ Wire)
+pub length_rule : (held : List ℕ) (spans : List HeaderSpan) (at : HeadAt) (has : IsHeadAt held spans at) (r : Result ℕ Wire)
     → r ≡ body_length (fields_at held spans at) → body_length (named_fields has.head.0) ≡ r
 length_rule held spans at has r e = sym (e ∙ ap body_length has.head.1.fields)
 

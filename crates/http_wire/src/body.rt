@@ -48,6 +48,7 @@ fn read_into<L: Link>(buf: &mut [u8], link: &mut L) -> Result<(), Wire>
     ensures lost { Loses (L.left link.old) (L.left link.new) }
     ensures ended { IfErr result (Ends (L.left link.new)) }
     ensures only_reads { OnlyReads (state_of L.Link link.old) (state_of L.Link link.new) result }
+    ensures untouched { length buf.old ≡ 0 → link.new ≡ link.old }
 {
     let mut filled = 0;
     while filled < buf.len() {
@@ -87,6 +88,7 @@ pub(crate) fn take_body<L: Link>(
     ensures ended { IfErr result (Ends (L.left link.new)) }
     ensures stop { IfErr result (IsBodyStop size (prepend_known (drop start held.old.items) (L.left link.old)) (L.read_faults link.old) (L.read_faults link.new)) }
     ensures only_reads { OnlyReads (state_of L.Link link.old) (state_of L.Link link.new) result }
+    ensures untouched { start + size ≤ vec_len held.old → link.new ≡ link.old }
 {
     let have = (held.len() - start).min(size);
     let mut body = match Vec::from_slice(alloc, &held[start..start + have]) {

@@ -1,5 +1,5 @@
 //! Sources, sinks and links of the host. They tell as much of what passes through them as the reader or writer below does.
-ghost use Rattle.std.specs.Prelude.{◌≡◌, ◌<◌, length, IfOk};
+ghost use Rattle.std.specs.Prelude.{◌≡◌, ◌<◌, ◌↔◌, length, IfOk, None};
 ghost use Rattle.std.specs.Io.{ReadsAtMost, WritesAtMost};
 ghost use Rattle.std.specs.Io.KnownBytes.{ReadConsumes, WriteAppends};
 ghost use Rattle.causes.specs.Causes.{HasCause};
@@ -15,6 +15,7 @@ pub struct HostSource<R> {
     inner: R,
     faults: FaultCount,
     why: Option<ErrorKind>,
+    ghost told: { (faults ≡ 0) ↔ (why ≡ None) },
 }
 
 impl<R: Read> HostSource<R> {
@@ -30,8 +31,10 @@ impl<R: Read> HostSource<R> {
         }
     }
 
-    /// Why the last read failed that did, as the reader told it.
-    pub fn why(&self) -> Option<ErrorKind> {
+    /// Why the last read failed that did, as the reader told it. It is none just where none has.
+    pub fn why(&self) -> Option<ErrorKind>
+        ensures { (⟦<HostSource<R> as Source>⟧.faults self.now ≡ 0) ↔ (result ≡ None) }
+    {
         self.why
     }
 }
@@ -59,6 +62,7 @@ pub struct HostSink<W> {
     inner: W,
     faults: FaultCount,
     why: Option<ErrorKind>,
+    ghost told: { (faults ≡ 0) ↔ (why ≡ None) },
 }
 
 impl<W: Write> HostSink<W> {
@@ -74,8 +78,10 @@ impl<W: Write> HostSink<W> {
         }
     }
 
-    /// Why the last write failed that did, as the writer told it.
-    pub fn why(&self) -> Option<ErrorKind> {
+    /// Why the last write failed that did, as the writer told it. It is none just where none has.
+    pub fn why(&self) -> Option<ErrorKind>
+        ensures { (⟦<HostSink<W> as Sink>⟧.faults self.now ≡ 0) ↔ (result ≡ None) }
+    {
         self.why
     }
 }

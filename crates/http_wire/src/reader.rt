@@ -3,11 +3,12 @@ ghost use Rattle.std.specs.Prelude.{◌≡◌, ℕ, ◌<◌, ◌≤◌, List, []
 ghost use Rattle.std.specs.Io.KnownBytes.{prepend_known, Keeps, IsAtEnd};
 ghost use Rattle.causes.specs.Causes.{Rose};
 ghost use Rattle.http_wire.specs.declared.head.TheConstants.{FIELD_LIMIT, HEAD_LIMIT};
-ghost use Rattle.http_wire.specs.Head.{IsOpen};
+ghost use Rattle.httparse.specs.Grammar.{RequestHead};
+ghost use Rattle.http_wire.specs.Head.{HasHead, IsOpen};
 ghost use Rattle.http_wire.specs.Front.{IsHeadAt};
 ghost use Rattle.http_wire.specs.Calls.{state_of, OnlyReads};
 ghost use Rattle.http_wire.specs.Reading.{Ends, IsFillStop, KeepsUnlessFailed, Leaves};
-ghost use Rattle.http_wire.specs.Stream.{TakesOne, Stops};
+ghost use Rattle.http_wire.specs.Stream.{Gives, whole, TakesOne, Stops};
 
 use crate::body::{fill, take_body};
 use crate::head::{FIELD_LIMIT, Front, HEAD_LIMIT, HeadAt, are_empty_lines, lines_end, look_at};
@@ -54,6 +55,7 @@ fn read_head<L: Link>(
     ensures kept { Keeps (prepend_known held.old.items (L.left link.old)) (prepend_known held.new.items (L.left link.new)) }
     ensures ended { IfErr result (Ends (L.left link.new)) }
     ensures only_reads { OnlyReads (state_of L.Link link.old) (state_of L.Link link.new) result }
+    ensures untouched { (h : RequestHead) (rest : List ℕ) → HasHead held.old.items h rest → (link.new ≡ link.old) × (held.new.items ≡ held.old.items) }
 {
     loop {
         match look_at(held, spans) {
@@ -84,6 +86,7 @@ fn next_message<L: Link>(
     ensures leaves { IfErr result (Leaves (prepend_known held.old.items (L.left link.old)) (prepend_known held.new.items (L.left link.new))) }
     ensures ended { IfErr result (Ends (L.left link.new)) }
     ensures only_reads { OnlyReads (state_of L.Link link.old) (state_of L.Link link.new) result }
+    ensures untouched { (m : Message) (rest : List ℕ) → Gives held.old.items (whole m rest) → link.new ≡ link.old }
 {
     let at = match read_head(held, spans, link) {
         Ok(at) => at,
@@ -145,6 +148,9 @@ impl Reader {
         // Where the input has ended, no byte is left. Only a read that fails gives ReadFault, and nothing is written.
         ensures ended { IfErr result (Ends (L.left link.new)) }
         ensures only_reads { OnlyReads (state_of L.Link link.old) (state_of L.Link link.new) result }
+
+        // Where the bytes held give a whole message, the link is left as it was.
+        ensures untouched { (m : Message) (rest : List ℕ) → Gives self.old (whole m rest) → link.new ≡ link.old }
     {
         next_message(&mut self.held, &mut self.spans, alloc, link)
     }

@@ -31,6 +31,7 @@ loop-filled-preserved g c =
       reads = c.in-Ok.ensures.cause.kept ∙ c.loop-filled.invariant.reads;
       written = c.in-Ok.ensures.written ∙ c.loop-filled.invariant.written;
       write_faults = c.in-Ok.ensures.write_faults ∙ c.loop-filled.invariant.write_faults;
+      untouched = λ none. absurd (omega arith);
     }
 
 pub returns-in-Err-clause-ended : goal.returns-in-Err-clause-ended

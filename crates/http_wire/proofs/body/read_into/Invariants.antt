@@ -11,6 +11,7 @@ invariant-loop-filled g l = record {
   reads : g.L.Link.read_faults l.link ≡ g.L.Link.read_faults l.initial.link;
   written : g.L.Link.written l.link ≡ g.L.Link.written l.initial.link;
   write_faults : g.L.Link.write_faults l.link ≡ g.L.Link.write_faults l.initial.link;
+  untouched : length l.initial.buf ≡ 0 → l.link ≡ l.initial.link;
 }
 
 abbrev pub decreases-loop-filled : goal.decreases-loop-filled

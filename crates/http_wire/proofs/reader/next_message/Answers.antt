@@ -1,8 +1,10 @@
-use Rattle.std.proofs.Common.{◌≡◌, Ok, Err, take, length, sym, ap, subst, arith}
+use Rattle.std.proofs.Common.{◌≡◌, Ok, Err, take, length, sym, ap, ◌∙◌, subst, arith}
 use Rattle.std.specs.Io.KnownBytes.{Consumes}
 use Rattle.httparse.specs.Spans.{IsRequestAt}
 use Rattle.http_wire.specs.Framing.{body_length}
 use Rattle.http_wire.specs.declared.message.Message.{Message}
+use Rattle.http_wire.specs.Stream.{Gives, whole}
+use Rattle.http_wire.proofs.HeldLemmas.{head_held, body_held}
 use Rattle.http_wire.proofs.KnownLemmas.{Leaves-then}
 use Rattle.http_wire.proofs.StreamLemmas.{fields_at, Stops-kept, stops_refused, refused_ends, takes_one, stops_body, TakesOne-kept}
 use Rattle.http_wire.proofs.reader.next_message.Goals as goal
@@ -35,3 +37,19 @@ returns-in-Err-body_length-clause-ended g c = refused_ends _ _ _ c.in-Err-body_l
 
 pub returns-in-Err-message_of-clause-ended : goal.returns-in-Err-message_of-clause-ended
 returns-in-Err-message_of-clause-ended g c = tt
+
+pub returns-in-Ok-take_body-clause-untouched : goal.returns-in-Ok-take_body-clause-untouched
+returns-in-Ok-take_body-clause-untouched g c m rest gives =
+    let rule = subst (λ held. Ok c.in-Ok-body_length.size ≡ body_length (fields_at held c.read_head.new.spans c.in-Ok.at)) c.deref.ensures.value c.in-Ok-body_length.ensures in
+    let found = head_held _ m rest gives in
+    let same = c.in-Ok.ensures.untouched found.0 found.1 found.2 in
+    let fits = body_held _ _ c.in-Ok.at m rest c.in-Ok-body_length.size c.in-Ok.ensures.head rule (subst (λ held. Gives held (whole m rest)) (sym same.1) gives) in
+    c.in-Ok-take_body.ensures.untouched (omega (arith, fits, c.read_head.new.held.ok.0)) ∙ same.0
+
+pub returns-in-Err-take_body-clause-untouched : goal.returns-in-Err-take_body-clause-untouched
+returns-in-Err-take_body-clause-untouched g c m rest gives =
+    let rule = subst (λ held. Ok c.in-Ok-body_length.size ≡ body_length (fields_at held c.read_head.new.spans c.in-Ok.at)) c.deref.ensures.value c.in-Ok-body_length.ensures in
+    let found = head_held _ m rest gives in
+    let same = c.in-Ok.ensures.untouched found.0 found.1 found.2 in
+    let fits = body_held _ _ c.in-Ok.at m rest c.in-Ok-body_length.size c.in-Ok.ensures.head rule (subst (λ held. Gives held (whole m rest)) (sym same.1) gives) in
+    c.in-Err-take_body.ensures.untouched (omega (arith, fits, c.read_head.new.held.ok.0)) ∙ same.0
