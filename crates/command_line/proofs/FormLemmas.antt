@@ -16,22 +16,27 @@ use Rattle.clap.specs.declared.error.ErrorKind.TheVariants.{UnknownArgument, Inv
 use Rattle.command_line.proofs.DiskFormLemmas.{Says, args, both_read, end_of, faults, found, reads, start, start_said}
 use Rattle.command_line.proofs.FaultLemmas.{first_fails, held, help, level_fails, long_flag, none_some, or_left, rest_fails, short_flag}
 use Rattle.command_line.proofs.FlagLemmas.{IsFlag, value_cases, word_kind}
-use Rattle.command_line.proofs.LawLemmas.{answer_stops, bulk_stops, check_stops, empty_read, expand_stops, fails_below, help_first, no_reading, other_first, sign_stops}
+use Rattle.command_line.proofs.LawLemmas.{answer_stops, bulk_stops, check_stops, empty_read, expand_stops, fails_below, help_first, no_reading, other_first, serve_stops, sign_stops}
 use Rattle.command_line.proofs.RenderLemmas.{render_ends, render_read}
-use Rattle.command_line.specs.Forms.{EndsOptions, Gives, GivesValue, IsValue, SaysRender, SaysWork}
-use Rattle.command_line.specs.Words.{IsPlain, command_in, farm_app, reading, with_farm}
+use Rattle.command_line.specs.Forms.{EndsOptions, Gives, GivesValue, IsOfOne, IsValue, SaysRender, SaysWork}
+use Rattle.command_line.specs.Words.{IsPlain, command_in, farm_app, reading, serve_in, with_farm}
 use Rattle.command_line.specs.Load.{load_in}
+use Rattle.command_line.specs.Service.{service_in}
 use Rattle.command_line.specs.Signing.{signing_in}
 use Rattle.command_line.specs.declared.command.Command.{Command}
 use Rattle.command_line.specs.declared.command.Command.TheVariants.{OverFarm, Sign, Bulk, Render}
 use Rattle.command_line.specs.declared.command.Work.{Work}
-use Rattle.command_line.specs.declared.command.Work.TheVariants.{Answer, Expand, Check}
+use Rattle.command_line.specs.declared.command.Work.TheVariants.{Answer, Expand, Check, Serve}
 use Rattle.command_line.specs.declared.load.Load.{Load}
+use Rattle.command_line.specs.declared.service.Service.{Service}
 use Rattle.command_line.specs.declared.signing.Signing.{Signing}
 
--- the words say the command, if it is work over a farm or `render`
+-- the words say the command, if it is work over a farm other than `serve`, or `render`
 abbrev SaysCommand : Command → List Text → Type 0
-SaysCommand (OverFarm farm work) words = SaysWork farm work words
+SaysCommand (OverFarm farm (Serve service)) words = Unit {0}
+SaysCommand (OverFarm farm (Answer disk)) words = SaysWork farm (Answer disk) words
+SaysCommand (OverFarm farm Expand) words = SaysWork farm Expand words
+SaysCommand (OverFarm farm (Check disk)) words = SaysWork farm (Check disk) words
 SaysCommand (Sign signing) words = Unit {0}
 SaysCommand (Bulk load) words = Unit {0}
 SaysCommand Render words = SaysRender words
@@ -145,26 +150,27 @@ dash_unread rest = refl
 abbrev IsName : Text → Type 0
 IsName w =
     (bytes_eq (codes "answer") w ≡ true) ⊎ ((bytes_eq (codes "expand") w ≡ true) ⊎ ((bytes_eq (codes "check") w ≡ true) ⊎ ((bytes_eq (codes "sign") w ≡ true)
-    ⊎ ((bytes_eq (codes "bulk") w ≡ true) ⊎ (bytes_eq (codes "render") w ≡ true)))))
+    ⊎ ((bytes_eq (codes "bulk") w ≡ true) ⊎ ((bytes_eq (codes "render") w ≡ true) ⊎ (bytes_eq (codes "serve") w ≡ true))))))
 
-value_named : (w : Text) (rest : List Text) (command : Command) → IsPlain w → reading (w ∷ rest) ≡ Some command → (a e c s b r h : Bool) → bytes_eq (codes "answer") w ≡ a
+value_named : (w : Text) (rest : List Text) (command : Command) → IsPlain w → reading (w ∷ rest) ≡ Some command → (a e c s b r v h : Bool) → bytes_eq (codes "answer") w ≡ a
     → bytes_eq (codes "expand") w ≡ e → bytes_eq (codes "check") w ≡ c → bytes_eq (codes "sign") w ≡ s → bytes_eq (codes "bulk") w ≡ b → bytes_eq (codes "render") w ≡ r
-    → bytes_eq (codes "help") w ≡ h → IsName w
-value_named w rest command plain read true e c s b r h is_a is_e is_c is_s is_b is_r is_h = inl is_a
-value_named w rest command plain read false true c s b r h is_a is_e is_c is_s is_b is_r is_h = inr (inl is_e)
-value_named w rest command plain read false false true s b r h is_a is_e is_c is_s is_b is_r is_h = inr (inr (inl is_c))
-value_named w rest command plain read false false false true b r h is_a is_e is_c is_s is_b is_r is_h = inr (inr (inr (inl is_s)))
-value_named w rest command plain read false false false false true r h is_a is_e is_c is_s is_b is_r is_h = inr (inr (inr (inr (inl is_b))))
-value_named w rest command plain read false false false false false true h is_a is_e is_c is_s is_b is_r is_h = inr (inr (inr (inr (inr is_r))))
-value_named w rest command plain read false false false false false false true is_a is_e is_c is_s is_b is_r is_h =
+    → bytes_eq (codes "serve") w ≡ v → bytes_eq (codes "help") w ≡ h → IsName w
+value_named w rest command plain read true e c s b r v h is_a is_e is_c is_s is_b is_r is_v is_h = inl is_a
+value_named w rest command plain read false true c s b r v h is_a is_e is_c is_s is_b is_r is_v is_h = inr (inl is_e)
+value_named w rest command plain read false false true s b r v h is_a is_e is_c is_s is_b is_r is_v is_h = inr (inr (inl is_c))
+value_named w rest command plain read false false false true b r v h is_a is_e is_c is_s is_b is_r is_v is_h = inr (inr (inr (inl is_s)))
+value_named w rest command plain read false false false false true r v h is_a is_e is_c is_s is_b is_r is_v is_h = inr (inr (inr (inr (inl is_b))))
+value_named w rest command plain read false false false false false true v h is_a is_e is_c is_s is_b is_r is_v is_h = inr (inr (inr (inr (inr (inl is_r)))))
+value_named w rest command plain read false false false false false false true h is_a is_e is_c is_s is_b is_r is_v is_h = inr (inr (inr (inr (inr (inr is_v)))))
+value_named w rest command plain read false false false false false false false true is_a is_e is_c is_s is_b is_r is_v is_h =
     let none = help_first w rest is_h in absurd (none_some command (sym none ∙ read))
-value_named w rest command plain read false false false false false false false is_a is_e is_c is_s is_b is_r is_h =
-    let none = other_first w rest plain is_a is_e is_c is_s is_b is_r is_h in absurd (none_some command (sym none ∙ read))
+value_named w rest command plain read false false false false false false false false is_a is_e is_c is_s is_b is_r is_v is_h =
+    let none = other_first w rest plain is_a is_e is_c is_s is_b is_r is_v is_h in absurd (none_some command (sym none ∙ read))
 
 first_named : (w : Text) (rest : List Text) (command : Command) → IsUtf8 w → reading (w ∷ rest) ≡ Some command → IsName w
 first_named w rest command utf8 read = elim (word_kind w utf8) [
   | inl v ↦ elim v [
-    | inl plain ↦ value_named w rest command plain read _ _ _ _ _ _ _ refl refl refl refl refl refl refl
+    | inl plain ↦ value_named w rest command plain read _ _ _ _ _ _ _ _ refl refl refl refl refl refl refl refl
     | inr dash ↦ let none = no_reading ((45 ∷ []) ∷ rest) (ap is_empty (dash_unread rest)) in
         absurd (none_some command (sym none ∙ subst (λ a. reading (a ∷ rest) ≡ Some command) dash read))
   ]
@@ -323,8 +329,8 @@ met_at name = record { held = nothing_held; waiting = idle; position = 1; is_tra
 command_goes : (name : Text) (rest : List Text) → stop_after top.rules top_names (name ∷ rest) ≡ Some (name, rest) → turn_fault top top_names (walk_from nothing_held) name ≡ []
     → walked top.rules top_names (walk_from nothing_held) name ≡ met_at name → entered_fault (built farm_app) (Some (name, rest)) ≡ faults name start rest
     → entered (built farm_app) (Some (name, rest)) ≡ Some (name, finished (args name) (end_of name start rest)) → bytes_eq name (codes "sign") ≡ false → bytes_eq name (codes "bulk") ≡ false
-    → bytes_eq name (codes "render") ≡ false → reading (name ∷ rest) ≡ reads name start rest
-command_goes name rest stops none goes below met other another third =
+    → bytes_eq name (codes "render") ≡ false → bytes_eq name (codes "serve") ≡ false → reading (name ∷ rest) ≡ reads name start rest
+command_goes name rest stops none goes below met other another third fourth =
     let app : App = built farm_app in
     let words : List Text = name ∷ rest in
     let rows : List Row = finished (args name) (end_of name start rest) in
@@ -332,32 +338,35 @@ command_goes name rest stops none goes below met other another third =
     ap (λ (stop : Option (Text × List Text)). level_fault top top_names nothing_held words (is_some (entered app stop)) (entered_fault app stop)) stops
     ∙ (ap (λ (o : Option (Text × List Row)). level_fault top top_names nothing_held words (is_some o) (entered_fault app (Some (name, rest)))) met
     ∙ (level_below (met_at name) name rest (entered_fault app (Some (name, rest))) refl refl none goes ∙ (or_none _ ∙ below))) in
+    let serves : Option Command = cond (bytes_eq name (codes "serve")) (serve_in rows) (found name start rest) in
     let read : option_and_then command_in (subcommand_of farm_app words) ≡ found name start rest =
     ap (λ (stop : Option (Text × List Text)). option_and_then command_in (entered app stop)) stops
     ∙ (ap (option_and_then command_in) met
-    ∙ (ap (λ (b : Bool). cond b (option_map (λ signing. Sign signing) (signing_in rows)) (cond (bytes_eq name (codes "bulk")) (option_map (λ load. Bulk load) (load_in rows)) (cond (bytes_eq name (codes "render")) (Some Render) (found name start rest)))) other
-    ∙ (ap (λ (b : Bool). cond b (option_map (λ load. Bulk load) (load_in rows)) (cond (bytes_eq name (codes "render")) (Some Render) (found name start rest))) another
-    ∙ ap (λ (b : Bool). cond b (Some Render) (found name start rest)) third))) in
+    ∙ (ap (λ (b : Bool). cond b (option_map (λ signing. Sign signing) (signing_in rows)) (cond (bytes_eq name (codes "bulk")) (option_map (λ load. Bulk load) (load_in rows)) (cond (bytes_eq name (codes "render")) (Some Render) serves))) other
+    ∙ (ap (λ (b : Bool). cond b (option_map (λ load. Bulk load) (load_in rows)) (cond (bytes_eq name (codes "render")) (Some Render) serves)) another
+    ∙ (ap (λ (b : Bool). cond b (Some Render) serves) third ∙ ap (λ (b : Bool). cond b (serve_in rows) (found name start rest)) fourth)))) in
     ap (λ (k : Kinds). cond (is_empty k) (option_and_then command_in (subcommand_of farm_app words)) None) fault
     ∙ ap (λ (o : Option Command). cond (is_empty (faults name start rest)) o None) read
 
 answer_goes : (rest : List Text) → reading (codes "answer" ∷ rest) ≡ reads (codes "answer") start rest
 unfolding clap_on_literals
-answer_goes rest = command_goes (codes "answer") rest (answer_stops rest) refl refl refl refl refl refl refl
+answer_goes rest = command_goes (codes "answer") rest (answer_stops rest) refl refl refl refl refl refl refl refl
 
 check_goes : (rest : List Text) → reading (codes "check" ∷ rest) ≡ reads (codes "check") start rest
 unfolding clap_on_literals
-check_goes rest = command_goes (codes "check") rest (check_stops rest) refl refl refl refl refl refl refl
+check_goes rest = command_goes (codes "check") rest (check_stops rest) refl refl refl refl refl refl refl refl
 
 answer_says : (rest : List Text) (command : Command) → Says (codes "answer") command rest → SaysCommand command (codes "answer" ∷ rest)
 answer_says rest (OverFarm farm (Answer disk)) says = let is : says.0 ≡ disk = cc in (refl, subst (λ (d : Option Text). Gives farm d rest) is says.2)
 answer_says rest (OverFarm farm Expand) says = cc
 answer_says rest (OverFarm farm (Check disk)) says = cc
+answer_says rest (OverFarm farm (Serve service)) says = tt
 answer_says rest (Sign signing) says = tt
 answer_says rest (Bulk load) says = tt
 answer_says rest Render says = absurd says
 
 check_says : (rest : List Text) (command : Command) → Says (codes "check") command rest → SaysCommand command (codes "check" ∷ rest)
+check_says rest (OverFarm farm (Serve service)) says = tt
 check_says rest (OverFarm farm (Answer disk)) says = cc
 check_says rest (OverFarm farm Expand) says = cc
 check_says rest (OverFarm farm (Check disk)) says = let is : says.0 ≡ disk = cc in (refl, subst (λ (d : Option Text). Gives farm d rest) is says.2)
@@ -377,9 +386,12 @@ taken : (b : Bool) (o : Option Command) (command : Command) → cond b o None �
 taken true o command e = e
 taken false o command e = absurd (none_some command e)
 
+other_command : {s : Signing} (farm : Text) (work : Work) → Some (Sign s) ≡ Some (OverFarm farm work) → ⊥
+other_command farm work e = cc
+
 sign_command : (o : Option Signing) (words : List Text) (command : Command) → option_map (λ s. Sign s) o ≡ Some command → SaysCommand command words
 sign_command None words command e = absurd (none_some command e)
-sign_command (Some s) words (OverFarm farm work) e = cc
+sign_command (Some s) words (OverFarm farm work) e = absurd (other_command farm work e)
 sign_command (Some s) words (Sign signing) e = tt
 sign_command (Some s) words (Bulk load) e = tt
 sign_command (Some s) words Render e = cc
@@ -392,9 +404,12 @@ sign_said rest command read =
 
 -- ---- bulk
 
+load_command : (l : Load) (farm : Text) (work : Work) → Some (Bulk l) ≡ Some (OverFarm farm work) → ⊥
+load_command l farm work e = cc
+
 bulk_command : (o : Option Load) (words : List Text) (command : Command) → option_map (λ l. Bulk l) o ≡ Some command → SaysCommand command words
 bulk_command None words command e = absurd (none_some command e)
-bulk_command (Some l) words (OverFarm farm work) e = cc
+bulk_command (Some l) words (OverFarm farm work) e = absurd (load_command l farm work e)
 bulk_command (Some l) words (Sign signing) e = tt
 bulk_command (Some l) words (Bulk load) e = tt
 bulk_command (Some l) words Render e = cc
@@ -407,8 +422,11 @@ bulk_said rest command read =
 
 -- ---- render
 
+render_only : (farm : Text) (work : Work) → Some Render ≡ Some (OverFarm farm work) → ⊥
+render_only farm work e = cc
+
 render_command : (rest : List Text) (command : Command) → EndsOptions rest → reading (codes "render" ∷ rest) ≡ Some command → SaysCommand command (codes "render" ∷ rest)
-render_command rest (OverFarm farm work) ends read = let is = render_read rest ends in cc
+render_command rest (OverFarm farm work) ends read = absurd (render_only farm work (sym (render_read rest ends) ∙ read))
 render_command rest (Sign signing) ends read = tt
 render_command rest (Bulk load) ends read = tt
 render_command rest Render ends read = (refl, ends)
@@ -420,6 +438,23 @@ pub says_render_read : (words : List Text) → SaysRender words → reading word
 says_render_read [] says = absurd says
 says_render_read (w ∷ rest) says = subst (λ a. reading (a ∷ rest) ≡ Some Render) (sym says.0) (render_read rest says.1)
 
+-- ---- serve
+
+serve_command : (o : Option Text) (s : Option Service) (words : List Text) (command : Command) → option_and_then (λ farm. option_map (λ service. OverFarm farm (Serve service)) s) o ≡ Some command
+    → SaysCommand command words
+serve_command None s words command e = absurd (none_some command e)
+serve_command (Some f) None words command e = absurd (none_some command e)
+serve_command (Some f) (Some s) words command e = subst (λ (k : Command). SaysCommand k words) (one (OverFarm f (Serve s)) command e) tt
+  where
+    one : (a b : Command) → Some a ≡ Some b → a ≡ b
+    one a b e = cc
+
+serve_said : (rest : List Text) (command : Command) → reading (codes "serve" ∷ rest) ≡ Some command → SaysCommand command (codes "serve" ∷ rest)
+unfolding clap_on_literals
+serve_said rest command read =
+    let met = taken (is_empty (fault_of farm_app (codes "serve" ∷ rest))) (option_and_then command_in (subcommand_of farm_app (codes "serve" ∷ rest))) command read in
+    serve_command _ _ (codes "serve" ∷ rest) command (sym (ap (λ stop. option_and_then command_in (entered (built farm_app) stop)) (serve_stops rest)) ∙ met)
+
 -- ---- both ways
 
 pub reading_says : (words : List Text) (command : Command) → All IsUtf8 words → reading words ≡ Some command → SaysCommand command words
@@ -430,7 +465,8 @@ reading_says (w ∷ rest) command utf8 read = elim (first_named w rest command (
   | inr (inr (inl c)) ↦ named (codes "check") c (check_said rest command others)
   | inr (inr (inr (inl s))) ↦ named (codes "sign") s (sign_said rest command)
   | inr (inr (inr (inr (inl b)))) ↦ named (codes "bulk") b (bulk_said rest command)
-  | inr (inr (inr (inr (inr r)))) ↦ named (codes "render") r (render_said rest command others)
+  | inr (inr (inr (inr (inr (inl r))))) ↦ named (codes "render") r (render_said rest command others)
+  | inr (inr (inr (inr (inr (inr v))))) ↦ named (codes "serve") v (serve_said rest command)
 ]
   where
     others : All IsUtf8 rest
@@ -445,17 +481,24 @@ given_read name of f rest alone after before (inl p) = subst (λ words. reading 
 given_read name of f rest alone after before (inr (inl e)) = subst (λ words. reading (name ∷ words) ≡ Some (of f)) (sym e) after
 given_read name of f rest alone after before (inr (inr p)) = subst (λ words. reading (name ∷ words) ≡ Some (of f)) (sym p.1) (before p.0)
 
-pub said_read : (words : List Text) (farm : Text) (work : Work) → SaysWork farm work words → reading words ≡ Some (OverFarm farm work)
-said_read [] farm work says = absurd says
-said_read (w ∷ rest) f (Answer None) says =
+pub work_said : (words : List Text) (farm : Text) (work : Work) → IsOfOne work → All IsUtf8 words → reading words ≡ Some (OverFarm farm work) → SaysWork farm work words
+work_said words farm (Answer disk) is utf8 read = reading_says words (OverFarm farm (Answer disk)) utf8 read
+work_said words farm Expand is utf8 read = reading_says words (OverFarm farm Expand) utf8 read
+work_said words farm (Check disk) is utf8 read = reading_says words (OverFarm farm (Check disk)) utf8 read
+work_said words farm (Serve service) is utf8 read = absurd is
+
+pub said_read : (words : List Text) (farm : Text) (work : Work) → IsOfOne work → SaysWork farm work words → reading words ≡ Some (OverFarm farm work)
+said_read [] farm work is says = absurd says
+said_read (w ∷ rest) f (Answer None) is says =
     subst (λ a. reading (a ∷ rest) ≡ Some (OverFarm f (Answer None))) (sym says.0)
     (given_read (codes "answer") (λ f. OverFarm f (Answer None)) f rest (answer_alone f) (answer_after f) (answer_before f) says.1)
-said_read (w ∷ rest) f (Answer (Some d)) says =
+said_read (w ∷ rest) f (Answer (Some d)) is says =
     subst (λ a. reading (a ∷ rest) ≡ Some (OverFarm f (Answer (Some d)))) (sym says.0) (answer_goes rest ∙ both_read (codes "answer") f d rest says.1)
-said_read (w ∷ rest) f Expand says =
+said_read (w ∷ rest) f Expand is says =
     subst (λ a. reading (a ∷ rest) ≡ Some (OverFarm f Expand)) (sym says.0) (given_read (codes "expand") (λ f. OverFarm f Expand) f rest (expand_alone f) (expand_after f) (expand_before f) says.1)
-said_read (w ∷ rest) f (Check None) says =
+said_read (w ∷ rest) f (Check None) is says =
     subst (λ a. reading (a ∷ rest) ≡ Some (OverFarm f (Check None))) (sym says.0)
     (given_read (codes "check") (λ f. OverFarm f (Check None)) f rest (check_alone f) (check_after f) (check_before f) says.1)
-said_read (w ∷ rest) f (Check (Some d)) says =
+said_read (w ∷ rest) f (Serve service) is says = absurd is
+said_read (w ∷ rest) f (Check (Some d)) is says =
     subst (λ a. reading (a ∷ rest) ≡ Some (OverFarm f (Check (Some d)))) (sym says.0) (check_goes rest ∙ both_read (codes "check") f d rest says.1)

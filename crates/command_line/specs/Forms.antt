@@ -3,6 +3,7 @@
 use Rattle.std.specs.Prelude.{◌≡◌, ◌⊎◌, ℕ, List, [], ◌∷◌, ◌++◌, codes, Option, Some, None}
 use Rattle.command_line.specs.Words.{IsPlain, disk_of, name_of}
 use Rattle.command_line.specs.declared.command.Work.{Work}
+use Rattle.command_line.specs.declared.command.Work.TheVariants.{Answer, Expand, Check, Serve}
 
 -- the word may stand for a value as it is: it does not begin with `-`, or is `-` alone
 abbrev pub IsValue : List ℕ → Type 0
@@ -31,6 +32,13 @@ GivesBoth farm disk words =
 abbrev pub Gives : List ℕ → Option (List ℕ) → List (List ℕ) → Type 0
 Gives farm None words = GivesValue farm words
 Gives farm (Some disk) words = GivesBoth farm disk words
+
+-- the work is not `serve`
+abbrev pub IsOfOne : Work → Type 0
+IsOfOne (Answer disk) = Unit {0}
+IsOfOne Expand = Unit {0}
+IsOfOne (Check disk) = Unit {0}
+IsOfOne (Serve service) = ⊥
 
 -- the words are the name of this work, and then give its farm file and its disk
 abbrev pub SaysWork : List ℕ → Work → List (List ℕ) → Type 0

@@ -1,6 +1,6 @@
 //! What follows from the definitions. The functions do nothing: each contract is a law.
 ghost use Rattle.std.specs.Prelude.{◌≡◌, ◌↔◌, ℕ, List, [], ◌∷◌, Some, None, All, IsUtf8};
-ghost use Rattle.command_line.specs.Forms.{SaysRender, SaysWork};
+ghost use Rattle.command_line.specs.Forms.{IsOfOne, SaysRender, SaysWork};
 ghost use Rattle.command_line.specs.Words.{disk_of, reading, name_of, IsPlain};
 ghost use Rattle.command_line.specs.declared.command.Command.TheVariants.{OverFarm, Render};
 ghost use Rattle.command_line.specs.declared.command.Work.{Work as AnyWork};
@@ -10,10 +10,10 @@ pub fn plain_words_are_read()
     ensures { (farm : List ℕ) (work : AnyWork) → IsPlain farm → disk_of work ≡ None → reading (name_of work ∷ farm ∷ []) ≡ Some (OverFarm farm work) }
 {}
 
-/// Of all texts exactly these are read as work over a farm: the work's name, and then the farm file, alone, after `--`, or before a
+/// Of all texts exactly these are read as work over a farm other than `serve`: the work's name, and then the farm file, alone, after `--`, or before a
 /// last `--`; and where the work has a disk, `--disk` with its name before or after the farm file, and before any `--`.
 pub fn words_that_say_a_command_are_read()
-    ensures { (words : List (List ℕ)) (farm : List ℕ) (work : AnyWork) → All IsUtf8 words
+    ensures { (words : List (List ℕ)) (farm : List ℕ) (work : AnyWork) → All IsUtf8 words → IsOfOne work
         → ((reading words ≡ Some (OverFarm farm work)) ↔ SaysWork farm work words) }
 {}
 

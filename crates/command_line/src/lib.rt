@@ -6,6 +6,7 @@ mod laws;
 mod load;
 mod program;
 mod reading;
+mod service;
 mod signing;
 mod values;
 
@@ -15,4 +16,5 @@ pub use laws::{
 };
 pub use load::Load;
 pub use reading::{WordsFault, read_words};
+pub use service::Service;
 pub use signing::Signing;

@@ -1,6 +1,7 @@
 //! The forms of the values of options.
-ghost use Rattle.std.specs.Prelude.{◌≡◌, true, false, length, MatchOption};
+ghost use Rattle.std.specs.Prelude.{◌≡◌, true, false, length, MatchOption, option_map};
 ghost use Rattle.std.specs.Str.Parse.{digits_value};
+ghost use Rattle.command_line.specs.Service.{connections_said, workers_said};
 ghost use Rattle.command_line.specs.Values as forms;
 
 fn has_length(text: &str, least: usize, most: usize) -> bool
@@ -120,6 +121,38 @@ pub(crate) fn tasks_of(text: &str) -> Option<u32>
     }
     match text.parse::<u32>() {
         Ok(tasks) if tasks <= 100_000 => Some(tasks),
+        _ => None,
+    }
+}
+
+/// How many workers a text of 1 to 19 digits says, from 1 to 64; where there is none, 4.
+pub(crate) fn workers_of(text: Option<&str>) -> Option<u8>
+    ensures { result ≡ workers_said (option_map (λ t. t.now) text.entry) }
+{
+    let Some(text) = text else {
+        return Some(4);
+    };
+    if !has_length(text, 1, 19) || !are_digits(text) {
+        return None;
+    }
+    match text.parse::<u8>() {
+        Ok(workers) if 1 <= workers && workers <= 64 => Some(workers),
+        _ => None,
+    }
+}
+
+/// How many connections a text of 1 to 19 digits says, from 1 to 1,000,000; where there is none, 1,000,000.
+pub(crate) fn connections_of(text: Option<&str>) -> Option<u32>
+    ensures { result ≡ connections_said (option_map (λ t. t.now) text.entry) }
+{
+    let Some(text) = text else {
+        return Some(1_000_000);
+    };
+    if !has_length(text, 1, 19) || !are_digits(text) {
+        return None;
+    }
+    match text.parse::<u32>() {
+        Ok(connections) if 1 <= connections && connections <= 1_000_000 => Some(connections),
         _ => None,
     }
 }
