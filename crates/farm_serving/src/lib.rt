@@ -6,6 +6,7 @@
 mod door;
 mod ended;
 mod halves;
+mod host_listener;
 mod memory;
 mod serving;
 mod share;
@@ -13,6 +14,7 @@ mod worker;
 
 pub use door::Listener;
 pub use ended::Ended;
+pub use host_listener::HostListener;
 pub use memory::{MemoryListener, Returned};
 pub use serving::serve;
 pub use share::{Serve, Share};
