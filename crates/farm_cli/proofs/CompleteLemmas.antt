@@ -6,8 +6,9 @@ use Rattle.causes.specs.Causes.{Rose}
 use Rattle.command_line.specs.declared.command.Command.{Command}
 use Rattle.command_line.specs.declared.command.Command.TheVariants.{OverFarm, Sign, Bulk, Render}
 use Rattle.command_line.specs.declared.command.Work.{Work}
-use Rattle.command_line.specs.declared.command.Work.TheVariants.{Answer, Expand, Check}
+use Rattle.command_line.specs.declared.command.Work.TheVariants.{Answer, Expand, Check, Serve}
 use Rattle.command_line.specs.declared.load.Load.{Load}
+use Rattle.command_line.specs.declared.service.Service.{Service}
 use Rattle.command_line.specs.declared.signing.Signing.{Signing}
 use Rattle.command_line.specs.Words.{disk_of}
 use Rattle.disk_journal.specs.Records.{Opens}
@@ -41,14 +42,22 @@ use Rattle.farm_cli.specs.declared.lending.Lending.TheVariants.{Ready, Back}
 use Rattle.farm_cli.specs.declared.status.Status.{Status}
 use Rattle.farm_cli.specs.declared.status.Status.TheVariants.{Done, Usage, FarmFile, Input, Opening, Disk, Door, Read, Write, NoMemory, Wire, Damaged}
 use Rattle.farm_cli.specs.Checking.{CheckedOver, Checks, check_text, disk_text}
-use Rattle.farm_cli.specs.Disks.{BeginsFrom, IsRefusedFor, status_of_fault}
-use Rattle.farm_cli.specs.Complete.{stop_status, status_for, own_text, HasFile, NoFileFault, HasDisk, NoDiskFault, HasSoundDisk, NoConsoleFault, AnswersAll, Answers, WritesAll, Finishes, FinishesSigning, Completes, CompletesLoad, CompletesRendering, CompletesSigning, RefusesFile, RefusesDisk, MissesFile, MissesDisk, TellsUsage}
+use Rattle.farm_cli.specs.Disks.{BeginsFrom, IsRefusedFor, over_disk, status_of_fault}
+use Rattle.farm_cli.specs.Heard.{IsUnheard, IsHeard, ServedOver}
+use Rattle.farm_cli.specs.Serves.{IsStatusOf, NeverServed}
+use Rattle.http_wire.specs.Calls.{LinkState}
+use Rattle.farm_machine.specs.Entry.{Entry}
+use Rattle.farm_serving.specs.Connections.{Station}
+use Rattle.farm_serving.specs.declared.ended.Ended.{Ended}
+use Rattle.farm_cli.proofs.FaultLemmas.{called}
+use Rattle.farm_cli.specs.Complete.{stop_status, status_for, own_text, HasFile, NoFileFault, HasDisk, NoDiskFault, HasSoundDisk, NoConsoleFault, AnswersAll, Answers, ServesSoundly, WritesAll, Finishes, FinishesSigning, Completes, CompletesLoad, CompletesRendering, CompletesSigning, RefusesFile, RefusesDisk, MissesFile, MissesDisk, TellsUsage}
 use Rattle.farm_cli.specs.Expanding.{IsExpansion, IsBadInput, Expands}
 use Rattle.farm_cli.specs.FarmFile.{SetsUp, HasFault, FileRefused}
 use Rattle.farm_cli.specs.House.{Files, Held, holds, refuses, unopened, back, WasLent, WasOpened, Lendings}
 use Rattle.farm_cli.specs.Inputs.{Tells, Turns}
 use Rattle.farm_cli.specs.Run.{DidOver, Obeyed, RanOverFile, RanOver, RanCommand, Ran}
-use Rattle.farm_cli.specs.Serving.{status_of, status_over, IsHistoryOf, ConversedOver}
+use Rattle.farm_cli.specs.Ends.{status_of}
+use Rattle.farm_cli.specs.Serving.{status_over, IsHistoryOf, ConversedOver}
 use Rattle.farm_cli.specs.Loading.{IsLoadLine, Loads}
 use Rattle.farm_cli.specs.Rendering.{IsRendering, IsUnrendered, Renders}
 use Rattle.farm_cli.specs.Signing.{IsSigned, IsTooLong, Signs, SignsAs, signed_line}
@@ -212,7 +221,7 @@ finishes_answer : {F S C N T I D : Type 0} (views : Views F S C N T I D) (old ne
     → (opening : History) × BeginsFrom views disk config opening × Answers views new console opening.state status
 finishes_answer {F} {S} views old new before now config name status console disk some sound ran ready well = (
   ran.opening,
-  subst (λ (d : S). BeginsFrom views d config ran.opening) met.0 ran.begins,
+  subst (λ (d : S). BeginsFrom views d config ran.opening) met.0 ran.led.begins,
   λ bytes messages ending known list. elim (answers_all views old new ran.opening.state status console ran.console_given ran.console_back ran.clock_given ran.clock_back ran.draws_given ran.draws_back ran.asks ran.replies ran.served bytes messages ending
       ran.console ran.spoke ran.history (HaveNoDisk-at_work ran.opening.state ran.history.history ran.history.legal at_work) (ran.status_is ∙ ap (λ (b : Bool). status_over b ran.served) at_work) ready known list well) [
         | inl none ↦ absurd (some none)
@@ -220,14 +229,55 @@ finishes_answer {F} {S} views old new before now config name status console disk
       ],
 )
   where
-    met : (ran.disk_given ≡ disk) × (new.disk ≡ back ran.disk_back)
-    met = given_is old.disk new.disk name sound.has.at disk ran.disk_given ran.disk_back sound.has.disks sound.has.there ran.disk
+    met : (ran.led.disk_given ≡ disk) × (new.disk ≡ back ran.led.disk_back)
+    met = given_is old.disk new.disk name sound.has.at disk ran.led.disk_given ran.led.disk_back sound.has.disks sound.has.there ran.led.disk
 
-    rose_by : (end_state farm_rules ran.opening.state ran.history.history).halted ≡ true → Rose (views.disk_faults disk) (views.disk_faults ran.disk_back)
-    rose_by fell = subst (λ (n : ℕ). Rose n (views.disk_faults ran.disk_back)) (ran.begins.faults ∙ ap views.disk_faults met.0) (ran.holds.holds.counts.rose fell)
+    rose_by : (end_state farm_rules ran.opening.state ran.history.history).halted ≡ true → Rose (views.disk_faults disk) (views.disk_faults ran.led.disk_back)
+    rose_by fell = subst (λ (n : ℕ). Rose n (views.disk_faults ran.led.disk_back)) (ran.led.begins.faults ∙ ap views.disk_faults met.0) (ran.led.holds.holds.counts.rose fell)
 
     at_work : (end_state farm_rules ran.opening.state ran.history.history).halted ≡ false
-    at_work = not_true (end_state farm_rules ran.opening.state ran.history.history).halted (λ fell. sound.well ran.disk_back met.1 (rose_by fell))
+    at_work = not_true (end_state farm_rules ran.opening.state ran.history.history).halted (λ fell. sound.well ran.led.disk_back met.1 (rose_by fell))
+
+-- what serving calls for is no fault of the disk
+not_of_disk : (ended : Ended) (last status : Status) → IsStatusOf ended last status → ¬ (status ≡ Disk) × ¬ (status ≡ Damaged)
+not_of_disk ended last status is = (λ disk. called ended last Disk (rw disk at is), λ damaged. called ended last Damaged (rw damaged at is))
+
+never_of_disk : (before after : LinkState) (lent : Station) (crew : List Station) (status : Status) → NeverServed before after lent crew status → ¬ (status ≡ Disk) × ¬ (status ≡ Damaged)
+never_of_disk before after lent crew status never = (λ disk. rw disk at never, λ damaged. rw damaged at never)
+
+heard_soundly : {F S C N T I D : Type 0} (views : Views F S C N T I D) (old new : Lendings F S C N T I D) (before now : ℕ) (service : Service) (start : State) (history : List Entry) (calls : List ℕ) (status : Status)
+    → IsUnheard old new before now service.listen history status ⊎ IsHeard views old new before now service start history calls status → ¬ (status ≡ Disk) × ¬ (status ≡ Damaged)
+heard_soundly views old new before now service start history calls status (inl unheard) = elim unheard.why [
+  | inl none ↦ (λ disk. let e : NoMemory ≡ Disk = sym none.0 ∙ disk in cc, λ damaged. let e : NoMemory ≡ Damaged = sym none.0 ∙ damaged in cc)
+  | inr refused ↦ (λ disk. let e : Door ≡ Disk = sym refused.0 ∙ disk in cc, λ damaged. let e : Door ≡ Damaged = sym refused.0 ∙ damaged in cc)
+]
+heard_soundly views old new before now service start history calls status (inr heard) = elim heard.lent.did [
+  | inl served ↦ not_of_disk served.served.ended served.served.last status served.served.status_is
+  | inr never ↦ never_of_disk _ _ _ _ status never.1
+]
+
+finishes_serving : {F S C N T I D : Type 0} (views : Views F S C N T I D) (old new : Lendings F S C N T I D) (before now : ℕ) (config : Config) (service : Service) (status : Status) (disk : S)
+    → HasSoundDisk views old new service.disk disk → ServedOver views old new before now config service status → ServesSoundly views disk config status
+finishes_serving {F} {S} views old new before now config service status disk sound ran = (
+  ran.opening,
+  subst (λ (d : S). BeginsFrom views d config ran.opening) met.0 ran.led.begins,
+  (λ is. soundly.0 (sym status_is ∙ is), λ is. soundly.1 (sym status_is ∙ is)),
+)
+  where
+    met : (ran.led.disk_given ≡ disk) × (new.disk ≡ back ran.led.disk_back)
+    met = given_is old.disk new.disk service.disk sound.has.at disk ran.led.disk_given ran.led.disk_back sound.has.disks sound.has.there ran.led.disk
+
+    rose_by : (end_state farm_rules ran.opening.state ran.history).halted ≡ true → Rose (views.disk_faults disk) (views.disk_faults ran.led.disk_back)
+    rose_by fell = subst (λ (n : ℕ). Rose n (views.disk_faults ran.led.disk_back)) (ran.led.begins.faults ∙ ap views.disk_faults met.0) (ran.led.holds.holds.counts.rose fell)
+
+    at_work : (end_state farm_rules ran.opening.state ran.history).halted ≡ false
+    at_work = not_true (end_state farm_rules ran.opening.state ran.history).halted (λ fell. sound.well ran.led.disk_back met.1 (rose_by fell))
+
+    status_is : status ≡ ran.calls_for
+    status_is = ran.status_is ∙ ap (λ (b : Bool). over_disk b ran.calls_for) at_work
+
+    soundly : ¬ (ran.calls_for ≡ Disk) × ¬ (ran.calls_for ≡ Damaged)
+    soundly = heard_soundly views old new before now service ran.opening.state ran.history ran.calls ran.calls_for ran.did
 
 finishes_check : {F S C N T I D : Type 0} (views : Views F S C N T I D) (old new : Lendings F S C N T I D) (before now : ℕ) (config : Config) (name : List ℕ) (status : Status) (console : C) (disk : S)
     → status ≢ NoMemory → HasSoundDisk views old new name disk → CheckedOver views old new before now config name status → old.console ≡ Ready console → NoConsoleFault views new console
@@ -256,6 +306,11 @@ finishes views old new before now config (Answer (Some name)) status console som
     elim (opens_soundly views old new before now name disk status _ sound ran) [
       | inl none ↦ absurd (some none)
       | inr did ↦ finishes_answer views old new before now config name status console disk some sound did ready well
+    ]
+finishes views old new before now config (Serve service) status console some ran ready well = λ disk sound.
+    elim (opens_soundly views old new before now service.disk disk status _ sound ran) [
+      | inl none ↦ absurd (some none)
+      | inr did ↦ finishes_serving views old new before now config service status disk sound did
     ]
 finishes {C} views old new before now config Expand status console some ran ready well = λ input known.
     let used = ran.1 in
@@ -473,7 +528,11 @@ RefusesDisk-from_run {F} {S} views old new before now said status one ran = λ w
     refuses_by (Answer (Some other)) config name disk place asked has_disk tells damaged well openings did =
         let same : other ≡ name = cc in
         refuses_disk views old new before now config other disk place status _ (subst (λ n. HasDisk old n (holds disk)) (sym same) has_disk) tells damaged well openings
-        (λ d. (d.disk_given, d.disk_back, d.opening, d.disk, d.begins)) one did
+        (λ d. (d.led.disk_given, d.led.disk_back, d.opening, d.led.disk, d.led.begins)) one did
+    refuses_by (Serve service) config name disk place asked has_disk tells damaged well openings did =
+        let same : service.disk ≡ name = cc in
+        refuses_disk views old new before now config service.disk disk place status _ (subst (λ n. HasDisk old n (holds disk)) (sym same) has_disk) tells damaged well openings
+        (λ d. (d.led.disk_given, d.led.disk_back, d.opening, d.led.disk, d.led.begins)) one did
     refuses_by Expand config name disk place asked has_disk tells damaged well openings did = cc
     refuses_by (Check None) config name disk place asked has_disk tells damaged well openings did = cc
     refuses_by (Check (Some other)) config name disk place asked has_disk tells damaged well openings did =
@@ -589,7 +648,10 @@ MissesDisk-from_run {F} {S} views old new before now said status ran = λ work f
     misses_by (Answer None) config name asked has_disk did = cc
     misses_by (Answer (Some other)) config name asked has_disk did =
         let same : other ≡ name = cc in
-        misses_disk views old new before now other status _ (subst (λ n. HasDisk old n refuses) (sym same) has_disk) (λ d. (d.disk_given, d.disk_back, d.disk)) did
+        misses_disk views old new before now other status _ (subst (λ n. HasDisk old n refuses) (sym same) has_disk) (λ d. (d.led.disk_given, d.led.disk_back, d.led.disk)) did
+    misses_by (Serve service) config name asked has_disk did =
+        let same : service.disk ≡ name = cc in
+        misses_disk views old new before now service.disk status _ (subst (λ n. HasDisk old n refuses) (sym same) has_disk) (λ d. (d.led.disk_given, d.led.disk_back, d.led.disk)) did
     misses_by Expand config name asked has_disk did = cc
     misses_by (Check None) config name asked has_disk did = cc
     misses_by (Check (Some other)) config name asked has_disk did =

@@ -62,7 +62,7 @@ AreCrew-made tells lent first others row is still beside = record { first = tell
 
 pub IsWholeCrew-made : {W : Type 0} (tells : W → Station) (count : ℕ) (lent : Station) (first : W) (others row : List W) → row ≡ first ∷ others → IsStill lent (tells first) → All (IsBeside (tells first)) (map tells others)
     → 0 < count → length others ≡ count - 1 → (tells first).faults ≡ lent.faults → IsWholeCrew count lent (map tells row)
-  unfolding AreCrew-made
+unfolding AreCrew-made
 IsWholeCrew-made tells count lent first others row is still beside some counted kept = record {
   is_crew = AreCrew-made tells lent first others row is still beside;
   counted = ap (λ ws. length (map tells ws)) is ∙ (ap suc (length-map others tells ∙ counted) ∙ omega (arith, some));
@@ -71,7 +71,7 @@ IsWholeCrew-made tells count lent first others row is still beside some counted 
 
 pub IsDoorFailed-made : {W : Type 0} (tells : W → Station) (lent : Station) (first : W) (others row : List W) → row ≡ first ∷ others → IsStill lent (tells first) → All (IsBeside (tells first)) (map tells others)
     → Rose lent.faults (tells first).faults → IsDoorFailed lent (map tells row)
-  unfolding AreCrew-made
+unfolding AreCrew-made
 IsDoorFailed-made tells lent first others row is still beside rose = record { is_crew = AreCrew-made tells lent first others row is still beside; rose = rose }
 
 -- what follows from an answer follows wherever it came

@@ -1,11 +1,12 @@
 -- A run has the reason of its status.
-use Rattle.std.proofs.Common.{◌≡◌, ℕ, ◌≤◌, ◌⊎◌, Bool, true, false, List, length, Option, Some, None, refl, ap, ◌∙◌, subst, inl, inr}
+use Rattle.std.proofs.Common.{◌≡◌, ℕ, ◌≤◌, ◌⊎◌, Bool, true, false, List, length, Option, Some, None, refl, sym, ap, ◌∙◌, subst, inl, inr}
 use Rattle.std.specs.Prelude.{IfSome}
 use Rattle.command_line.specs.declared.command.Command.{Command}
 use Rattle.command_line.specs.declared.command.Command.TheVariants.{OverFarm, Sign, Bulk, Render}
 use Rattle.command_line.specs.declared.command.Work.{Work}
-use Rattle.command_line.specs.declared.command.Work.TheVariants.{Answer, Expand, Check}
+use Rattle.command_line.specs.declared.command.Work.TheVariants.{Answer, Expand, Check, Serve}
 use Rattle.command_line.specs.declared.load.Load.{Load}
+use Rattle.command_line.specs.declared.service.Service.{Service}
 use Rattle.command_line.specs.declared.signing.Signing.{Signing}
 use Rattle.farm_machine.specs.declared.config.Config.{Config}
 use Rattle.causes.specs.Causes.{Rose}
@@ -14,6 +15,7 @@ use Rattle.disk_journal.specs.declared.fault.OpenFault.{OpenFault}
 use Rattle.disk_journal.specs.declared.fault.OpenFault.TheVariants as faults
 use Rattle.farm_core.specs.Farm.{TellsFaults}
 use Rattle.history.specs.Histories.{end_state}
+use Rattle.farm_machine.specs.Entry.{Entry}
 use Rattle.farm_machine.specs.Step.{farm_rules}
 use Rattle.role_expand.specs.Roles.{RoleData}
 use Rattle.http_wire.specs.declared.message.Message.{Message}
@@ -25,18 +27,22 @@ use Rattle.farm_server.specs.declared.served.Served.TheVariants as served
 use Rattle.farm_cli.specs.declared.status.Status.{Status}
 use Rattle.farm_cli.specs.declared.status.Status.TheVariants.{Done, Usage, FarmFile, Input, Opening, Disk, Door, Read, Write, NoMemory, Wire, Damaged}
 use Rattle.farm_cli.specs.Checking.{CheckedOver, check_text, disk_text}
-use Rattle.farm_cli.specs.Disks.{IsMissing, IsRefusedFor, WasUnopened, status_of_fault}
+use Rattle.farm_cli.specs.Disks.{IsMissing, IsRefusedFor, WasUnopened, over_disk, status_of_fault}
+use Rattle.farm_cli.specs.Heard.{IsUnheard, IsHeard, ServedOver}
 use Rattle.farm_cli.specs.Inputs.{Tells, longest_input}
 use Rattle.farm_cli.specs.Expanding.{IsExpansion, Expands}
 use Rattle.farm_cli.specs.FarmFile.{SetsUp, FileRefused}
 use Rattle.farm_cli.specs.House.{WasLent, WasOpened, Lendings}
-use Rattle.farm_cli.specs.Reasons.{DiskMet, FileLent, FileTaken, KeepsDisk, SigningTaken, LoadTaken, RenderingTaken, ConsoleFailed, EndsWith, IsDone, IsRefused, IsCut, IsSigningDone, IsSigningRefused, IsSigningUnread, HasReason}
+use Rattle.farm_cli.specs.Reasons.{DiskMet, FileLent, FileTaken, KeepsDisk, SigningTaken, LoadTaken, RenderingTaken, ConsoleFailed, IsDone, IsRefused, IsCut, IsUnread, IsUnwritten, IsUnheld, IsSigningDone, IsSigningRefused, IsSigningUnread, HasReason}
 use Rattle.farm_cli.specs.Run.{DidOver, Obeyed, RanOverFile, RanCommand, Ran}
-use Rattle.farm_cli.specs.Serving.{status_of, status_over, Conversed, ConversedOver}
+use Rattle.farm_cli.specs.Ends.{EndsWith, status_of}
+use Rattle.farm_cli.specs.Serving.{status_over, Conversed, ConversedOver}
 use Rattle.farm_cli.specs.Loading.{Loads}
 use Rattle.farm_cli.specs.Rendering.{IsRendering, Renders}
 use Rattle.farm_cli.specs.Signing.{IsSigned, Signs, SignsAs}
 use Rattle.farm_cli.specs.Views.{Views, outside_of, talk_of}
+use Rattle.farm_cli.proofs.FaultLemmas.{ends_with}
+use Rattle.farm_cli.proofs.HeardLemmas.{ReasonOf, ReasonOf-heard}
 
 -- a farm file was taken, and this command was obeyed over it
 record Taken {F S C N T I D : Type 0} (views : Views F S C N T I D) (old new : Lendings F S C N T I D) (before now : ℕ) (said : Option Command) (config : Config) (farm : List ℕ) (work : Work) : Type 0 where
@@ -91,12 +97,6 @@ FileTaken-or : {F S C N T I D : Type 0} (views : Views F S C N T I D) (old new :
 FileTaken-or views old new before now said config farm work IsSo Other taken so =
     let file = FileTaken-from views old new before now said config farm work IsSo taken so in (file.0, inl file.1)
 
--- the list of the messages ends so, where the bytes are known
-ends_with : (left : Option (List ℕ)) (messages : List Message) (served : Served) → IfSome left (λ bytes. EndsAs REQUESTS bytes messages served)
-    → IfSome left (λ bytes. EndsWith bytes (status_of served))
-ends_with None messages served ends = tt
-ends_with (Some bytes) messages served ends = record { messages = messages; served = served; calls_for = refl; ends = ends }
-
 -- a connection that ended so has the reason of its status
 HasReason-served : {F S C N T I D : Type 0} (views : Views F S C N T I D) (old new : Lendings F S C N T I D) (before now : ℕ) (said : Option Command) (config : Config) (farm : List ℕ) (name : Option (List ℕ)) (given back : C) (clock clock' : T) (draws draws' : I) (messages : List Message) (served : Served)
     → Taken views old new before now said config farm (Answer name) → WasLent old.console new.console given back
@@ -112,9 +112,9 @@ HasReason-served views old new before now said config farm name given back clock
 HasReason-served views old new before now said config farm name given back clock clock' draws draws' messages (served.WireFault reason) taken lent ends cause =
     FileTaken-from views old new before now said config farm (Answer name) (IsCut views old new) taken (record { given = given; back = back; lent = lent; reads_kept = cause.0; writes_kept = cause.1; held = ends_with (views.console_left given) messages (served.WireFault reason) ends })
 HasReason-served views old new before now said config farm name given back clock clock' draws draws' messages served.ReadFault taken lent ends cause =
-    let failed = FileTaken-from views old new before now said config farm (Answer name) _ taken (record { given = given; back = back; lent = lent; rose = cause.0; kept = cause.1 }) in (failed.0, inr (inl failed.1))
+    let failed = FileTaken-from views old new before now said config farm (Answer name) (IsUnread views old new) taken (record { given = given; back = back; lent = lent; rose = cause.0; kept = cause.1 }) in (failed.0, inr (inl failed.1))
 HasReason-served views old new before now said config farm name given back clock clock' draws draws' messages served.WriteFault taken lent ends cause =
-    FileTaken-or views old new before now said config farm (Answer name) _ _ taken (record { given = given; back = back; lent = lent; rose = cause.0; kept = cause.1 })
+    FileTaken-or views old new before now said config farm (Answer name) (IsUnwritten views old new) _ taken (record { given = given; back = back; lent = lent; rose = cause.0; kept = cause.1 })
 HasReason-served views old new before now said config farm name given back clock clock' draws draws' messages served.NoMemory taken lent ends cause = tt
 
 HasReason-conversed : {F S C N T I D : Type 0} (views : Views F S C N T I D) (old new : Lendings F S C N T I D) (before now : ℕ) (said : Option Command) (config : Config) (farm : List ℕ) (status : Status)
@@ -124,6 +124,10 @@ HasReason-conversed views old new before now said config farm status opened open
     (taken-by views old new before now said config farm (Answer None) opened openings ran.disk) ran.console ran.spoke.taken ran.spoke.cause)
 
 -- ---- over a disk
+
+-- what is at work has not fallen
+not_fallen : {b : Bool} → b ≡ false → b ≡ true → ⊥
+not_fallen still fell = let e : true ≡ false = sym fell ∙ still in cc
 
 DiskMet-from : {F S C N T I D : Type 0} (views : Views F S C N T I D) (old new : Lendings F S C N T I D) (said : Option Command) (config : Config) (farm name : List ℕ) (work : Work) (given back : S) (IsSo : S → S → Type 0)
     → Opened views old new said config farm work → disk_of work ≡ Some name → WasOpened old.disk new.disk name given back → IsSo given back → DiskMet views old new said IsSo
@@ -159,19 +163,19 @@ HasReason-conversed_over : {F S C N T I D : Type 0} (views : Views F S C N T I D
     → Opened views old new said config farm (Answer (Some name)) → ConversedOver views old new before now config name status → HasReason views old new before now said status
 HasReason-conversed_over {S} views old new before now said config farm name status opened ran = by _ refl
   where
-    counts : TellsFaults ran.opening.faults (views.disk_faults ran.disk_back) (end_state farm_rules ran.opening.state ran.history.history).halted
-    counts = ran.holds.holds.counts
+    counts : TellsFaults ran.opening.faults (views.disk_faults ran.led.disk_back) (end_state farm_rules ran.opening.state ran.history.history).halted
+    counts = ran.led.holds.holds.counts
 
     by : (halted : Bool) → (end_state farm_rules ran.opening.state ran.history.history).halted ≡ halted → HasReason views old new before now said status
     by true fell =
-        let rose : Rose (views.disk_faults ran.disk_given) (views.disk_faults ran.disk_back) = subst (λ (n : ℕ). Rose n (views.disk_faults ran.disk_back)) ran.begins.faults (counts.rose fell) in
+        let rose : Rose (views.disk_faults ran.led.disk_given) (views.disk_faults ran.led.disk_back) = subst (λ (n : ℕ). Rose n (views.disk_faults ran.led.disk_back)) ran.led.begins.faults (counts.rose fell) in
         let is : status ≡ Disk = ran.status_is ∙ ap (λ (b : Bool). status_over b ran.served) fell in
-        rw is (inr (ran.openings, DiskMet-from views old new said config farm name (Answer (Some name)) ran.disk_given ran.disk_back _ opened refl ran.disk rose))
+        rw is (inr (ran.openings, DiskMet-from views old new said config farm name (Answer (Some name)) ran.led.disk_given ran.led.disk_back _ opened refl ran.led.disk rose))
     by false still =
-        let kept : views.disk_faults ran.disk_back ≡ views.disk_faults ran.disk_given = counts.stays still ∙ ran.begins.faults in
+        let kept : views.disk_faults ran.led.disk_back ≡ views.disk_faults ran.led.disk_given = counts.stays still ∙ ran.led.begins.faults in
         let is : status ≡ status_of ran.served = ran.status_is ∙ ap (λ (b : Bool). status_over b ran.served) still in
         rw is (HasReason-served views old new before now said config farm (Some name) ran.console_given ran.console_back ran.clock_given ran.clock_back ran.draws_given ran.draws_back (messages_of ran.asks) ran.served
-        (taken-by views old new before now said config farm (Answer (Some name)) opened ran.openings (record { given = ran.disk_given; back = ran.disk_back; disk = ran.disk; kept = kept }))
+        (taken-by views old new before now said config farm (Answer (Some name)) opened ran.openings (record { given = ran.led.disk_given; back = ran.led.disk_back; disk = ran.led.disk; kept = kept }))
         ran.console ran.spoke.taken ran.spoke.cause)
 
 -- an input that has this expansion has one
@@ -196,9 +200,9 @@ HasReason-expanded views old new before now said config farm given back Wire tak
 HasReason-expanded views old new before now said config farm given back Input taken lent did =
     FileTaken-or views old new before now said config farm Expand (IsRefused views old new) _ taken (record { given = given; back = back; lent = lent; reads_kept = did.1; writes_kept = did.2.faults; held = did.0 })
 HasReason-expanded views old new before now said config farm given back Read taken lent did =
-    let failed = FileTaken-from views old new before now said config farm Expand _ taken (record { given = given; back = back; lent = lent; rose = did.0; kept = did.1.faults }) in (failed.0, inr (inl failed.1))
+    let failed = FileTaken-from views old new before now said config farm Expand (IsUnread views old new) taken (record { given = given; back = back; lent = lent; rose = did.0; kept = did.1.faults }) in (failed.0, inr (inl failed.1))
 HasReason-expanded views old new before now said config farm given back Write taken lent did =
-    FileTaken-or views old new before now said config farm Expand _ _ taken (record { given = given; back = back; lent = lent; rose = did.4.1; kept = did.3 })
+    FileTaken-or views old new before now said config farm Expand (IsUnwritten views old new) _ taken (record { given = given; back = back; lent = lent; rose = did.4.1; kept = did.3 })
 HasReason-expanded views old new before now said config farm given back NoMemory taken lent did = tt
 
 -- whatever was there to read
@@ -222,7 +226,7 @@ HasReason-checked views old new before now said config farm text name given back
 HasReason-checked views old new before now said config farm text name given back Read taken lent did = absurd did.1
 HasReason-checked views old new before now said config farm text name given back Wire taken lent did = absurd did.1
 HasReason-checked views old new before now said config farm text name given back Write taken lent did =
-    FileTaken-or views old new before now said config farm (Check name) _ _ taken (record { given = given; back = back; lent = lent; rose = did.1.1; kept = did.0.faults })
+    FileTaken-or views old new before now said config farm (Check name) (IsUnwritten views old new) _ taken (record { given = given; back = back; lent = lent; rose = did.1.1; kept = did.0.faults })
 HasReason-checked views old new before now said config farm text name given back NoMemory taken lent did = tt
 
 HasReason-checked_over : {F S C N T I D : Type 0} (views : Views F S C N T I D) (old new : Lendings F S C N T I D) (before now : ℕ) (said : Option Command) (config : Config) (farm name : List ℕ) (status : Status)
@@ -231,6 +235,59 @@ HasReason-checked_over views old new before now said config farm name status ope
     HasReason-checked views old new before now said config farm (disk_text config (length ran.opening.records) (length ran.opening.state.contents.rows)) (Some name) ran.given ran.back status
     (taken-by views old new before now said config farm (Check (Some name)) opened ran.openings (record { given = ran.disk_given; back = ran.disk_back; disk = ran.disk; kept = ran.kept }))
     ran.console ran.did
+
+-- ---- many connections over the farm of a disk
+
+-- a door was opened for them
+HasReason-serving : {F S C N T I D : Type 0} (views : Views F S C N T I D) (old new : Lendings F S C N T I D) (before now : ℕ) (said : Option Command) (config : Config) (farm : List ℕ) (service : Service) (status : Status)
+    → Taken views old new before now said config farm (Serve service) → ReasonOf views old new service status → HasReason views old new before now said status
+HasReason-serving views old new before now said config farm service Done taken why = FileTaken-or views old new before now said config farm (Serve service) (IsDone views old new) _ taken why
+HasReason-serving views old new before now said config farm service Door taken why =
+    inr (FileTaken-from views old new before now said config farm (Serve service) (λ config work. IsUnheld views old new work) taken why)
+HasReason-serving views old new before now said config farm service Read taken why =
+    let failed = FileTaken-from views old new before now said config farm (Serve service) (IsUnread views old new) taken why in (failed.0, inr (inl failed.1))
+HasReason-serving views old new before now said config farm service Write taken why = FileTaken-or views old new before now said config farm (Serve service) (IsUnwritten views old new) _ taken why
+HasReason-serving views old new before now said config farm service NoMemory taken why = tt
+HasReason-serving views old new before now said config farm service Wire taken why = FileTaken-from views old new before now said config farm (Serve service) (IsCut views old new) taken why
+HasReason-serving views old new before now said config farm service Usage taken why = absurd why
+HasReason-serving views old new before now said config farm service FarmFile taken why = absurd why
+HasReason-serving views old new before now said config farm service Input taken why = absurd why
+HasReason-serving views old new before now said config farm service Opening taken why = absurd why
+HasReason-serving views old new before now said config farm service Disk taken why = absurd why
+HasReason-serving views old new before now said config farm service Damaged taken why = absurd why
+
+-- no door was opened
+HasReason-unheard : {F S C N T I D : Type 0} (views : Views F S C N T I D) (old new : Lendings F S C N T I D) (before now : ℕ) (said : Option Command) (address : List ℕ) (history : List Entry) (status : Status)
+    → IsUnheard old new before now address history status → HasReason views old new before now said status
+HasReason-unheard views old new before now said address history status unheard = elim unheard.why [
+  | inl none ↦ rw none.0 tt
+  | inr refused ↦ rw refused.0 (inl refused.1)
+]
+
+HasReason-served_over : {F S C N T I D : Type 0} (views : Views F S C N T I D) (old new : Lendings F S C N T I D) (before now : ℕ) (said : Option Command) (config : Config) (farm : List ℕ) (service : Service) (status : Status)
+    → Opened views old new said config farm (Serve service) → ServedOver views old new before now config service status → HasReason views old new before now said status
+HasReason-served_over {S} views old new before now said config farm service status opened ran = by _ refl
+  where
+    counts : TellsFaults ran.opening.faults (views.disk_faults ran.led.disk_back) (end_state farm_rules ran.opening.state ran.history).halted
+    counts = ran.led.holds.holds.counts
+
+    by : (halted : Bool) → (end_state farm_rules ran.opening.state ran.history).halted ≡ halted → HasReason views old new before now said status
+    by true fell =
+        let rose : Rose (views.disk_faults ran.led.disk_given) (views.disk_faults ran.led.disk_back) = subst (λ (n : ℕ). Rose n (views.disk_faults ran.led.disk_back)) ran.led.begins.faults (counts.rose fell) in
+        let is : status ≡ Disk = ran.status_is ∙ ap (λ (b : Bool). over_disk b ran.calls_for) fell in
+        elim ran.did [
+          | inl unheard ↦ absurd (not_fallen (ran.led.begins.at_work) (rw unheard.none at fell))
+          | inr heard ↦ rw is (inr (heard.openings, DiskMet-from views old new said config farm service.disk (Serve service) ran.led.disk_given ran.led.disk_back _ opened refl ran.led.disk rose))
+        ]
+    by false still =
+        let kept : views.disk_faults ran.led.disk_back ≡ views.disk_faults ran.led.disk_given = counts.stays still ∙ ran.led.begins.faults in
+        let is : status ≡ ran.calls_for = ran.status_is ∙ ap (λ (b : Bool). over_disk b ran.calls_for) still in
+        elim ran.did [
+          | inl unheard ↦ rw is (HasReason-unheard views old new before now said service.listen ran.history ran.calls_for unheard)
+          | inr heard ↦ rw is (HasReason-serving views old new before now said config farm service ran.calls_for
+            (taken-by views old new before now said config farm (Serve service) opened heard.openings (record { given = ran.led.disk_given; back = ran.led.disk_back; disk = ran.led.disk; kept = kept }))
+            (ReasonOf-heard views old new before now service ran.opening.state ran.history ran.calls ran.calls_for heard))
+        ]
 
 HasReason-did : {F S C N T I D : Type 0} (views : Views F S C N T I D) (old new : Lendings F S C N T I D) (before now : ℕ) (said : Option Command) (config : Config) (farm name : List ℕ) (work : Work) (status : Status) (Did : Type 0)
     → Opened views old new said config farm work → disk_of work ≡ Some name → (Did → HasReason views old new before now said status) → DidOver views old new before now name status Did
@@ -246,6 +303,9 @@ HasReason-obeyed views old new before now said config farm (Answer None) status 
 HasReason-obeyed views old new before now said config farm (Answer (Some name)) status opened ran =
     HasReason-did views old new before now said config farm name (Answer (Some name)) status _ opened refl
     (λ did. HasReason-conversed_over views old new before now said config farm name status opened did) ran
+HasReason-obeyed views old new before now said config farm (Serve service) status opened ran =
+    HasReason-did views old new before now said config farm service.disk (Serve service) status _ opened refl
+    (λ did. HasReason-served_over views old new before now said config farm service status opened did) ran
 HasReason-obeyed views old new before now said config farm Expand status opened ran =
     let used = ran.1 in
     HasReason-expanded views old new before now said config farm used.given used.back status (taken-by views old new before now said config farm Expand opened ran.0 used.disk) used.console used.did

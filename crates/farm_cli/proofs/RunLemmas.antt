@@ -39,7 +39,8 @@ use Rattle.farm_cli.specs.Heard.{ServesLent, IsUnheard, IsHeard, ServedOver}
 use Rattle.farm_cli.specs.House.{CanGive, after_giving, after_return, WasLent, after_opened, after_closing, CanOpenAmong, WasOpened, Doors, after_listened, Lendings}
 use Rattle.farm_cli.specs.Used.{LeavesConsole, UsedConsole}
 use Rattle.farm_cli.specs.Run.{DidOver, Obeyed, RanOverFile, RanLoad, RanRendering, RanSigning, RanCommand, Ran}
-use Rattle.farm_cli.specs.Serving.{IsHistoryOf, Conversed, ConversedOver, status_of, status_over}
+use Rattle.farm_cli.specs.Ends.{status_of}
+use Rattle.farm_cli.specs.Serving.{IsHistoryOf, Conversed, ConversedOver, status_over}
 use Rattle.http_wire.specs.Calls.{LinkState}
 use Rattle.farm_cli.specs.Views.{Views, outside_of, talk_of}
 use Rattle.farm_cli.specs.declared.status.Status.{Status}

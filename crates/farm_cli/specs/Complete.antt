@@ -5,7 +5,7 @@ use Rattle.causes.specs.Causes.{Rose}
 use Rattle.command_line.specs.declared.command.Command.{Command}
 use Rattle.command_line.specs.declared.command.Command.TheVariants.{OverFarm, Sign, Bulk, Render}
 use Rattle.command_line.specs.declared.command.Work.{Work}
-use Rattle.command_line.specs.declared.command.Work.TheVariants.{Answer, Expand, Check}
+use Rattle.command_line.specs.declared.command.Work.TheVariants.{Answer, Expand, Check, Serve}
 use Rattle.command_line.specs.declared.load.Load.{Load}
 use Rattle.command_line.specs.declared.signing.Signing.{Signing}
 use Rattle.command_line.specs.Words.{disk_of}
@@ -113,12 +113,17 @@ Answers views new console start status =
     (bytes : List ℕ) (messages : List Message) (ending : Ending)
     → views.console_left console ≡ Some bytes → Messages REQUESTS bytes messages ending → AnswersAll views new console start messages ending status
 
+-- What `serve` has to do over a sound disk: its history begins from what the disk held, and it ends by none of the disk's faults.
+abbrev pub ServesSoundly : {F S C N T I D : Type 0} → Views F S C N T I D → S → Config → Status → Type 0
+ServesSoundly views disk config status = (opening : History) × BeginsFrom views disk config opening × ¬ (status ≡ Disk) × ¬ (status ≡ Damaged)
+
 -- What work has to do over a farm that is set up so, where the console is known and does not fail: `answer` answers each message, `expand`
 -- writes the expansion of its input or refuses it, `check` writes its line. Over a sound disk the farm is what the disk held.
 abbrev pub Finishes : {F S C N T I D : Type 0} → Views F S C N T I D → Lendings F S C N T I D → Lendings F S C N T I D → C → Config → Work → Status → Type 0
 Finishes views old new console config (Answer None) status = Answers views new console (empty_state config) status
 Finishes {F} {S} views old new console config (Answer (Some name)) status =
     (disk : S) → HasSoundDisk views old new name disk → (opening : History) × BeginsFrom views disk config opening × Answers views new console opening.state status
+Finishes {F} {S} views old new console config (Serve service) status = (disk : S) → HasSoundDisk views old new service.disk disk → ServesSoundly views disk config status
 Finishes views old new console config Expand status =
     (input : List ℕ) → views.console_left console ≡ Some input
     → ((text : List ℕ) × IsExpansion config.roles input text × WritesAll views new console text status)

@@ -4,24 +4,21 @@ use Rattle.causes.specs.Causes.{Rose}
 use Rattle.command_line.specs.declared.command.Command.{Command}
 use Rattle.command_line.specs.declared.command.Command.TheVariants.{OverFarm, Sign, Bulk, Render}
 use Rattle.command_line.specs.declared.command.Work.{Work}
-use Rattle.command_line.specs.declared.command.Work.TheVariants.{Answer, Expand, Check}
+use Rattle.command_line.specs.declared.command.Work.TheVariants.{Answer, Expand, Check, Serve}
 use Rattle.command_line.specs.declared.load.Load.{Load}
 use Rattle.command_line.specs.declared.signing.Signing.{Signing}
 use Rattle.command_line.specs.Words.{disk_of}
 use Rattle.farm_core.specs.Opened.{IsFarmDamaged}
 use Rattle.farm_machine.specs.declared.config.Config.{Config}
-use Rattle.http_wire.specs.declared.message.Message.{Message}
-use Rattle.farm_server.specs.Served.{EndsAs}
-use Rattle.farm_server.specs.declared.served.TheConstants.{REQUESTS}
-use Rattle.farm_server.specs.declared.served.Served.{Served}
 use Rattle.farm_cli.specs.declared.status.Status.{Status}
-use Rattle.farm_cli.specs.declared.status.Status.TheVariants.{Done, Usage, FarmFile, Input, Opening, Disk, Read, Write, NoMemory, Wire, Damaged}
+use Rattle.farm_cli.specs.declared.status.Status.TheVariants.{Done, Usage, FarmFile, Input, Opening, Disk, Door, Read, Write, NoMemory, Wire, Damaged}
+use Rattle.farm_cli.specs.Ends.{EndsWith}
 use Rattle.farm_cli.specs.Expanding.{IsExpansion, IsBadInput}
 use Rattle.farm_cli.specs.FarmFile.{SetsUp, HasFault}
+use Rattle.farm_cli.specs.Faults.{IsServed, IsDoorBroken, IsLinkUnread, IsLinkUnwritten, IsLinkCut}
 use Rattle.farm_cli.specs.House.{WasLent, WasOpened, Lendings}
 use Rattle.farm_cli.specs.Inputs.{longest_input}
 use Rattle.farm_cli.specs.Rendering.{IsRendering, IsUnrendered}
-use Rattle.farm_cli.specs.Serving.{status_of}
 use Rattle.farm_cli.specs.Signing.{IsTooLong}
 use Rattle.farm_cli.specs.Views.{Views}
 
@@ -105,13 +102,6 @@ pub record ConsoleHeld {F S C N T I D : Type 0} (views : Views F S C N T I D) (o
   pub writes_kept : views.console_write_faults back ≡ views.console_write_faults given
   pub held : IfSome (views.console_left given) IsSo
 
--- the list of the messages of these bytes ends in a way that calls for this status
-pub record EndsWith (bytes : List ℕ) (status : Status) : Type 0 where
-  pub messages : List Message
-  pub served : Served
-  pub calls_for : status_of served ≡ status
-  pub ends : EndsAs REQUESTS bytes messages served
-
 -- a request was to be signed, no farm file was asked for, and this is so of what was to be signed
 pub record SigningTaken {F S C N T I D : Type 0} (old new : Lendings F S C N T I D) (said : Option Command) (IsSo : Signing → Type 0) : Type 0 where
   pub signing : Signing
@@ -132,9 +122,10 @@ pub record RenderingTaken {F S C N T I D : Type 0} (old new : Lendings F S C N T
   pub file : new.file ≡ old.file
   pub is_so : IsSo
 
--- work over a farm is done: the messages of `answer` end well, the input of `expand` has an expansion
+-- work over a farm is done: the messages of `answer` end well, and each connection of `serve` does, the input of `expand` has an expansion
 abbrev pub IsDone : {F S C N T I D : Type 0} → Views F S C N T I D → Lendings F S C N T I D → Lendings F S C N T I D → Config → Work → Type 0
 IsDone views old new config (Answer disk) = ConsoleHeld views old new (λ bytes. EndsWith bytes Done)
+IsDone views old new config (Serve service) = IsServed views old new service
 IsDone views old new config Expand = ConsoleHeld views old new (λ input. (text : List ℕ) × IsExpansion config.roles input text)
 IsDone views old new config (Check disk) = ConsoleHeld views old new (λ bytes. Unit {0})
 
@@ -156,14 +147,33 @@ IsSigningUnread views old new (Some content_type) = ConsoleFailed views.console_
 -- an input was refused: that of `expand`
 abbrev pub IsRefused : {F S C N T I D : Type 0} → Views F S C N T I D → Lendings F S C N T I D → Lendings F S C N T I D → Config → Work → Type 0
 IsRefused views old new config (Answer disk) = ⊥
+IsRefused views old new config (Serve service) = ⊥
 IsRefused views old new config Expand = ConsoleHeld views old new (IsBadInput config.roles)
 IsRefused views old new config (Check disk) = ⊥
 
--- a connection ended inside a message or by what is no request: that of `answer`
+-- a connection ended inside a message or by what is no request: that of `answer`, or one of `serve`
 abbrev pub IsCut : {F S C N T I D : Type 0} → Views F S C N T I D → Lendings F S C N T I D → Lendings F S C N T I D → Config → Work → Type 0
 IsCut views old new config (Answer disk) = ConsoleHeld views old new (λ bytes. EndsWith bytes Wire)
+IsCut views old new config (Serve service) = IsLinkCut views old new service
 IsCut views old new config Expand = ⊥
 IsCut views old new config (Check disk) = ⊥
+
+-- reads failed: those of the console, or of a link
+abbrev pub IsUnread : {F S C N T I D : Type 0} → Views F S C N T I D → Lendings F S C N T I D → Lendings F S C N T I D → Config → Work → Type 0
+IsUnread views old new config (Answer disk) = ConsoleFailed views.console_read_faults views.console_write_faults old new
+IsUnread views old new config (Serve service) = IsLinkUnread views old new service
+IsUnread views old new config Expand = ConsoleFailed views.console_read_faults views.console_write_faults old new
+IsUnread views old new config (Check disk) = ⊥
+
+-- writes failed: those of the console, or of a link
+abbrev pub IsUnwritten : {F S C N T I D : Type 0} → Views F S C N T I D → Lendings F S C N T I D → Lendings F S C N T I D → Config → Work → Type 0
+IsUnwritten views old new config (Serve service) = ConsoleFailed views.console_write_faults views.console_read_faults old new ⊎ IsLinkUnwritten views old new service
+IsUnwritten views old new config work = ConsoleFailed views.console_write_faults views.console_read_faults old new
+
+-- a door failed: one of `serve`
+abbrev pub IsUnheld : {F S C N T I D : Type 0} → Views F S C N T I D → Lendings F S C N T I D → Lendings F S C N T I D → Work → Type 0
+IsUnheld views old new (Serve service) = IsDoorBroken views old new service
+IsUnheld views old new work = ⊥
 
 -- Each status comes only where this is so, and of several causes the one with the least number stands. Want of memory alone is free.
 abbrev pub HasReason : {F S C N T I D : Type 0} → Views F S C N T I D → Lendings F S C N T I D → Lendings F S C N T I D → ℕ → ℕ → Option Command → Status → Type 0
@@ -180,13 +190,14 @@ HasReason views old new before now said Input =
     ⊎ RenderingTaken old new said (ConsoleHeld views old new IsUnrendered)))
 HasReason views old new before now said Opening = Rose before now
 HasReason views old new before now said Disk = Rose before now ⊎ ((now ≡ before) × DiskFailed views old new said)
+HasReason views old new before now said Door = Rose before now ⊎ ((now ≡ before) × FileTaken views old new said (λ config work. IsUnheld views old new work))
 HasReason views old new before now said Read =
     (now ≡ before) × (FileFailed views old new said
-    ⊎ (FileTaken views old new said (λ config work. ConsoleFailed views.console_read_faults views.console_write_faults old new)
+    ⊎ (FileTaken views old new said (IsUnread views old new)
     ⊎ (SigningTaken old new said (λ signing. IsSigningUnread views old new signing.content_type)
     ⊎ RenderingTaken old new said (ConsoleFailed views.console_read_faults views.console_write_faults old new))))
 HasReason views old new before now said Write =
-    (now ≡ before) × (FileTaken views old new said (λ config work. ConsoleFailed views.console_write_faults views.console_read_faults old new)
+    (now ≡ before) × (FileTaken views old new said (IsUnwritten views old new)
     ⊎ (SigningTaken old new said (λ signing. ConsoleFailed views.console_write_faults views.console_read_faults old new)
     ⊎ (LoadTaken old new said (ConsoleFailed views.console_write_faults views.console_read_faults old new)
     ⊎ RenderingTaken old new said (ConsoleFailed views.console_write_faults views.console_read_faults old new))))

@@ -4,7 +4,7 @@ use Rattle.causes.specs.Causes.{Rose}
 use Rattle.command_line.specs.declared.command.Command.{Command}
 use Rattle.command_line.specs.declared.command.Command.TheVariants.{OverFarm, Sign, Bulk, Render}
 use Rattle.command_line.specs.declared.command.Work.{Work}
-use Rattle.command_line.specs.declared.command.Work.TheVariants.{Answer, Expand, Check}
+use Rattle.command_line.specs.declared.command.Work.TheVariants.{Answer, Expand, Check, Serve}
 use Rattle.command_line.specs.declared.load.Load.{Load}
 use Rattle.command_line.specs.declared.signing.Signing.{Signing}
 use Rattle.farm_files.specs.declared.reading.TheConstants.{LONGEST_FILE}
@@ -16,6 +16,7 @@ use Rattle.farm_cli.specs.Checking.{Checks, CheckedOver}
 use Rattle.farm_cli.specs.Disks.{IsMissing, WasUnopened}
 use Rattle.farm_cli.specs.Expanding.{Expands}
 use Rattle.farm_cli.specs.FarmFile.{SetsUp, FileRefused}
+use Rattle.farm_cli.specs.Heard.{ServedOver}
 use Rattle.farm_cli.specs.House.{CanOpenAmong, WasOpened, Lendings}
 use Rattle.farm_cli.specs.Loading.{Loads}
 use Rattle.farm_cli.specs.Rendering.{Renders}
@@ -32,6 +33,7 @@ DidOver views old new before now name status Did = Did ⊎ (WasUnopened views ol
 abbrev pub Obeyed : {F S C N T I D : Type 0} → Views F S C N T I D → Lendings F S C N T I D → Lendings F S C N T I D → ℕ → ℕ → Config → Work → Status → Type 0
 Obeyed views old new before now config (Answer None) status = (now ≡ before) × Conversed views old new config status
 Obeyed views old new before now config (Answer (Some disk)) status = DidOver views old new before now disk status (ConversedOver views old new before now config disk status)
+Obeyed views old new before now config (Serve service) status = DidOver views old new before now service.disk status (ServedOver views old new before now config service status)
 Obeyed views old new before now config Expand status = (now ≡ before) × UsedConsole views old new (λ before after. Expands config.roles before after status)
 Obeyed views old new before now config (Check None) status = (now ≡ before) × UsedConsole views old new (λ before after. Checks config before after status)
 Obeyed views old new before now config (Check (Some disk)) status = DidOver views old new before now disk status (CheckedOver views old new before now config disk status)

@@ -12,10 +12,9 @@ use Rattle.farm_machine.specs.declared.reply.Reply.{Reply}
 use Rattle.farm_core.specs.Diskless.{HaveNoDisk}
 use Rattle.farm_server.specs.Served.{Ask, questions_of, Spoke}
 use Rattle.farm_server.specs.declared.served.Served.{Served}
-use Rattle.farm_server.specs.declared.served.Served.TheVariants as served
 use Rattle.farm_cli.specs.declared.status.Status.{Status}
-use Rattle.farm_cli.specs.declared.status.Status.TheVariants.{Done, Read, Write, NoMemory, Wire}
 use Rattle.farm_cli.specs.Disks.{LedOver, over_disk}
+use Rattle.farm_cli.specs.Ends.{status_of}
 use Rattle.farm_cli.specs.House.{WasLent, Lendings}
 use Rattle.farm_cli.specs.Views.{Views, outside_of}
 
@@ -26,16 +25,6 @@ pub record IsHistoryOf (start : State) (asks : List Ask) (replies : List Reply) 
   pub made : (turns : List (Asking × Asked)) × AreEntries farm_rules start turns history
   pub asked : map (asked_at farm_rules history) (calls_of farm_rules 0 history) ≡ map Some (questions_of asks)
   pub replied : map (reply_at farm_rules start history) (calls_of farm_rules 0 history) ≡ map Some replies
-
--- the status that a connection ends a run with
-abbrev pub status_of : Served → Status
-status_of served.Closed = Done
-status_of served.Full = Done
-status_of served.EndedInside = Wire
-status_of (served.WireFault reason) = Wire
-status_of served.ReadFault = Read
-status_of served.WriteFault = Write
-status_of served.NoMemory = NoMemory
 
 -- The console was served over a farm that was set up so, and began without tasks, and in no call of which a disk had a part.
 pub record Conversed {F S C N T I D : Type 0} (views : Views F S C N T I D) (old new : Lendings F S C N T I D) (config : Config) (status : Status) : Type 0 where

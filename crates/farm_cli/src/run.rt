@@ -26,12 +26,13 @@ use std::sync::Wait;
 use std::thread::Threads;
 
 /// Runs what the words ask for, over what the house lends: `answer FARM` serves one connection on the console over a farm that begins
-/// without tasks, and `answer FARM --disk NAME` over the farm that a disk keeps, `expand FARM` writes all that the console's scopes give,
+/// without tasks, and `answer FARM --disk NAME` over the farm that a disk keeps, `serve FARM --disk NAME --listen ADDR` lets workers serve
+/// that farm at a listener, `expand FARM` writes all that the console's scopes give,
 /// `check FARM` counts what the farm file has, and with `--disk NAME` what the disk has, `sign` writes the header that signs a request,
 /// `bulk` runs a generated load over a farm in memory and writes how its tasks stand then, and `render` writes the value of the template that
 /// the console gives with its context. All that was asked for is given back, and the notes are told a line where the status is not `Done`.
 ///
-/// The history that `answer` leads through is legal, so the laws of `farm_machine::law` hold of it: a call is denied exactly where its
+/// The history that `answer` and `serve` lead through is legal, so the laws of `farm_machine::law` hold of it: a call is denied exactly where its
 /// caller's scopes do not hold what it asks (`a_denial_is_of_scopes_that_are_missing`), a task is created once
 /// (`a_task_is_created_once`), and an equal createTask after it is answered with the task's status (`an_equal_call_acts_once`).
 pub fn run<R: Threads + Wait + Sync, H: House>(rt: &R, alloc: Global, words: &[String], house: &mut H) -> Status

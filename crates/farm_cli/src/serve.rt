@@ -1,16 +1,14 @@
 //! `serve`: the farm of a disk is served at a door and its twins.
-ghost use Rattle.std.specs.Prelude.{◌≡◌, ◌<◌, ◌≤◌, ◌*◌, List, [], ◌∷◌, map, max, vec_capacity, vec_len};
+ghost use Rattle.std.specs.Prelude.{◌≡◌, ◌<◌, ◌≤◌, ◌*◌, [], vec_capacity};
 ghost use Rattle.farm_server.specs.declared.served.TheConstants.{REQUESTS};
-ghost use Rattle.farm_core.specs.Farm.{state_of, HoldsHistory};
 ghost use Rattle.farm_cli.specs.Heard.{workers_of, ServesLent, ServesDoor, ServedOver};
-ghost use Rattle.farm_cli.specs.House.{after_return, all_left};
 ghost use Rattle.farm_cli.specs.Run.{DidOver};
 ghost use Rattle.farm_cli.specs.Serves.{ServesAll};
 ghost use Rattle.farm_cli.specs.Views.{views_of};
 
-use crate::crew::Hand;
 use crate::disks::{on_disk, open_farm};
 use crate::ended::Ended;
+use crate::giving_back::{HandOf, dismiss};
 use crate::house::House;
 use crate::serving::{Left, Shifts, serve_object};
 use crate::status::Status;
@@ -25,58 +23,6 @@ use std::alloc::Global;
 use std::io::ErrorKind;
 use std::sync::Wait;
 use std::thread::Threads;
-
-/// The workers of a house.
-type HandOf<H> = Hand<<H as House>::Door, <H as House>::Time, <H as House>::Ids>;
-
-/// Takes the first of a row.
-fn take_first<T>(row: &mut Vec<T>) -> T
-    requires { 0 < vec_len row.old }
-    ensures { row.old.items ≡ result ∷ row.new.items }
-{
-    row.remove(0)
-}
-
-/// Gives all doors of a row back, in its order.
-fn give_doors_back<H: House>(row: Vec<HandOf<H>>, house: &mut H)
-    ensures lends { H.lends house.new ≡ record (H.lends house.old) { doors = all_left (H.lends house.old).doors (map (λ worker. worker.door) row.items) } }
-    ensures refusals { H.refusals house.new ≡ H.refusals house.old }
-{
-    let mut row = row;
-    'doors: for _given in 0..row.len() {
-        let Worker {
-            door,
-            clock: _,
-            draws: _,
-            gate: _,
-        } = take_first(&mut row);
-        house.back_listen(door);
-    }
-    row.destroy_empty();
-}
-
-/// Gives back what the house lent to workers: the clock and the draws of the first, and the doors of all, in their order.
-fn dismiss<H: House>(crew: Vec<HandOf<H>>, house: &mut H)
-    requires { 0 < vec_len crew }
-    ensures lends { (first : Worker H.Door H.Time H.Ids NoGate) × (others : List (Worker H.Door H.Time H.Ids NoGate)) × (crew.items ≡ first ∷ others)
-        × (H.lends house.new ≡ record (H.lends house.old) {
-            clock = after_return (H.lends house.old).clock first.clock;
-            draws = after_return (H.lends house.old).draws first.draws;
-            doors = all_left (H.lends house.old).doors (map (λ worker. worker.door) (first ∷ others)) }) }
-    ensures refusals { H.refusals house.new ≡ H.refusals house.old }
-{
-    let mut crew = crew;
-    let Worker {
-        door,
-        clock,
-        draws,
-        gate: _,
-    } = take_first(&mut crew);
-    house.back_clock(clock);
-    house.back_draws(draws);
-    house.back_listen(door);
-    give_doors_back(crew, house);
-}
 
 /// Lets workers serve a farm at a door that was opened, with what the house lends, and gives all back but the farm.
 fn serve_door<R: Threads + Wait + Sync, H: House>(

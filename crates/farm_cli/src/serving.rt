@@ -1,9 +1,9 @@
 //! Workers serve an object at a shared desk, and the console is told when they are ready and what they did.
-ghost use Rattle.std.specs.Prelude.{◌≡◌, ◌+◌, ◌*◌, ◌<◌, ◌≤◌, ◌⊎◌, ◌++◌, vec_capacity, string_bytes, IfOk, map, [], length, codes, decimal};
+ghost use Rattle.std.specs.Prelude.{◌≡◌, ◌*◌, ◌<◌, ◌≤◌, ◌⊎◌, vec_capacity, string_bytes, IfOk, ℕ, map, [], length};
 ghost use Rattle.farm_server.specs.declared.served.TheConstants.{REQUESTS};
 ghost use Rattle.http_wire.specs.Calls.{state_of};
-ghost use Rattle.shared_desk.specs.Standing.{fresh_token};
-ghost use Rattle.farm_cli.specs.Crew.{station_by};
+ghost use Rattle.farm_serving.specs.Connections.{Station};
+ghost use Rattle.farm_cli.specs.Crew.{station_by, IsWholeCrew};
 ghost use Rattle.farm_cli.specs.Inputs.{Tells};
 ghost use Rattle.farm_cli.specs.Serves.{ready_text, served_text, IsStatusOf, ServesReady, IsUnready, ServesAll};
 ghost use Rattle.farm_cli.specs.Writing.{WritesText};
@@ -121,6 +121,50 @@ pub(crate) struct Left<O, D, C, I> {
     pub status: Status,
 }
 
+/// Lets workers that were gathered serve an object, at a desk of its own.
+fn serve_gathered<
+    R: Threads + Wait + Sync,
+    O: Object<Question = Question, Answer = Asked, Law = Farm> + Send,
+    L: Link,
+    D: Listener + Send,
+    C: Clock + Send,
+    I: Draws + Send,
+>(
+    rt: &R,
+    alloc: Global,
+    object: O,
+    console: &mut L,
+    crew: Vec<Hand<D, C, I>>,
+    connections: u64,
+) -> Left<O, D, C, I>
+where
+    D::Peer: Send,
+    requires few { length crew.items * (connections * REQUESTS) ≤ 9223372036854775808 }
+    ensures serves { (count : ℕ) (lent : Station) → IsWholeCrew count lent (map (station_by D.Listener C.Clock I.Draws) crew.items)
+        → ServesAll count connections (state_of L.Link console.old) (state_of L.Link console.new) lent (map (station_by D.Listener C.Clock I.Draws) result.crew.items)
+        (O.state object) (O.state result.object) (O.holds object) (O.holds result.object) result.status }
+{
+    let mut crew = crew;
+    match Shared::new(alloc, object) {
+        Ok((shared, token)) => {
+            let workers = crew.as_mut_slice();
+            let (token, status) =
+                serve_ready(rt, alloc, &shared, token, console, workers, connections);
+            let object = shared.close(token);
+            Left {
+                object,
+                crew,
+                status,
+            }
+        }
+        Err(object) => Left {
+            object,
+            crew,
+            status: Status::NoMemory,
+        },
+    }
+}
+
 /// Gathers workers for an object in a row that has room for them, of which the first is this one, and lets them serve it.
 pub(crate) fn serve_object<
     R: Threads + Wait + Sync,
@@ -149,38 +193,12 @@ where
         (O.state object) (O.state result.object) (O.holds object) (O.holds result.object) result.status }
 {
     let mut crew = row;
-    if let Err(lack) = gather(first, &mut crew, shifts.workers) {
-        let status = lack.status();
-        return Left {
+    match gather(first, &mut crew, shifts.workers) {
+        Ok(()) => serve_gathered(rt, alloc, object, console, crew, shifts.connections),
+        Err(lack) => Left {
             object,
             crew,
-            status,
-        };
-    }
-    let (shared, token) = match Shared::new(alloc, object) {
-        Ok(made) => made,
-        Err(object) => {
-            let status = Status::NoMemory;
-            return Left {
-                object,
-                crew,
-                status,
-            };
-        }
-    };
-    let (token, status) = serve_ready(
-        rt,
-        alloc,
-        &shared,
-        token,
-        console,
-        crew.as_mut_slice(),
-        shifts.connections,
-    );
-    let object = shared.close(token);
-    Left {
-        object,
-        crew,
-        status,
+            status: lack.status(),
+        },
     }
 }
