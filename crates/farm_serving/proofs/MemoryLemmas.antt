@@ -1,5 +1,5 @@
 -- How the logs of a door in memory grow.
-use Rattle.std.proofs.Common.{◌≡◌, ℕ, Bool, true, false, List, [], ◌∷◌, ◌++◌, map, refl}
+use Rattle.std.proofs.Common.{◌≡◌, Bool, true, false, List, [], ◌∷◌, ◌++◌, map, refl, ◌∙◌, ap}
 use Rattle.std.proofs.lemmas.List.{map-append}
 use Rattle.causes.specs.Logs.{LogGrows}
 use Rattle.causes.proofs.LogsLemmas.{LogGrows-none}
@@ -7,9 +7,10 @@ use Rattle.farm_serving.specs.Doors.{IsEmptyBeside}
 use Rattle.farm_serving.specs.Memory.{told_if}
 
 -- one more is told, where the log is told
-pub told_if-one : {A B : Type 0} (f : A → B) (tells : Bool) (log now : List A) (x : A) → now ≡ log ++ x ∷ [] → LogGrows (told_if tells (map f log)) (told_if tells (map f now)) (f x ∷ [])
-told_if-one f true log now x is = rw is (map-append f log (x ∷ []))
-told_if-one f false log now x is = tt
+pub told_if-one : {A B : Type 0} (tells : Bool) (log now : List A) (f : A → B) (x : A) (y : B) → now ≡ log ++ x ∷ [] → f x ≡ y → LogGrows (told_if tells (map f log)) (told_if tells (map f now)) (y ∷ [])
+told_if-one {B = B} true log now f x y is told =
+    ap (map f) is ∙ (map-append f log (x ∷ []) ∙ ap (λ (z : B). map f log ++ z ∷ []) told)
+told_if-one false log now f x y is told = tt
 
 -- nothing is told
 pub told_if-none : {A : Type 0} (tells : Bool) (log : List A) → LogGrows (told_if tells log) (told_if tells log) []

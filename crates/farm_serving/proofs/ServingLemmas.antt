@@ -1,8 +1,10 @@
 -- Whose places are whose: from what one worker did, and from two rows of workers to both.
-use Rattle.std.proofs.Common.{◌≡◌, ℕ, suc, zero, ◌+◌, ◌*◌, ◌-◌, ◌^◌, ◌<◌, ◌≤◌, List, [], ◌∷◌, ◌++◌, length, length-append, map, take, drop, Some, Option, refl, sym, ◌∙◌, ap, subst, append_assoc, append-nil, slice_index_or, arith}
+use Rattle.std.proofs.Common.{◌≡◌, ℕ, Bool, true, suc, zero, ◌+◌, ◌*◌, ◌-◌, ◌^◌, ◌<◌, ◌≤◌, List, [], ◌∷◌, ◌++◌, length, length-append, map, take, drop, Some, Option, refl, sym, ◌∙◌, ap, subst, append_assoc, append-nil, slice_index_or, slice_set, arith}
 use mathlib.Core.List.{IsPrefix}
-use Rattle.std.specs.List.{All, flat_map}
-use Rattle.std.proofs.lemmas.List.{map-append, length-map, take-append-drop}
+use Rattle.std.specs.Bool.{◌==◌}
+use Rattle.std.specs.List.{flat_map}
+use Rattle.std.proofs.lemmas.Bool.Decides.{nat_tests}
+use Rattle.std.proofs.lemmas.List.{map-append, length-map, nil_from_length, take-append-drop}
 use Rattle.std.proofs.lemmas.List.Concat.{flat_map-append}
 use Rattle.std.proofs.lemmas.List.Elements.{All-nil, All-cons, All-append}
 use Rattle.history.specs.Histories.{IsLegal, asked_at, reply_at}
@@ -14,7 +16,7 @@ use Rattle.farm_machine.specs.Entry.{Entry}
 use Rattle.farm_machine.specs.Law.{Opening, opened}
 use Rattle.farm_machine.specs.State.{State}
 use Rattle.farm_machine.specs.Step.{farm_rules}
-use Rattle.farm_server.specs.Served.{Ask, questions_of}
+use Rattle.farm_server.specs.Served.{questions_of}
 use Rattle.farm_server.specs.Served.{Standing as DeskStanding}
 use Rattle.farm_serving.specs.Connections.{Connection, Company, InTurn, Station, Part, Worked, questions_in, replies_in}
 use Rattle.farm_serving.specs.Numbers.{of_nothing, FitTogether, both}
@@ -50,7 +52,7 @@ ArePortions-all opening seen before after (c ∷ cs) places turns asked replied 
     } in (
       take n places,
       drop n places,
-      sym (take-append-drop places n),
+      sym (take-append-drop n places),
       portion,
       ArePortions-all opening seen turns.0 after cs (drop n places) turns.2 (subst (λ k. map (asked_at farm_rules seen) (drop k places) ≡ map Some (questions_in cs)) questions first.1) (subst (λ k. map (reply_at farm_rules opening seen) (drop k places) ≡ map Some (replies_in cs)) replies second.1),
     )
@@ -107,7 +109,7 @@ AreShares-both opening seen first (part ∷ ps) qs shares more are others = (
 )
 
 -- an opening that begins in this state
-opening_in : State → Opening
+abbrev opening_in : State → Opening
 opening_in state = record { state = state; records = []; faults = 0 }
 
 -- what a pass's desk stands for, and how many asks it has left
@@ -212,12 +214,12 @@ ServesLegal-fit accepts asks old low high lows_before lows_after highs_before hi
     FitTogether-most first second (length front.0 * accepts) (length back.0 * accepts) sum (omega (arith, room, few, front.1.spent, back.1.spent)) most more
 
 -- from a token, what it saw is legal
-pub Serves-legal : (accepts : ℕ) (old new : Standing State Entry) (befores afters : List Station) (ended : Ended) → ((opening : State) → old.opening ≡ Some opening → IsLegal farm_rules opening old.seen) → ServesLegal accepts old new befores afters ended → Serves accepts old new befores afters ended
+Serves-legal : (accepts : ℕ) (old new : Standing State Entry) (befores afters : List Station) (ended : Ended) → ((opening : State) → old.opening ≡ Some opening → IsLegal farm_rules opening old.seen) → ServesLegal accepts old new befores afters ended → Serves accepts old new befores afters ended
 Serves-legal accepts old new befores afters ended legal serves =
     (serves.0, serves.1, λ opening is. serves.2 opening is (legal opening is))
 
 -- as many places are gained as messages were asked
-pub Serves-gained : (accepts : ℕ) (old new : Standing State Entry) (befores afters : List Station) (ended : Ended) → ServesLegal accepts old new befores afters ended → length new.mine ≡ length old.mine + ended.served
+Serves-gained : (accepts : ℕ) (old new : Standing State Entry) (befores afters : List Station) (ended : Ended) → ServesLegal accepts old new befores afters ended → length new.mine ≡ length old.mine + ended.served
 Serves-gained accepts old new befores afters ended serves =
     let are = serves.1 in
     let asks : new.left + length new.mine ≡ old.left + length old.mine = ap (λ (h : Home State). h.asks) are.home in
@@ -269,13 +271,51 @@ ServesLegal-joined accepts asks old cut rest low high new lows_before lows_after
     ServesLegal-both accepts old low high new asks lows_before lows_after highs_before highs_after first second few joined stays (subst (λ (s : Standing State Entry). ServesLegal accepts s low lows_before lows_after first) is front) (subst (λ (s : Standing State Entry). ServesLegal accepts s high highs_before highs_after second) also back)
 
 -- their numbers fit
-pub ServesLegal-joined_fit : (accepts asks : ℕ) (old cut rest low high : Standing State Entry) (lows_before lows_after highs_before highs_after : List Station) (first second : Ended) → cut ≡ gave old asks → rest ≡ given old asks → (length lows_before + length highs_before) * (accepts * 1000) ≤ old.left → old.left < 2 ^ 64 → asks ≤ old.left → ServesLegal accepts cut low lows_before lows_after first → ServesLegal accepts rest high highs_before highs_after second → FitTogether first second
+ServesLegal-joined_fit : (accepts asks : ℕ) (old cut rest low high : Standing State Entry) (lows_before lows_after highs_before highs_after : List Station) (first second : Ended) → cut ≡ gave old asks → rest ≡ given old asks → (length lows_before + length highs_before) * (accepts * 1000) ≤ old.left → old.left < 2 ^ 64 → asks ≤ old.left → ServesLegal accepts cut low lows_before lows_after first → ServesLegal accepts rest high highs_before highs_after second → FitTogether first second
 ServesLegal-joined_fit accepts asks old cut rest low high lows_before lows_after highs_before highs_after first second is also room small few front back =
     let fewer = fewer_connections (length lows_before + length highs_before) accepts in
     ServesLegal-fit accepts asks old low high lows_before lows_after highs_before highs_after first second (omega (arith, fewer, room, small)) small few (subst (λ (s : Standing State Entry). ServesLegal accepts s low lows_before lows_after first) is front) (subst (λ (s : Standing State Entry). ServesLegal accepts s high highs_before highs_after second) also back)
 
--- a row of one
-pub one_row : {A B : Type 0} (f : A → B) (xs : List A) (x : A) → length xs ≡ 1 → map f xs ≡ f (slice_index_or xs 0 x) ∷ []
-one_row f [] x one = absurd (omega (arith, one))
-one_row f (y ∷ []) x one = refl
-one_row f (y ∷ z ∷ ys) x one = absurd (omega (arith, one))
+-- a token, and a pass of it that is served over: what the pass did, the token has done
+over_token : (accepts : ℕ) (token pass last back : Standing State Entry) (befores afters : List Station) (ended : Ended) → pass ≡ token → back ≡ last → ServesLegal accepts pass last befores afters ended → ServesLegal accepts token back befores afters ended
+over_token accepts token pass last back befores afters ended is also serves =
+    subst (λ (s : Standing State Entry). ServesLegal accepts token s befores afters ended) (sym also) (subst (λ (s : Standing State Entry). ServesLegal accepts s last befores afters ended) is serves)
+
+pub Serves-over : (accepts : ℕ) (token pass last back : Standing State Entry) (befores afters : List Station) (ended : Ended) → pass ≡ token → back ≡ last → ((opening : State) → token.opening ≡ Some opening → IsLegal farm_rules opening token.seen) → ServesLegal accepts pass last befores afters ended → Serves accepts token back befores afters ended
+Serves-over accepts token pass last back befores afters ended is also legal serves =
+    Serves-legal accepts token back befores afters ended legal (over_token accepts token pass last back befores afters ended is also serves)
+
+pub gained-over : (accepts : ℕ) (token pass last back : Standing State Entry) (befores afters : List Station) (ended : Ended) → pass ≡ token → back ≡ last → ServesLegal accepts pass last befores afters ended → length back.mine ≡ length token.mine + ended.served
+gained-over accepts token pass last back befores afters ended is also serves =
+    Serves-gained accepts token back befores afters ended (over_token accepts token pass last back befores afters ended is also serves)
+
+-- what one worker did, a row of it alone did
+pub ServesLegal-row : {W : Type 0} (accepts : ℕ) (old new : Standing State Entry) (f : W → Station) (ws : List W) (other after : W) (ended : Ended) → length ws ≡ 1 → ServesLegal accepts old new (f (slice_index_or ws 0 other) ∷ []) (f after ∷ []) ended → ServesLegal accepts old new (map f ws) (map f (slice_set ws 0 after)) ended
+ServesLegal-row accepts old new f [] other after ended one serves = absurd (omega (arith, one))
+ServesLegal-row accepts old new f (w ∷ []) other after ended one serves = serves
+ServesLegal-row accepts old new f (w ∷ v ∷ ws) other after ended one serves = absurd (omega (arith, one))
+
+-- a row that is two rows together
+pub ServesLegal-split : {W : Type 0} (accepts : ℕ) (old new : Standing State Entry) (f : W → Station) (ws low high lows highs : List W) (ended : Ended) → ws ≡ low ++ high → ServesLegal accepts old new (map f low ++ map f high) (map f lows ++ map f highs) ended → ServesLegal accepts old new (map f ws) (map f (lows ++ highs)) ended
+ServesLegal-split accepts old new f ws low high lows highs ended is serves =
+    subst (λ (befores : List Station). ServesLegal accepts old new befores (map f (lows ++ highs)) ended) (sym (ap (map f) is ∙ map-append f low high)) (subst (λ (afters : List Station). ServesLegal accepts old new (map f low ++ map f high) afters ended) (sym (map-append f lows highs)) serves)
+
+-- what is enough for a row is enough for its halves
+pub room_for_halves : (n a b middle k left : ℕ) → n * k ≤ left → a ≡ middle → b + middle ≡ n → (a + b) * k ≤ left
+room_for_halves n a b middle k left room front back =
+    let all : n ≡ a + b = omega (arith, front, back) in
+    subst (λ (m : ℕ). m * k ≤ left) all room
+
+-- no worker tells nothing
+zero_is : (n : ℕ) (empty : Bool) → empty ≡ true → empty ≡ (n == 0) → n ≡ 0
+zero_is n empty holds is = grind (arith, nat_tests)
+
+pub no_worker : {W : Type 0} (f : W → Station) (ws : List W) (empty : Bool) → empty ≡ true → empty ≡ (length ws == 0) → map f ws ≡ []
+no_worker f ws empty holds is = ap (map f) (nil_from_length ws (zero_is (length ws) empty holds is))
+
+-- the numbers of two rows of workers fit
+pub ServesLegal-rows_fit : {W : Type 0} (f : W → Station) (lows lows_after highs highs_after : List W) (accepts asks : ℕ) (old cut rest low high : Standing State Entry) (first second : Ended) → cut ≡ gave old asks → rest ≡ given old asks → (length lows + length highs) * (accepts * 1000) ≤ old.left → old.left < 2 ^ 64 → asks ≤ old.left → ServesLegal accepts cut low (map f lows) (map f lows_after) first → ServesLegal accepts rest high (map f highs) (map f highs_after) second → FitTogether first second
+ServesLegal-rows_fit f lows lows_after highs highs_after accepts asks old cut rest low high first second is also room small few front back =
+    let a : length (map f lows) ≡ length lows = length-map lows f in
+    let b : length (map f highs) ≡ length highs = length-map highs f in
+    ServesLegal-joined_fit accepts asks old cut rest low high (map f lows) (map f lows_after) (map f highs) (map f highs_after) first second is also (rw (a, b) room) small few front back

@@ -1,12 +1,12 @@
 -- How numbers of parts go together, and how great they are.
-use Rattle.std.proofs.Common.{◌≡◌, ℕ, ◌+◌, ◌*◌, ◌-◌, ◌^◌, ◌<◌, ◌≤◌, List, [], ◌∷◌, ◌++◌, length, refl, sym, ◌∙◌, ap, subst, slice_index_or, arith}
+use Rattle.std.proofs.Common.{◌≡◌, ℕ, ◌+◌, ◌*◌, ◌^◌, ◌<◌, ◌≤◌, List, [], ◌∷◌, ◌++◌, length, sym, ◌∙◌, ap, subst, slice_index_or, arith}
 use Rattle.std.specs.List.{All, sum_by}
 use Rattle.std.proofs.lemmas.List.Sums.{sum_by-append, sum_by-le}
 use Rattle.std.proofs.lemmas.List.Elements.{All-weaker}
 use Rattle.farm_server.specs.declared.served.Served.{Served}
 use Rattle.farm_server.specs.declared.served.Served.TheVariants.{Closed, EndedInside, WireFault, ReadFault, WriteFault, Full, NoMemory}
 use Rattle.farm_serving.specs.Connections.{Connection, Part, Worked}
-use Rattle.farm_serving.specs.Numbers.{by_read, by_write, by_wire, by_memory, of_nothing, FitTogether, both}
+use Rattle.farm_serving.specs.Numbers.{by_read, by_write, by_wire, by_memory, FitTogether, both}
 use Rattle.farm_serving.specs.Tally.{of_all, IsTally}
 use Rattle.farm_serving.specs.declared.ended.Ended.{Ended}
 

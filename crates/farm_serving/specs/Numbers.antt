@@ -1,5 +1,5 @@
 -- The numbers of what workers did.
-use Rattle.std.specs.Prelude.{◌≡◌, ℕ, ◌+◌, ◌<◌, ◌^◌}
+use Rattle.std.specs.Prelude.{ℕ, ◌+◌, ◌<◌, ◌^◌}
 use Rattle.farm_server.specs.declared.served.Served.{Served}
 use Rattle.farm_server.specs.declared.served.Served.TheVariants.{EndedInside, WireFault, ReadFault, WriteFault, NoMemory}
 use Rattle.farm_serving.specs.declared.ended.Ended.{Ended}

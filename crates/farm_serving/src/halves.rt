@@ -1,6 +1,4 @@
 //! Workers side by side: half of them in a thread of their own, with half of the work, and so on.
-#![tactic(none)]
-
 ghost use Rattle.std.specs.Prelude.{◌≡◌, ◌+◌, ◌*◌, ◌<◌, ◌≤◌, ◌++◌, length, map};
 ghost use denote.Param.Send.{IsSync, IsSend};
 ghost use Rattle.farm_server.specs.declared.served.TheConstants.{REQUESTS};

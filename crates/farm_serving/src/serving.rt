@@ -1,6 +1,4 @@
 //! Many workers at one desk.
-#![tactic(none)]
-
 ghost use Rattle.std.specs.Prelude.{◌≡◌, ◌+◌, ◌*◌, ◌≤◌, length, map};
 ghost use Rattle.farm_server.specs.declared.served.TheConstants.{REQUESTS};
 ghost use Rattle.farm_serving.specs.Connections.{station};

@@ -1,6 +1,4 @@
 //! What workers halve among them, and who serves over a part of it.
-#![tactic(none)]
-
 ghost use Rattle.std.specs.Prelude.{◌≡◌, ◌*◌, ◌≤◌, [], ◌∷◌, Some};
 ghost use Rattle.history.specs.Histories.{IsLegal};
 ghost use Rattle.shared_desk.specs.Standing.{Standing, gave, given, AreJoined};

@@ -1,6 +1,4 @@
 //! One worker.
-#![tactic(none)]
-
 ghost use Rattle.std.specs.Prelude.{◌≡◌, ◌*◌, ◌<◌, ◌≤◌};
 ghost use Rattle.http_wire.specs.Calls.{state_of};
 ghost use Rattle.farm_server.specs.Served.{outside_of, Serves};
@@ -117,7 +115,6 @@ impl<D: Listener, C: Clock, I: Draws, G: Gate> Worker<D, C, I, G> {
 }
 
 /// Serves one link, with the table of routes if there is one.
-#[tactic(auto)]
 fn serve_link<
     L: Link,
     K: Desk<Question = Question, Answer = Asked, Law = Farm>,

@@ -1,5 +1,4 @@
 -- A twin tells where its door tells. No check has seen this.
-use Rattle.std.proofs.Common.{refl}
 use Rattle.farm_serving.proofs.MemoryLemmas.{told_if-none, told_if-empty}
 use Rattle.farm_serving.proofs.memory.MemoryListenerListener.twin.Goals as goal
 

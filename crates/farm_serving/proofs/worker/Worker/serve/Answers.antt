@@ -1,18 +1,17 @@
--- Accepts in turn. No check has seen the names of these goals but the first.
-use Rattle.std.proofs.Common.{◌≡◌, ℕ, ◌+◌, ◌-◌, ◌*◌, ◌<◌, ◌≤◌, ◌^◌, refl, sym, ◌∙◌, subst, arith}
+-- Accepts in turn.
+use Rattle.std.proofs.Common.{◌≡◌, ℕ, ◌+◌, refl, sym, ◌∙◌, subst, arith}
 use Rattle.farm_server.specs.Served.{Standing}
 use Rattle.farm_serving.specs.Connections.{Station, station}
 use Rattle.farm_serving.specs.Serving.{Works}
-use Rattle.farm_serving.specs.Numbers.{both}
 use Rattle.farm_serving.specs.declared.ended.Ended.{Ended}
 use Rattle.farm_serving.proofs.ConnectionLemmas.{Works-none, Works-then, Works-fit, Works-room}
 use Rattle.farm_serving.proofs.worker.Worker.serve.Goals as goal
 
-pub accepts-initial : goal.accepts-initial
-accepts-initial g c =
+pub accepts-init : goal.accepts-init
+accepts-init g c =
     let old : Standing = record { stands = g.K.Desk.stands c.args.desk.now; spare = g.K.Spare.spare c.args.desk.now } in
     let before : Station = station (g.C.Clock.told c.args.self.now.clock) (g.I.Draws.told c.args.self.now.draws) (g.G.Gate.told c.args.self.now.gate) (g.D.Listener.given c.args.self.now.door) (g.D.Listener.taken c.args.self.now.door) (g.D.Listener.out c.args.self.now.door) (g.D.Listener.accepts c.args.self.now.door) (g.D.Listener.faults c.args.self.now.door) in
-    (refl, omega (arith, c.left-_most.ensures), subst (λ (e : Ended). Works 0 old old before before e) (sym c.nothing-ended.ensures) (Works-none old before))
+    (refl, omega (arith, c.left-most.ensures), subst (λ (e : Ended). Works 0 old old before before e) (sym c.nothing-ended.ensures) (Works-none old before))
 
 pub serve_next-one-requires : goal.serve_next-one-requires
 serve_next-one-requires g c =
@@ -20,7 +19,7 @@ serve_next-one-requires g c =
     let before : Station = station (g.C.Clock.told c.args.self.now.clock) (g.I.Draws.told c.args.self.now.draws) (g.G.Gate.told c.args.self.now.gate) (g.D.Listener.given c.args.self.now.door) (g.D.Listener.taken c.args.self.now.door) (g.D.Listener.out c.args.self.now.door) (g.D.Listener.accepts c.args.self.now.door) (g.D.Listener.faults c.args.self.now.door) in
     let middle : Standing = record { stands = g.K.Desk.stands c.accepts.desk; spare = g.K.Spare.spare c.accepts.desk } in
     let between : Station = station (g.C.Clock.told c.accepts.self.clock) (g.I.Draws.told c.accepts.self.draws) (g.G.Gate.told c.accepts.self.gate) (g.D.Listener.given c.accepts.self.door) (g.D.Listener.taken c.accepts.self.door) (g.D.Listener.out c.accepts.self.door) (g.D.Listener.accepts c.accepts.self.door) (g.D.Listener.faults c.accepts.self.door) in
-    Works-room c.accepts._made c.args.connections old middle before between c.accepts.ended c.accepts-test.true c.requires.spare c.accepts.invariant.2
+    record { spare = Works-room c.accepts._made c.args.connections old middle before between c.accepts.ended c.accepts-test.true c.requires.spare c.accepts.invariant.2 }
 
 pub plus-ended-requires : goal.plus-ended-requires
 plus-ended-requires g c =

@@ -1,5 +1,5 @@
 -- One accept, and what came of it.
-use Rattle.std.proofs.Common.{◌≡◌, ℕ, ◌+◌, ◌<◌, refl, sym, subst, arith}
+use Rattle.std.proofs.Common.{refl, sym, subst}
 use Rattle.farm_server.specs.Served.{Standing}
 use Rattle.farm_serving.specs.Connections.{Station, station}
 use Rattle.farm_serving.specs.Serving.{Works}

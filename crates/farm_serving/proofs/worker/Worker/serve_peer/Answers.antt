@@ -1,9 +1,8 @@
 -- What one connection did, and its link's return to the door.
-use Rattle.std.proofs.Common.{◌≡◌, ℕ, ◌+◌, ◌-◌, ◌≤◌, List, [], ◌∷◌, length, sym, subst, arith}
+use Rattle.std.proofs.Common.{◌≡◌, ℕ, ◌-◌, [], ◌∷◌, length, subst, arith}
 use Rattle.causes.specs.Logs.{LogGrows}
 use Rattle.http_wire.specs.Calls.{LinkState}
 use Rattle.farm_serving.specs.Numbers.{of_connection}
-use Rattle.farm_serving.specs.declared.ended.Ended.{Ended}
 use Rattle.farm_serving.proofs.worker.Worker.serve_peer.Goals as goal
 
 pub serve_link-served-requires : goal.serve_link-served-requires
@@ -13,7 +12,7 @@ pub overflow_sub-asked : goal.overflow_sub-asked
 overflow_sub-asked g c = omega (arith, c.left-before.ensures, c.left.ensures, c.serve_link-served.ensures.serves.spent)
 
 pub done-requires : goal.done-requires
-done-requires g c = c.requires.out
+done-requires g c = record { out = c.requires.out }
 
 pub returns-clause-home : goal.returns-clause-home
 returns-clause-home g c = c.serve_link-served.ensures.home

@@ -1,7 +1,7 @@
--- What a worker did over a pass. No check has seen this (the folder's name is guessed too).
+-- What a worker did over a pass.
 use Rattle.farm_serving.specs.Connections.{Station, station}
 use Rattle.farm_serving.proofs.ServingLemmas.{ServesLegal-one}
-use Rattle.farm_serving.proofs.share.WorkerServe.serve_over.Goals as goal
+use Rattle.farm_serving.proofs.share.WorkerServePass.serve_over.Goals as goal
 
 pub returns : goal.returns
 returns g c =
