@@ -30,7 +30,7 @@ disks_of (Some (name, disk)) = files_of name disk
 
 -- what it tells of its doors, of which it has this one, or none
 abbrev pub doors_of : MemoryDoors → Doors MemoryListener
-doors_of (Shut None back) = shut (vec_capacity back) (λ address. refuses)
-doors_of (Shut (Some named) back) = shut (vec_capacity back) (only_file (string_bytes named.address) named.door)
-doors_of (Opened back) = ajar (vec_capacity back) back.items
+doors_of (Shut None kept) = shut (vec_capacity kept) (λ address. refuses)
+doors_of (Shut (Some named) kept) = shut (vec_capacity kept) (only_file (string_bytes named.address) named.door)
+doors_of (Opened kept) = ajar (vec_capacity kept) kept.items
 doors_of Silent = silent

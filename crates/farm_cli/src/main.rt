@@ -28,6 +28,8 @@ mod rendering;
 mod rendering_tests;
 mod run;
 mod serve;
+#[cfg(test)]
+mod serve_tests;
 mod serving;
 mod signing;
 mod status;

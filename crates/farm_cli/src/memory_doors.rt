@@ -2,6 +2,7 @@
 ghost use Rattle.std.specs.Prelude.{◌≡◌, string_bytes, option_map, vec_capacity, IfOk};
 ghost use Rattle.farm_cli.specs.House.{CanListen, after_listening, after_leaving, ajar, left_of, refuses, shut};
 ghost use Rattle.farm_cli.specs.MemoryHouse.{doors_of, only_file};
+ghost use Rattle.farm_cli.specs.declared.memory_doors.MemoryDoors.TheVariants.{Shut};
 
 use causes::Failed;
 use farm_serving::MemoryListener;
@@ -53,9 +54,10 @@ impl MemoryDoors {
         ensures after { doors_of self.new ≡ after_listening (doors_of self.old) result }
     {
         match mem::replace(self, MemoryDoors::Silent) {
-            MemoryDoors::Shut(Some(named), back) if named.address.as_str() == address => {
-                *self = MemoryDoors::Opened(back);
-                Ok(named.door)
+            MemoryDoors::Shut(door, back) => {
+                let (doors, opened) = open_named(door, back, address);
+                *self = doors;
+                opened
             }
             others => {
                 *self = others;
@@ -82,6 +84,25 @@ impl MemoryDoors {
             MemoryDoors::Opened(back) => Some(back.as_slice()),
             _ => None,
         }
+    }
+}
+
+/// Opens a door where it is there, and has this address.
+fn open_named(
+    door: Option<NamedDoor>,
+    back: Vec<MemoryListener>,
+    address: &str,
+) -> (MemoryDoors, Result<MemoryListener, Failed>)
+    ensures opens { CanListen (doors_of (Shut door back)) address.now result.1 }
+    ensures after { doors_of result.0 ≡ after_listening (doors_of (Shut door back)) result.1 }
+{
+    let Some(named) = door else {
+        return (MemoryDoors::Shut(None, back), Err(Failed));
+    };
+    if named.address.as_str() == address {
+        (MemoryDoors::Opened(back), Ok(named.door))
+    } else {
+        (MemoryDoors::Shut(Some(named), back), Err(Failed))
     }
 }
 
