@@ -13,6 +13,7 @@ use Rattle.clap.specs.Simple.{argument_words, built_leaf, entered, filled, help_
 use Rattle.clap.specs.Walk.{Held, Names, Walk, finished, idle, is_empty, nothing_held, reacted, settled, stop_after, walk_from, walked, walked_from}
 use Rattle.clap.proofs.OnLiterals.{clap_on_literals}
 use Rattle.clap.specs.declared.error.ErrorKind.TheVariants.{UnknownArgument, InvalidSubcommand}
+use Rattle.command_line.proofs.CommandLemmas.{command_goes, top, top_names}
 use Rattle.command_line.proofs.DiskFormLemmas.{Says, args, both_read, end_of, faults, found, reads, start, start_said}
 use Rattle.command_line.proofs.FaultLemmas.{first_fails, held, help, level_fails, long_flag, none_some, or_left, rest_fails, short_flag}
 use Rattle.command_line.proofs.FlagLemmas.{IsFlag, value_cases, word_kind}
@@ -109,12 +110,6 @@ flag_second name f w more v flag =
     (subst (λ k. is_empty (walk_fault (leaf name) [] k (w ∷ more)) ≡ false) (sym (value_walked name f v)) fails))
 
 -- ---- the first word
-
-abbrev top : Shape
-top = (built farm_app).top
-
-abbrev top_names : Names
-top_names = names_of (built farm_app)
 
 top_flag : (w : Text) → IsFlag w → is_empty (word_fault top top_names false idle w (held None)) ≡ false
 unfolding clap_on_literals

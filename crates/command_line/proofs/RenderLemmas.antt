@@ -13,7 +13,7 @@ use Rattle.clap.specs.declared.error.ErrorKind.TheVariants.{UnknownArgument}
 use Rattle.command_line.proofs.FaultLemmas.{first_fails, held, level_fails, long_flag, none_some, short_flag}
 use Rattle.command_line.proofs.FlagLemmas.{IsFlag, value_cases, word_kind}
 use Rattle.command_line.proofs.LawLemmas.{fails_below, no_reading, render_stops}
-use Rattle.command_line.specs.Forms.{EndsOptions, IsValue}
+use Rattle.command_line.specs.Options.{EndsOptions, IsValue}
 use Rattle.command_line.specs.Words.{farm_app, reading, render_app}
 use Rattle.command_line.specs.declared.command.Command.{Command}
 use Rattle.command_line.specs.declared.command.Command.TheVariants.{Render}

@@ -1,7 +1,8 @@
--- The lists of words that say a command, by the usual reading of `-` and `--`
--- (https://pubs.opengroup.org/onlinepubs/9799919799/basedefs/V1_chap12.html).
+-- The lists of words that say a command.
 use Rattle.std.specs.Prelude.{◌≡◌, ◌⊎◌, ℕ, List, [], ◌∷◌, ◌++◌, codes, Option, Some, None}
-use Rattle.command_line.specs.Words.{IsPlain, disk_of, name_of}
+use Rattle.command_line.specs.Options.{EndsOptions, GivesOption, IsValue}
+use Rattle.command_line.specs.ServeForms.{GivesService}
+use Rattle.command_line.specs.Words.{name_of}
 use Rattle.command_line.specs.declared.command.Work.{Work}
 use Rattle.command_line.specs.declared.command.Work.TheVariants.{Answer, Expand, Check, Serve}
 
@@ -14,13 +15,9 @@ abbrev pub GivesValue : List ℕ → List (List ℕ) → Type 0
 GivesValue value words =
     (IsValue value × (words ≡ value ∷ [])) ⊎ ((words ≡ codes "--" ∷ value ∷ []) ⊎ (IsValue value × (words ≡ value ∷ codes "--" ∷ [])))
 
--- the words give the disk: its name behind `--disk`, or behind `--disk=`
+-- the words give the disk
 abbrev pub GivesDisk : List ℕ → List (List ℕ) → Type 0
-GivesDisk disk words = (IsValue disk × (words ≡ codes "--disk" ∷ disk ∷ [])) ⊎ (words ≡ (codes "--disk=" ++ disk) ∷ [])
-
--- there are no words, or a last `--`
-abbrev pub EndsOptions : List (List ℕ) → Type 0
-EndsOptions words = (words ≡ []) ⊎ (words ≡ codes "--" ∷ [])
+GivesDisk disk words = GivesOption (codes "disk") disk words
 
 -- the words give the disk and then the farm file, or the farm file and then the disk
 abbrev pub GivesBoth : List ℕ → List ℕ → List (List ℕ) → Type 0
@@ -43,7 +40,7 @@ IsOfOne (Serve service) = ⊥
 -- the words are the name of this work, and then give its farm file and its disk
 abbrev pub SaysWork : List ℕ → Work → List (List ℕ) → Type 0
 SaysWork farm work [] = ⊥
-SaysWork farm work (first ∷ rest) = (first ≡ name_of work) × Gives farm (disk_of work) rest
+SaysWork farm work (first ∷ rest) = (first ≡ name_of work) × GivesWork farm work rest
 
 -- the words are `render`, alone or with a last `--`
 abbrev pub SaysRender : List (List ℕ) → Type 0

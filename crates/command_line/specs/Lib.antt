@@ -1,5 +1,6 @@
 pub mod Forms
 pub mod Load
+pub mod Options
 pub mod Parts
 pub mod Refusal
 pub mod Service
