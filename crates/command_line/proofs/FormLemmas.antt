@@ -17,27 +17,24 @@ use Rattle.command_line.proofs.CommandLemmas.{command_goes, top, top_names}
 use Rattle.command_line.proofs.DiskFormLemmas.{Says, args, both_read, end_of, faults, found, reads, start, start_said}
 use Rattle.command_line.proofs.FaultLemmas.{first_fails, held, help, level_fails, long_flag, none_some, or_left, rest_fails, short_flag}
 use Rattle.command_line.proofs.FlagLemmas.{IsFlag, value_cases, word_kind}
-use Rattle.command_line.proofs.LawLemmas.{answer_stops, bulk_stops, check_stops, empty_read, expand_stops, fails_below, help_first, no_reading, other_first, serve_stops, sign_stops}
+use Rattle.command_line.proofs.LawLemmas.{answer_stops, bulk_stops, check_stops, empty_read, expand_stops, fails_below, help_first, no_reading, other_first, sign_stops}
 use Rattle.command_line.proofs.RenderLemmas.{render_ends, render_read}
-use Rattle.command_line.specs.Forms.{EndsOptions, Gives, GivesValue, IsOfOne, IsValue, SaysRender, SaysWork}
-use Rattle.command_line.specs.Words.{IsPlain, command_in, farm_app, reading, serve_in, with_farm}
+use Rattle.command_line.proofs.ServeFormLemmas.{service_read, service_said}
+use Rattle.command_line.specs.Forms.{Gives, GivesValue, SaysRender, SaysWork}
+use Rattle.command_line.specs.Options.{EndsOptions, IsValue}
+use Rattle.command_line.specs.Words.{IsPlain, command_in, farm_app, reading, with_farm}
 use Rattle.command_line.specs.Load.{load_in}
-use Rattle.command_line.specs.Service.{service_in}
 use Rattle.command_line.specs.Signing.{signing_in}
 use Rattle.command_line.specs.declared.command.Command.{Command}
 use Rattle.command_line.specs.declared.command.Command.TheVariants.{OverFarm, Sign, Bulk, Render}
 use Rattle.command_line.specs.declared.command.Work.{Work}
 use Rattle.command_line.specs.declared.command.Work.TheVariants.{Answer, Expand, Check, Serve}
 use Rattle.command_line.specs.declared.load.Load.{Load}
-use Rattle.command_line.specs.declared.service.Service.{Service}
 use Rattle.command_line.specs.declared.signing.Signing.{Signing}
 
--- the words say the command, if it is work over a farm other than `serve`, or `render`
+-- the words say the command, if it is work over a farm or `render`
 abbrev SaysCommand : Command → List Text → Type 0
-SaysCommand (OverFarm farm (Serve service)) words = Unit {0}
-SaysCommand (OverFarm farm (Answer disk)) words = SaysWork farm (Answer disk) words
-SaysCommand (OverFarm farm Expand) words = SaysWork farm Expand words
-SaysCommand (OverFarm farm (Check disk)) words = SaysWork farm (Check disk) words
+SaysCommand (OverFarm farm work) words = SaysWork farm work words
 SaysCommand (Sign signing) words = Unit {0}
 SaysCommand (Bulk load) words = Unit {0}
 SaysCommand Render words = SaysRender words
@@ -276,92 +273,25 @@ check_before f v = value_cases (λ a. reading (codes "check" ∷ a ∷ codes "--
 
 -- ---- commands that take a disk
 
--- the walk stands still once a subcommand was met
-stopped_walk : (c : List Rule) (names : Names) (w : Walk) (name : Text) (before rest : List Text) → w.stopped ≡ Some (name, before)
-    → fold (walked c names) w rest ≡ record w { stopped = Some (name, before ++ rest) }
-unfolding walked
-stopped_walk c names w name before [] e = ap (λ (s : Option (Text × List Text)). record w { stopped = s }) (e ∙ ap (λ (words : List Text). Some (name, words)) (sym (append-nil before)))
-stopped_walk c names w name before (word ∷ rest) e =
-    let next : walked c names w word ≡ record w { stopped = Some (name, before ++ word ∷ []) } = ap (λ (s : Option (Text × List Text)). walked_from c names s w word) e in
-    ap (λ (v : Walk). fold (walked c names) v rest) next
-    ∙ (stopped_walk c names (record w { stopped = Some (name, before ++ word ∷ []) }) name (before ++ word ∷ []) rest refl
-    ∙ ap (λ (words : List Text). record w { stopped = Some (name, words) }) (append_assoc before (word ∷ []) rest))
-
--- and finds no fault
-stopped_fault : (s : Shape) (names : Names) (w : Walk) (name : Text) (before rest : List Text) → w.stopped ≡ Some (name, before) → walk_fault s names w rest ≡ []
-unfolding walk_fault walked
-stopped_fault s names w name before [] e = refl
-stopped_fault s names w name before (word ∷ rest) e =
-    let next : walked s.rules names w word ≡ record w { stopped = Some (name, before ++ word ∷ []) } = ap (λ (o : Option (Text × List Text)). walked_from s.rules names o w word) e in
-    let here : turn_fault s names w word ≡ [] = simp e in
-    ap (λ (k : Kinds). or_else k (walk_fault s names (walked s.rules names w word) rest)) here
-    ∙ (ap (λ (v : Walk). walk_fault s names v rest) next ∙ stopped_fault s names (record w { stopped = Some (name, before ++ word ∷ []) }) name (before ++ word ∷ []) rest refl)
-
-abbrev top_end : Held → Kinds
-top_end h = or_else (settle_fault top.rules false h) (or_else (defaults_fault (settled top.rules h).rows top.rules) (check_fault top (finished top.rules h) true))
-
--- a level whose words end at a subcommand has the faults of that
-level_below : (w : Walk) (name : Text) (rest : List Text) (below : Kinds) → w.stopped ≡ Some (name, []) → w.held ≡ nothing_held → turn_fault top top_names (walk_from nothing_held) name ≡ []
-    → walked top.rules top_names (walk_from nothing_held) name ≡ w → level_fault top top_names nothing_held (name ∷ rest) true below ≡ or_else below []
-unfolding clap_on_literals
-level_below w name rest below stops bare none goes =
-    let first : walk_fault top top_names (walk_from nothing_held) (name ∷ rest) ≡ [] =
-    ap (λ (k : Kinds). or_else k (walk_fault top top_names (walked top.rules top_names (walk_from nothing_held) name) rest)) none
-    ∙ (ap (λ (v : Walk). walk_fault top top_names v rest) goes ∙ stopped_fault top top_names w name [] rest stops) in
-    let end : (fold (walked top.rules top_names) (walk_from nothing_held) (name ∷ rest)).held ≡ nothing_held =
-    ap (λ (v : Walk). (fold (walked top.rules top_names) v rest).held) goes ∙ (ap (λ (v : Walk). v.held) (stopped_walk top.rules top_names w name [] rest stops) ∙ bare) in
-    ap (λ (k : Kinds). or_else k (or_else below (top_end (fold (walked top.rules top_names) (walk_from nothing_held) (name ∷ rest)).held))) first
-    ∙ ap (λ (h : Held). or_else below (top_end h)) end
-
-or_none : (k : Kinds) → or_else k [] ≡ k
-or_none [] = refl
-or_none (x ∷ xs) = refl
-
-abbrev met_at : Text → Walk
-met_at name = record { held = nothing_held; waiting = idle; position = 1; is_trailing = false; stopped = Some (name, []) }
-
--- the words of a command that takes a disk are read from its own words
-command_goes : (name : Text) (rest : List Text) → stop_after top.rules top_names (name ∷ rest) ≡ Some (name, rest) → turn_fault top top_names (walk_from nothing_held) name ≡ []
-    → walked top.rules top_names (walk_from nothing_held) name ≡ met_at name → entered_fault (built farm_app) (Some (name, rest)) ≡ faults name start rest
-    → entered (built farm_app) (Some (name, rest)) ≡ Some (name, finished (args name) (end_of name start rest)) → bytes_eq name (codes "sign") ≡ false → bytes_eq name (codes "bulk") ≡ false
-    → bytes_eq name (codes "render") ≡ false → bytes_eq name (codes "serve") ≡ false → reading (name ∷ rest) ≡ reads name start rest
-command_goes name rest stops none goes below met other another third fourth =
-    let app : App = built farm_app in
-    let words : List Text = name ∷ rest in
-    let rows : List Row = finished (args name) (end_of name start rest) in
-    let fault : fault_of farm_app words ≡ faults name start rest =
-    ap (λ (stop : Option (Text × List Text)). level_fault top top_names nothing_held words (is_some (entered app stop)) (entered_fault app stop)) stops
-    ∙ (ap (λ (o : Option (Text × List Row)). level_fault top top_names nothing_held words (is_some o) (entered_fault app (Some (name, rest)))) met
-    ∙ (level_below (met_at name) name rest (entered_fault app (Some (name, rest))) refl refl none goes ∙ (or_none _ ∙ below))) in
-    let serves : Option Command = cond (bytes_eq name (codes "serve")) (serve_in rows) (found name start rest) in
-    let read : option_and_then command_in (subcommand_of farm_app words) ≡ found name start rest =
-    ap (λ (stop : Option (Text × List Text)). option_and_then command_in (entered app stop)) stops
-    ∙ (ap (option_and_then command_in) met
-    ∙ (ap (λ (b : Bool). cond b (option_map (λ signing. Sign signing) (signing_in rows)) (cond (bytes_eq name (codes "bulk")) (option_map (λ load. Bulk load) (load_in rows)) (cond (bytes_eq name (codes "render")) (Some Render) serves))) other
-    ∙ (ap (λ (b : Bool). cond b (option_map (λ load. Bulk load) (load_in rows)) (cond (bytes_eq name (codes "render")) (Some Render) serves)) another
-    ∙ (ap (λ (b : Bool). cond b (Some Render) serves) third ∙ ap (λ (b : Bool). cond b (serve_in rows) (found name start rest)) fourth)))) in
-    ap (λ (k : Kinds). cond (is_empty k) (option_and_then command_in (subcommand_of farm_app words)) None) fault
-    ∙ ap (λ (o : Option Command). cond (is_empty (faults name start rest)) o None) read
-
 answer_goes : (rest : List Text) → reading (codes "answer" ∷ rest) ≡ reads (codes "answer") start rest
 unfolding clap_on_literals
-answer_goes rest = command_goes (codes "answer") rest (answer_stops rest) refl refl refl refl refl refl refl refl
+answer_goes rest = command_goes (codes "answer") rest (faults (codes "answer") start rest) (finished (args (codes "answer")) (end_of (codes "answer") start rest)) (answer_stops rest) refl refl refl refl
 
 check_goes : (rest : List Text) → reading (codes "check" ∷ rest) ≡ reads (codes "check") start rest
 unfolding clap_on_literals
-check_goes rest = command_goes (codes "check") rest (check_stops rest) refl refl refl refl refl refl refl refl
+check_goes rest = command_goes (codes "check") rest (faults (codes "check") start rest) (finished (args (codes "check")) (end_of (codes "check") start rest)) (check_stops rest) refl refl refl refl
 
 answer_says : (rest : List Text) (command : Command) → Says (codes "answer") command rest → SaysCommand command (codes "answer" ∷ rest)
 answer_says rest (OverFarm farm (Answer disk)) says = let is : says.0 ≡ disk = cc in (refl, subst (λ (d : Option Text). Gives farm d rest) is says.2)
 answer_says rest (OverFarm farm Expand) says = cc
 answer_says rest (OverFarm farm (Check disk)) says = cc
-answer_says rest (OverFarm farm (Serve service)) says = tt
+answer_says rest (OverFarm farm (Serve service)) says = cc
 answer_says rest (Sign signing) says = tt
 answer_says rest (Bulk load) says = tt
 answer_says rest Render says = absurd says
 
 check_says : (rest : List Text) (command : Command) → Says (codes "check") command rest → SaysCommand command (codes "check" ∷ rest)
-check_says rest (OverFarm farm (Serve service)) says = tt
+check_says rest (OverFarm farm (Serve service)) says = cc
 check_says rest (OverFarm farm (Answer disk)) says = cc
 check_says rest (OverFarm farm Expand) says = cc
 check_says rest (OverFarm farm (Check disk)) says = let is : says.0 ≡ disk = cc in (refl, subst (λ (d : Option Text). Gives farm d rest) is says.2)
@@ -435,20 +365,10 @@ says_render_read (w ∷ rest) says = subst (λ a. reading (a ∷ rest) ≡ Some 
 
 -- ---- serve
 
-serve_command : (o : Option Text) (s : Option Service) (words : List Text) (command : Command) → option_and_then (λ farm. option_map (λ service. OverFarm farm (Serve service)) s) o ≡ Some command
-    → SaysCommand command words
-serve_command None s words command e = absurd (none_some command e)
-serve_command (Some f) None words command e = absurd (none_some command e)
-serve_command (Some f) (Some s) words command e = subst (λ (k : Command). SaysCommand k words) (one (OverFarm f (Serve s)) command e) tt
-  where
-    one : (a b : Command) → Some a ≡ Some b → a ≡ b
-    one a b e = cc
-
-serve_said : (rest : List Text) (command : Command) → reading (codes "serve" ∷ rest) ≡ Some command → SaysCommand command (codes "serve" ∷ rest)
-unfolding clap_on_literals
-serve_said rest command read =
-    let met = taken (is_empty (fault_of farm_app (codes "serve" ∷ rest))) (option_and_then command_in (subcommand_of farm_app (codes "serve" ∷ rest))) command read in
-    serve_command _ _ (codes "serve" ∷ rest) command (sym (ap (λ stop. option_and_then command_in (entered (built farm_app) stop)) (serve_stops rest)) ∙ met)
+serve_said : (rest : List Text) (command : Command) → All IsUtf8 rest → reading (codes "serve" ∷ rest) ≡ Some command → SaysCommand command (codes "serve" ∷ rest)
+serve_said rest command utf8 read =
+    let says = service_said rest command utf8 read in
+    subst (λ (k : Command). SaysCommand k (codes "serve" ∷ rest)) (sym says.2) (refl, says.3)
 
 -- ---- both ways
 
@@ -461,7 +381,7 @@ reading_says (w ∷ rest) command utf8 read = elim (first_named w rest command (
   | inr (inr (inr (inl s))) ↦ named (codes "sign") s (sign_said rest command)
   | inr (inr (inr (inr (inl b)))) ↦ named (codes "bulk") b (bulk_said rest command)
   | inr (inr (inr (inr (inr (inl r))))) ↦ named (codes "render") r (render_said rest command others)
-  | inr (inr (inr (inr (inr (inr v))))) ↦ named (codes "serve") v (serve_said rest command)
+  | inr (inr (inr (inr (inr (inr v))))) ↦ named (codes "serve") v (serve_said rest command others)
 ]
   where
     others : All IsUtf8 rest
@@ -476,24 +396,19 @@ given_read name of f rest alone after before (inl p) = subst (λ words. reading 
 given_read name of f rest alone after before (inr (inl e)) = subst (λ words. reading (name ∷ words) ≡ Some (of f)) (sym e) after
 given_read name of f rest alone after before (inr (inr p)) = subst (λ words. reading (name ∷ words) ≡ Some (of f)) (sym p.1) (before p.0)
 
-pub work_said : (words : List Text) (farm : Text) (work : Work) → IsOfOne work → All IsUtf8 words → reading words ≡ Some (OverFarm farm work) → SaysWork farm work words
-work_said words farm (Answer disk) is utf8 read = reading_says words (OverFarm farm (Answer disk)) utf8 read
-work_said words farm Expand is utf8 read = reading_says words (OverFarm farm Expand) utf8 read
-work_said words farm (Check disk) is utf8 read = reading_says words (OverFarm farm (Check disk)) utf8 read
-work_said words farm (Serve service) is utf8 read = absurd is
-
-pub said_read : (words : List Text) (farm : Text) (work : Work) → IsOfOne work → SaysWork farm work words → reading words ≡ Some (OverFarm farm work)
-said_read [] farm work is says = absurd says
-said_read (w ∷ rest) f (Answer None) is says =
+pub said_read : (words : List Text) (farm : Text) (work : Work) → SaysWork farm work words → reading words ≡ Some (OverFarm farm work)
+said_read [] farm work says = absurd says
+said_read (w ∷ rest) f (Answer None) says =
     subst (λ a. reading (a ∷ rest) ≡ Some (OverFarm f (Answer None))) (sym says.0)
     (given_read (codes "answer") (λ f. OverFarm f (Answer None)) f rest (answer_alone f) (answer_after f) (answer_before f) says.1)
-said_read (w ∷ rest) f (Answer (Some d)) is says =
+said_read (w ∷ rest) f (Answer (Some d)) says =
     subst (λ a. reading (a ∷ rest) ≡ Some (OverFarm f (Answer (Some d)))) (sym says.0) (answer_goes rest ∙ both_read (codes "answer") f d rest says.1)
-said_read (w ∷ rest) f Expand is says =
+said_read (w ∷ rest) f Expand says =
     subst (λ a. reading (a ∷ rest) ≡ Some (OverFarm f Expand)) (sym says.0) (given_read (codes "expand") (λ f. OverFarm f Expand) f rest (expand_alone f) (expand_after f) (expand_before f) says.1)
-said_read (w ∷ rest) f (Check None) is says =
+said_read (w ∷ rest) f (Check None) says =
     subst (λ a. reading (a ∷ rest) ≡ Some (OverFarm f (Check None))) (sym says.0)
     (given_read (codes "check") (λ f. OverFarm f (Check None)) f rest (check_alone f) (check_after f) (check_before f) says.1)
-said_read (w ∷ rest) f (Serve service) is says = absurd is
-said_read (w ∷ rest) f (Check (Some d)) is says =
+said_read (w ∷ rest) f (Serve service) says =
+    subst (λ a. reading (a ∷ rest) ≡ Some (OverFarm f (Serve service))) (sym says.0) (service_read rest f service says.1)
+said_read (w ∷ rest) f (Check (Some d)) says =
     subst (λ a. reading (a ∷ rest) ≡ Some (OverFarm f (Check (Some d)))) (sym says.0) (check_goes rest ∙ both_read (codes "check") f d rest says.1)

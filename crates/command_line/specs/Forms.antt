@@ -6,10 +6,6 @@ use Rattle.command_line.specs.Words.{name_of}
 use Rattle.command_line.specs.declared.command.Work.{Work}
 use Rattle.command_line.specs.declared.command.Work.TheVariants.{Answer, Expand, Check, Serve}
 
--- the word may stand for a value as it is: it does not begin with `-`, or is `-` alone
-abbrev pub IsValue : List ℕ → Type 0
-IsValue word = IsPlain word ⊎ (word ≡ codes "-")
-
 -- the words give this one value: as it is, after `--`, or before a last `--`
 abbrev pub GivesValue : List ℕ → List (List ℕ) → Type 0
 GivesValue value words =
@@ -30,14 +26,14 @@ abbrev pub Gives : List ℕ → Option (List ℕ) → List (List ℕ) → Type 0
 Gives farm None words = GivesValue farm words
 Gives farm (Some disk) words = GivesBoth farm disk words
 
--- the work is not `serve`
-abbrev pub IsOfOne : Work → Type 0
-IsOfOne (Answer disk) = Unit {0}
-IsOfOne Expand = Unit {0}
-IsOfOne (Check disk) = Unit {0}
-IsOfOne (Serve service) = ⊥
+-- the words give what this work is done over
+abbrev pub GivesWork : List ℕ → Work → List (List ℕ) → Type 0
+GivesWork farm (Answer disk) words = Gives farm disk words
+GivesWork farm Expand words = GivesValue farm words
+GivesWork farm (Check disk) words = Gives farm disk words
+GivesWork farm (Serve service) words = GivesService farm service words
 
--- the words are the name of this work, and then give its farm file and its disk
+-- the words are the name of this work, and then give what it is done over
 abbrev pub SaysWork : List ℕ → Work → List (List ℕ) → Type 0
 SaysWork farm work [] = ⊥
 SaysWork farm work (first ∷ rest) = (first ≡ name_of work) × GivesWork farm work rest

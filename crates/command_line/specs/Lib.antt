@@ -3,6 +3,7 @@ pub mod Load
 pub mod Options
 pub mod Parts
 pub mod Refusal
+pub mod ServeForms
 pub mod Service
 pub mod Signing
 pub mod Values

@@ -1,5 +1,5 @@
 -- `serve`: its options, and the service that they ask for.
-use Rattle.std.specs.Prelude.{ℕ, true, false, List, [], ◌∷◌, codes, Option, Some, None, if◌then◌else◌, option_map, option_and_then}
+use Rattle.std.specs.Prelude.{ℕ, ◌≤◌, true, false, List, [], ◌∷◌, codes, Option, Some, None, if◌then◌else◌, option_map, option_and_then}
 use Rattle.std.specs.Str.Parse.{digits_value}
 use Rattle.clap.specs.Words.{Row, Rule, first_of}
 use Rattle.command_line.specs.Signing.{option_rule, value_in}
@@ -23,6 +23,13 @@ workers_said = number_or 1 64 4
 -- how many connections of each worker: 1 to 1,000,000, and as many where there is none
 abbrev pub connections_said : Option (List ℕ) → Option ℕ
 connections_said = number_or 1 1000000 1000000
+
+-- the numbers of a service that may be served
+pub record IsInRange (service : Service) : Type 0 where
+  pub some_workers : 1 ≤ service.workers
+  pub few_workers : service.workers ≤ 64
+  pub some_connections : 1 ≤ service.connections
+  pub few_connections : service.connections ≤ 1000000
 
 -- the service of so many workers and connections, on the disk and at the address that are given
 abbrev pub service_at : List Row → ℕ → ℕ → Service

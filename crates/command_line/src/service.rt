@@ -1,8 +1,8 @@
 //! What `serve` is asked to do.
-ghost use Rattle.std.specs.Prelude.{◌≡◌, IfOk, MatchResult, Some};
-ghost use Rattle.clap.specs.Words.{found_of, rows_of};
+ghost use Rattle.std.specs.Prelude.{◌≡◌, codes, IfOk, MatchResult, Some};
+ghost use Rattle.clap.specs.Words.{first_of, found_of, rows_of};
 ghost use Rattle.command_line.specs.Refusal.{Refuses};
-ghost use Rattle.command_line.specs.Service.{service_at, service_in};
+ghost use Rattle.command_line.specs.Service.{connections_said, service_at, service_in, workers_said};
 
 use crate::reading::WordsFault;
 use crate::signing::text;
@@ -34,10 +34,10 @@ pub(crate) fn read_service(alloc: Global, matches: &ArgMatches<'_>) -> Result<Se
         (λ service. service_in (rows_of (found_of matches.now)) ≡ Some service)
         (Refuses (service_in (rows_of (found_of matches.now)))) }
 {
-    let Some(workers) = workers_of(matches.get_str("workers")) else {
+    let Some(workers) = workers(matches) else {
         return Err(WordsFault::usage(alloc, "error: --workers is a number from 1 to 64\n"));
     };
-    let Some(connections) = connections_of(matches.get_str("connections")) else {
+    let Some(connections) = connections(matches) else {
         return Err(WordsFault::usage(
             alloc,
             "error: --connections is a number from 1 to 1000000\n",
@@ -46,6 +46,26 @@ pub(crate) fn read_service(alloc: Global, matches: &ArgMatches<'_>) -> Result<Se
     match service_of(alloc, matches, workers, connections) {
         Ok(service) => Ok(service),
         Err(AllocError) => Err(WordsFault::NoMemory),
+    }
+}
+
+/// How many workers the matches say; where they say none, 4.
+fn workers(matches: &ArgMatches<'_>) -> Option<u8>
+    ensures { result ≡ workers_said (first_of (codes "workers") (rows_of (found_of matches.now))) }
+{
+    match matches.get_str("workers") {
+        Some(text) => workers_of(text),
+        None => Some(4),
+    }
+}
+
+/// How many connections of each worker the matches say; where they say none, 1,000,000.
+fn connections(matches: &ArgMatches<'_>) -> Option<u32>
+    ensures { result ≡ connections_said (first_of (codes "connections") (rows_of (found_of matches.now))) }
+{
+    match matches.get_str("connections") {
+        Some(text) => connections_of(text),
+        None => Some(1_000_000),
     }
 }
 

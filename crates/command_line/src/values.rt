@@ -1,7 +1,6 @@
 //! The forms of the values of options.
-ghost use Rattle.std.specs.Prelude.{◌≡◌, true, false, length, MatchOption, option_map};
+ghost use Rattle.std.specs.Prelude.{◌≡◌, true, false, length, MatchOption};
 ghost use Rattle.std.specs.Str.Parse.{digits_value};
-ghost use Rattle.command_line.specs.Service.{connections_said, workers_said};
 ghost use Rattle.command_line.specs.Values as forms;
 
 fn has_length(text: &str, least: usize, most: usize) -> bool
@@ -125,13 +124,11 @@ pub(crate) fn tasks_of(text: &str) -> Option<u32>
     }
 }
 
-/// How many workers a text of 1 to 19 digits says, from 1 to 64; where there is none, 4.
-pub(crate) fn workers_of(text: Option<&str>) -> Option<u8>
-    ensures { result ≡ workers_said (option_map (λ t. t.now) text.entry) }
+/// The number of workers that a text of 1 to 19 digits says, from 1 to 64.
+pub(crate) fn workers_of(text: &str) -> Option<u8>
+    ensures { MatchOption result (forms.is_number 1 64 text.now ≡ false)
+        (λ workers. (forms.is_number 1 64 text.now ≡ true) × (workers ≡ digits_value 10 text.now)) }
 {
-    let Some(text) = text else {
-        return Some(4);
-    };
     if !has_length(text, 1, 19) || !are_digits(text) {
         return None;
     }
@@ -141,13 +138,11 @@ pub(crate) fn workers_of(text: Option<&str>) -> Option<u8>
     }
 }
 
-/// How many connections a text of 1 to 19 digits says, from 1 to 1,000,000; where there is none, 1,000,000.
-pub(crate) fn connections_of(text: Option<&str>) -> Option<u32>
-    ensures { result ≡ connections_said (option_map (λ t. t.now) text.entry) }
+/// The number of connections that a text of 1 to 19 digits says, from 1 to 1,000,000.
+pub(crate) fn connections_of(text: &str) -> Option<u32>
+    ensures { MatchOption result (forms.is_number 1 1000000 text.now ≡ false)
+        (λ connections. (forms.is_number 1 1000000 text.now ≡ true) × (connections ≡ digits_value 10 text.now)) }
 {
-    let Some(text) = text else {
-        return Some(1_000_000);
-    };
     if !has_length(text, 1, 19) || !are_digits(text) {
         return None;
     }

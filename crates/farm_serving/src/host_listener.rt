@@ -140,6 +140,9 @@ mod tests {
     use std::io::{Read, Write};
     use std::test::Fail;
 
+    /// A worker's thread takes its door and its link along.
+    fn is_sent<T: Send>(_thing: &T) {}
+
     #[test]
     fn peers_come_over_sockets(rt: HostRuntime) -> Result<(), Fail> {
         let mut door = HostListener::bind(rt, "127.0.0.1:0")?;
@@ -147,6 +150,8 @@ mod tests {
         let mut other = door.twin()?;
         let mut first = TcpStream::connect(&rt, address)?;
         let mut link = door.accept()?;
+        is_sent(&door);
+        is_sent(&link);
         assert_eq!(rt; first.write(b"ask")?, 3);
         let mut piece = [0u8; 8];
         assert_eq!(rt; link.read(&mut piece)?, 3);
