@@ -1,21 +1,19 @@
 -- Which words are read as a command.
-use Rattle.std.proofs.Common.{◌≡◌, ◌⊎◌, ◌∙◌, ◌++◌, Bool, append-nil, append_assoc, fold, is_some, true, false, suc, cond, refl, sym, ap, subst, arith, inl, inr, List, [], ◌∷◌, Option, Some, None, codes, length, option_map, option_and_then}
+use Rattle.std.proofs.Common.{◌≡◌, ◌⊎◌, ◌∙◌, Bool, true, false, suc, cond, refl, sym, ap, subst, arith, inl, inr, List, [], ◌∷◌, Option, Some, None, codes, length, option_map, option_and_then}
 use Rattle.std.specs.Prelude.{◌==◌, ◌||◌, IsUtf8, drop, encode_utf8}
 use Rattle.std.specs.List.{All}
-use Rattle.std.proofs.lemmas.Bool.{ne_eqb}
 use Rattle.std.proofs.lemmas.Slice.Eq.{bytes_eq-Decides}
 use Rattle.std.specs.Str.{bytes_eq}
-use Rattle.clap.specs.Words.{App, Kinds, Row, Rule, Shape, Text, built, fault_of, subcommand_of}
-use Rattle.clap.specs.Faults.{bundle_step_fault, check_fault, defaults_fault, entered_fault, flags_fault, level_fault, long_fault, react_fault, settle_fault, short_fault, turn_fault, use_fault, walk_fault, word_fault}
+use Rattle.clap.specs.Words.{App, Kinds, Shape, Text, built, fault_of, subcommand_of}
+use Rattle.clap.specs.Faults.{bundle_step_fault, entered_fault, flags_fault, level_fault, walk_fault, word_fault}
 use Rattle.clap.specs.Lexer.{name_and_value}
-use Rattle.clap.specs.Kinds.{or_else}
-use Rattle.clap.specs.Simple.{argument_words, built_leaf, entered, filled, help_rule, inherited, names_of}
-use Rattle.clap.specs.Walk.{Held, Names, Walk, finished, idle, is_empty, nothing_held, reacted, settled, stop_after, walk_from, walked, walked_from}
+use Rattle.clap.specs.Simple.{argument_words, built_leaf, entered, inherited, names_of}
+use Rattle.clap.specs.Walk.{Walk, finished, idle, is_empty, nothing_held, walk_from, walked}
 use Rattle.clap.proofs.OnLiterals.{clap_on_literals}
 use Rattle.clap.specs.declared.error.ErrorKind.TheVariants.{UnknownArgument, InvalidSubcommand}
 use Rattle.command_line.proofs.CommandLemmas.{command_goes, top, top_names}
-use Rattle.command_line.proofs.DiskFormLemmas.{Says, args, both_read, end_of, faults, found, reads, start, start_said}
-use Rattle.command_line.proofs.FaultLemmas.{first_fails, held, help, level_fails, long_flag, none_some, or_left, rest_fails, short_flag}
+use Rattle.command_line.proofs.DiskFormLemmas.{Says, args, both_read, end_of, faults, reads, start, start_said}
+use Rattle.command_line.proofs.FaultLemmas.{first_fails, held, level_fails, long_flag, none_some, or_left, rest_fails, short_flag}
 use Rattle.command_line.proofs.FlagLemmas.{IsFlag, value_cases, word_kind}
 use Rattle.command_line.proofs.LawLemmas.{answer_stops, bulk_stops, check_stops, empty_read, expand_stops, fails_below, help_first, no_reading, other_first, sign_stops}
 use Rattle.command_line.proofs.RenderLemmas.{render_ends, render_read}
@@ -23,8 +21,6 @@ use Rattle.command_line.proofs.ServeFormLemmas.{service_read, service_said}
 use Rattle.command_line.specs.Forms.{Gives, GivesValue, SaysRender, SaysWork}
 use Rattle.command_line.specs.Options.{EndsOptions, IsValue}
 use Rattle.command_line.specs.Words.{IsPlain, command_in, farm_app, reading, with_farm}
-use Rattle.command_line.specs.Load.{load_in}
-use Rattle.command_line.specs.Signing.{signing_in}
 use Rattle.command_line.specs.declared.command.Command.{Command}
 use Rattle.command_line.specs.declared.command.Command.TheVariants.{OverFarm, Sign, Bulk, Render}
 use Rattle.command_line.specs.declared.command.Work.{Work}

@@ -1,11 +1,10 @@
 -- The numbers of a service that is read are in their ranges.
-use Rattle.std.proofs.Common.{◌≡◌, ◌∙◌, ◌≤◌, ℕ, Bool, true, false, cond, refl, sym, ap, subst, arith, List, Option, Some, None, codes, option_map, option_and_then}
+use Rattle.std.proofs.Common.{◌≡◌, ◌∙◌, ◌≤◌, ℕ, Bool, true, false, cond, refl, sym, subst, arith, List, Option, Some, None, codes, option_map, option_and_then}
 use Rattle.std.specs.Str.{bytes_eq}
 use Rattle.std.specs.Str.Parse.{digits_value}
 use Rattle.std.proofs.lemmas.Bool.{and_parts}
 use Rattle.clap.specs.Words.{Row, Text, fault_of, first_of, subcommand_of}
 use Rattle.clap.specs.Walk.{is_empty}
-use Rattle.command_line.proofs.FaultLemmas.{none_some}
 use Rattle.command_line.proofs.ValueLemmas.{between_to}
 use Rattle.command_line.specs.Load.{load_in}
 use Rattle.command_line.specs.Service.{IsInRange, connections_said, number_or, service_at, workers_said}

@@ -1,5 +1,5 @@
 -- Which words are read as `render`.
-use Rattle.std.proofs.Common.{◌≡◌, ◌∙◌, Bool, false, suc, refl, sym, ap, subst, arith, inl, inr, List, [], ◌∷◌, Option, Some, None, codes, length}
+use Rattle.std.proofs.Common.{◌≡◌, ◌∙◌, false, refl, sym, ap, subst, arith, inl, inr, List, [], ◌∷◌, Some, None, codes, length}
 use Rattle.std.specs.Prelude.{◌==◌, ◌||◌, IsUtf8, drop, encode_utf8}
 use Rattle.std.specs.List.{All}
 use Rattle.std.specs.Str.{bytes_eq}

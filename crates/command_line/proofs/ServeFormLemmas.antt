@@ -1,5 +1,5 @@
 -- Which words are read as `serve`.
-use Rattle.std.proofs.Common.{◌≡◌, ◌⊎◌, ◌∙◌, ◌+◌, ◌<◌, ℕ, Bool, append-nil, append_assoc, true, false, suc, zero, cond, refl, sym, ap, subst, arith, inl, inr, List, [], ◌∷◌, ◌++◌, Option, Some, None, codes, length, option_map, option_and_then}
+use Rattle.std.proofs.Common.{◌≡◌, ◌⊎◌, ◌∙◌, ◌<◌, ℕ, Bool, append-nil, append_assoc, true, false, suc, zero, refl, sym, ap, subst, arith, inl, inr, List, [], ◌∷◌, ◌++◌, Option, Some, None, codes, length, option_map, option_and_then}
 use Rattle.std.specs.Prelude.{◌||◌, IsUtf8}
 use Rattle.std.specs.List.{All}
 use Rattle.std.specs.Str.{bytes_eq}
@@ -15,14 +15,14 @@ use Rattle.command_line.proofs.FaultLemmas.{none_some, or_left}
 use Rattle.command_line.proofs.FlagLemmas.{IsFlag, word_kind}
 use Rattle.command_line.proofs.LawLemmas.{serve_stops}
 use Rattle.command_line.proofs.ServeOptionLemmas.{IsOption, bad_unread, behind_goes, behind_unread, dashes, dashes_step, farm_goes, flag_kind, named_goes, option_is, stray_unread, value_goes, waited}
-use Rattle.command_line.proofs.ServeWalkLemmas.{IsRule, Settles, args, command_of, end_of, end_read, ends, fails, farm_id, farm_is, farm_rule, faults, held, leaf, nothing_pends, one_more, one_pends, named_row, reads, rows_for, second_bad, service_of, stands, steps}
-use Rattle.command_line.specs.Options.{EndsOptions, GivesOption, IsValue}
+use Rattle.command_line.proofs.ServeWalkLemmas.{Settles, args, command_of, end_of, end_read, ends, fails, farm_id, farm_is, farm_rule, faults, held, nothing_pends, one_more, one_pends, named_row, reads, rows_for, second_bad, stands, steps}
+use Rattle.command_line.specs.Options.{EndsOptions, IsValue}
 use Rattle.command_line.specs.ServeForms.{AreApart, GiveAll, Given, GivesOne, GivesService, IsServeOption, IsService, is_named, said}
 use Rattle.command_line.specs.Service.{connections_said, workers_said}
 use Rattle.command_line.specs.Words.{reading}
 use Rattle.command_line.specs.declared.command.Command.{Command}
-use Rattle.command_line.specs.declared.command.Command.TheVariants.{OverFarm, Sign, Bulk, Render}
-use Rattle.command_line.specs.declared.command.Work.TheVariants.{Answer, Expand, Check, Serve}
+use Rattle.command_line.specs.declared.command.Command.TheVariants.{OverFarm}
+use Rattle.command_line.specs.declared.command.Work.TheVariants.{Serve}
 use Rattle.command_line.specs.declared.service.Service.{Service}
 
 -- ---- what is given, one more at the end
@@ -52,8 +52,7 @@ next_apart (x ∷ given) g more apart =
 one_apart : (given : List Given) (g : Given) → AreApart given → is_named g.0 given ≡ false → AreApart (given ++ g ∷ [])
 one_apart [] g apart none = (refl, tt)
 one_apart (x ∷ given) g apart none =
-    let others = or_parts (bytes_eq x.0 g.0) (is_named g.0 given) none in
-    (
+    let others = or_parts (bytes_eq x.0 g.0) (is_named g.0 given) none in (
       named_more x.0 given (g ∷ []) ∙ or_from (is_named x.0 given) (is_named x.0 (g ∷ [])) apart.0 (or_from (bytes_eq g.0 x.0) false (eq_back x.0 g.0 others.0) refl),
       one_apart given g apart.1 others.1,
     )

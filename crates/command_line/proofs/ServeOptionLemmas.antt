@@ -1,5 +1,5 @@
 -- What each word does to `serve`: a value, `--`, an option, and any other flag.
-use Rattle.std.proofs.Common.{◌≡◌, ◌⊎◌, ◌∙◌, ℕ, Bool, true, false, cond, refl, sym, ap, subst, inl, inr, arith, suc, List, [], ◌∷◌, ◌++◌, Option, Some, None, codes, length}
+use Rattle.std.proofs.Common.{◌≡◌, ◌⊎◌, ◌∙◌, ℕ, Bool, true, false, cond, refl, sym, ap, subst, inl, inr, arith, List, [], ◌∷◌, ◌++◌, Option, Some, None, codes, length}
 use Rattle.std.specs.Prelude.{◌==◌, ◌||◌, ◌&&◌, IsUtf8, drop, encode_utf8, slice_get}
 use Rattle.std.specs.List.{All, after_first, before_first}
 use Rattle.std.specs.Str.{bytes_eq, chars}
@@ -9,7 +9,7 @@ use Rattle.clap.specs.Faults.{bundle_step_fault, flags_fault, settle_fault, turn
 use Rattle.clap.specs.Kinds.{or_else}
 use Rattle.clap.specs.Lexer.{has_byte, name_and_value}
 use Rattle.clap.specs.Simple.{filled}
-use Rattle.clap.specs.Walk.{Held, Waiting, Walk, idle, is_empty, is_pending, option, pushed, reacted, settled, used, walked}
+use Rattle.clap.specs.Walk.{Held, Waiting, idle, is_empty, is_pending, option, pushed, reacted, settled, walked}
 use Rattle.clap.proofs.OnLiterals.{clap_on_literals}
 use Rattle.command_line.proofs.DiskFormLemmas.{cut_once, uncut}
 use Rattle.command_line.proofs.FaultLemmas.{long_flag, or_left, short_flag}
@@ -18,7 +18,6 @@ use Rattle.command_line.proofs.ServeWalkLemmas.{IsRule, Settles, again, args, en
 use Rattle.command_line.specs.Options.{IsValue}
 use Rattle.command_line.specs.ServeForms.{Given, IsServeOption}
 use Rattle.command_line.specs.Signing.{option_rule}
-use Rattle.command_line.specs.declared.command.Command.{Command}
 
 abbrev pub dashes : Text → Text
 dashes word = 45 ∷ 45 ∷ word
@@ -110,7 +109,11 @@ disk_rule = filled (option_rule (codes "disk") true)
 disk_is_rule : IsRule disk_rule (codes "disk")
 unfolding clap_on_literals
 disk_is_rule = record {
-  by_id = refl; uses = λ value rows. refl; use_free = λ value rows e. ap again e; use_taken = λ value rows e. ap (λ (b : Bool). is_empty (again b)) e; use_none = λ rows. refl;
+  by_id = refl;
+  uses = λ value rows. refl;
+  use_free = λ value rows e. ap again e;
+  use_taken = λ value rows e. ap (λ (b : Bool). is_empty (again b)) e;
+  use_none = λ rows. refl;
 }
 
 disk_is : IsOption disk_rule (codes "disk")
@@ -134,7 +137,11 @@ listen_rule = filled (option_rule (codes "listen") true)
 listen_is_rule : IsRule listen_rule (codes "listen")
 unfolding clap_on_literals
 listen_is_rule = record {
-  by_id = refl; uses = λ value rows. refl; use_free = λ value rows e. ap again e; use_taken = λ value rows e. ap (λ (b : Bool). is_empty (again b)) e; use_none = λ rows. refl;
+  by_id = refl;
+  uses = λ value rows. refl;
+  use_free = λ value rows e. ap again e;
+  use_taken = λ value rows e. ap (λ (b : Bool). is_empty (again b)) e;
+  use_none = λ rows. refl;
 }
 
 listen_is : IsOption listen_rule (codes "listen")
@@ -158,7 +165,11 @@ workers_rule = filled (option_rule (codes "workers") false)
 workers_is_rule : IsRule workers_rule (codes "workers")
 unfolding clap_on_literals
 workers_is_rule = record {
-  by_id = refl; uses = λ value rows. refl; use_free = λ value rows e. ap again e; use_taken = λ value rows e. ap (λ (b : Bool). is_empty (again b)) e; use_none = λ rows. refl;
+  by_id = refl;
+  uses = λ value rows. refl;
+  use_free = λ value rows e. ap again e;
+  use_taken = λ value rows e. ap (λ (b : Bool). is_empty (again b)) e;
+  use_none = λ rows. refl;
 }
 
 workers_is : IsOption workers_rule (codes "workers")
@@ -182,7 +193,11 @@ connections_rule = filled (option_rule (codes "connections") false)
 connections_is_rule : IsRule connections_rule (codes "connections")
 unfolding clap_on_literals
 connections_is_rule = record {
-  by_id = refl; uses = λ value rows. refl; use_free = λ value rows e. ap again e; use_taken = λ value rows e. ap (λ (b : Bool). is_empty (again b)) e; use_none = λ rows. refl;
+  by_id = refl;
+  uses = λ value rows. refl;
+  use_free = λ value rows e. ap again e;
+  use_taken = λ value rows e. ap (λ (b : Bool). is_empty (again b)) e;
+  use_none = λ rows. refl;
 }
 
 connections_is : IsOption connections_rule (codes "connections")

@@ -1,7 +1,6 @@
 -- How `serve` goes through its words: what is held, one word further, and the end.
-use Rattle.std.proofs.Common.{◌≡◌, ◌∙◌, ℕ, Bool, append-nil, fold, is_some, map, true, false, cond, refl, sym, ap, ap₂, List, [], ◌∷◌, ◌++◌, Option, Some, None, codes, option_map, option_and_then}
-use Rattle.std.specs.Prelude.{◌==◌, ◌||◌, ◌&&◌, not, find, slice_get, unwrap_or}
-use Rattle.std.specs.List.{list_all, list_any}
+use Rattle.std.proofs.Common.{◌≡◌, ◌∙◌, ℕ, Bool, append-nil, fold, is_some, map, true, false, cond, refl, ap, ap₂, List, [], ◌∷◌, ◌++◌, Option, Some, None, codes, option_map, option_and_then}
+use Rattle.std.specs.Prelude.{◌||◌, ◌&&◌, not, find, slice_get, unwrap_or}
 use Rattle.std.specs.Option.{option_map_or}
 use Rattle.std.specs.Str.{bytes_eq}
 use Rattle.std.proofs.lemmas.Bool.{or_parts}
@@ -18,7 +17,6 @@ use Rattle.clap.specs.declared.parser.matches.ValueSource.TheVariants.{CommandLi
 use Rattle.command_line.proofs.FaultLemmas.{or_left}
 use Rattle.command_line.specs.ServeForms.{Given, is_named, said}
 use Rattle.command_line.specs.Service.{connections_said, workers_said}
-use Rattle.command_line.specs.Signing.{option_rule}
 use Rattle.command_line.specs.Words.{farm_app, farm_argument, serve_app, serve_in}
 use Rattle.command_line.specs.declared.command.Command.{Command}
 use Rattle.command_line.specs.declared.command.Command.TheVariants.{OverFarm}

@@ -104,7 +104,10 @@ fn read_serve(alloc: Global, matches: &ArgMatches<'_>) -> Result<Command, WordsF
         Err(AllocError) => return Err(WordsFault::NoMemory),
     };
     match read_service(alloc, matches) {
-        Ok(service) => Ok(Command::OverFarm { farm, work: Work::Serve(service) }),
+        Ok(service) => Ok(Command::OverFarm {
+            farm,
+            work: Work::Serve(service),
+        }),
         Err(fault) => Err(fault),
     }
 }
