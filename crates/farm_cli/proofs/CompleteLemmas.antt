@@ -261,7 +261,8 @@ finishes_serving : {F S C N T I D : Type 0} (views : Views F S C N T I D) (old n
 finishes_serving {F} {S} views old new before now config service status disk sound ran = (
   ran.opening,
   subst (λ (d : S). BeginsFrom views d config ran.opening) met.0 ran.led.begins,
-  (λ is. soundly.0 (sym status_is ∙ is), λ is. soundly.1 (sym status_is ∙ is)),
+  λ is. soundly.0 (sym status_is ∙ is),
+  λ is. soundly.1 (sym status_is ∙ is),
 )
   where
     met : (ran.led.disk_given ≡ disk) × (new.disk ≡ back ran.led.disk_back)

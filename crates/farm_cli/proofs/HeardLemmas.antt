@@ -32,6 +32,10 @@ ReasonOf views old new service NoMemory = Unit {0}
 ReasonOf views old new service Wire = IsLinkCut views old new service
 ReasonOf views old new service status = ⊥
 
+-- a number that is not 0 is one of something
+counted : (n m : ℕ) → n ≡ m → 0 < n → 0 < m
+counted n m is some = subst (λ (k : ℕ). 0 < k) is some
+
 module _ {F S C N T I D : Type 0} (views : Views F S C N T I D) (old new : Lendings F S C N T I D) (before now : ℕ) (service : Service) (start : State) (history : List Entry) (calls : List ℕ) (said : Status)
     (heard : IsHeard views old new before now service start history calls said) where
   -- what the workers were asked, whatever status it called for
@@ -82,20 +86,20 @@ module _ {F S C N T I D : Type 0} (views : Views F S C N T I D) (old new : Lendi
       )
   by_serving Door served =
       let s = served.served in
-      inl (was_served Door served _ (accepts_one service.connections s.serves.0 s.serves.1.worked (rw s.serves.1.tally.accept_faults at called s.ended s.last Door s.status_is)))
+      inl (was_served Door served _ (accepts_one service.connections s.serves.0 s.serves.1.worked (counted s.ended.accept_faults _ s.serves.1.tally.accept_faults (called s.ended s.last Door s.status_is))))
   by_serving Read served =
       let s = served.served in
-      was_served Read served _ (link_unread service.connections s.serves.0 s.serves.1.worked (rw s.serves.1.tally.read_faults at called s.ended s.last Read s.status_is))
+      was_served Read served _ (link_unread service.connections s.serves.0 s.serves.1.worked (counted s.ended.read_faults _ s.serves.1.tally.read_faults (called s.ended s.last Read s.status_is)))
   by_serving Write served =
       let s = served.served in
-      elim called s.ended s.last Write s.status_is [
-        | inl some ↦ inr (was_served Write served _ (link_unwritten service.connections s.serves.0 s.serves.1.worked (rw s.serves.1.tally.write_faults at some)))
+      elim (called s.ended s.last Write s.status_is) [
+        | inl some ↦ inr (was_served Write served _ (link_unwritten service.connections s.serves.0 s.serves.1.worked (counted s.ended.write_faults _ s.serves.1.tally.write_faults some)))
         | inr is ↦ inl (last_unwritten Write served is)
       ]
   by_serving NoMemory served = tt
   by_serving Wire served =
       let s = served.served in
-      was_served Wire served _ (link_cut service.connections s.serves.0 s.serves.1.worked (rw s.serves.1.tally.wire_faults at called s.ended s.last Wire s.status_is))
+      was_served Wire served _ (link_cut service.connections s.serves.0 s.serves.1.worked (counted s.ended.wire_faults _ s.serves.1.tally.wire_faults (called s.ended s.last Wire s.status_is)))
   by_serving Usage served = absurd (called served.served.ended served.served.last Usage served.served.status_is)
   by_serving FarmFile served = absurd (called served.served.ended served.served.last FarmFile served.served.status_is)
   by_serving Input served = absurd (called served.served.ended served.served.last Input served.served.status_is)

@@ -58,19 +58,19 @@ DoorsAreHome-same old new same = record { kept = λ room at e. inl (same ∙ e);
 left_one : {D : Type 0} (doors : Doors D) (door : D) (room : ℕ) → after_leaving doors door ≡ ajar room [] → ⊥
 left_one (shut n at) door room e = cc
 left_one silent door room e = cc
-left_one (ajar n back) door room e = kept_or_not (nat_lt (length back) n) e
+left_one {D = D} (ajar n kept) door room e = kept_or_not (nat_lt (length kept) n) e
   where
     some : (xs : List D) → xs ++ door ∷ [] ≡ [] → ⊥
     some [] e = cc
     some (x ∷ xs) e = cc
 
-    kept_or_not : (b : Bool) → (if b then ajar n (back ++ door ∷ []) else silent) ≡ ajar room [] → ⊥
-    kept_or_not true e = some back cc
+    kept_or_not : (b : Bool) → (if b then ajar n (kept ++ door ∷ []) else silent) ≡ ajar room [] → ⊥
+    kept_or_not true e = some kept cc
     kept_or_not false e = cc
 
 left_some : {D : Type 0} (doors : Doors D) (back : List D) → ((room : ℕ) → doors ≡ ajar room [] → ⊥) → (room : ℕ) → all_left doors back ≡ ajar room [] → ⊥
 left_some doors [] none room e = none room e
-left_some doors (door ∷ back) none room e = left_some (after_leaving doors door) back (left_one doors door) room e
+left_some doors (door ∷ others) none room e = left_some (after_leaving doors door) others (left_one doors door) room e
 
 DoorsAreHome-listened : {D : Type 0} (old new : Doors D) (first : D) (others : List D) → new ≡ all_left (after_listened old) (first ∷ others) → DoorsAreHome old new
 DoorsAreHome-listened old new first others is = record {
@@ -159,7 +159,7 @@ ConsoleHome-obeyed views old new before now config (Answer None) status ran =
       console = IsHome-lent old.console new.console did.console_given did.console_back did.console;
       clock = IsHome-lent old.clock new.clock did.clock_given did.clock_back did.clock;
       draws = IsHome-lent old.draws new.draws did.draws_given did.draws_back did.draws;
-  doors = DoorsAreHome-same old.doors new.doors did.doors;
+      doors = DoorsAreHome-same old.doors new.doors did.doors;
     }
 ConsoleHome-obeyed views old new before now config (Answer (Some name)) status ran =
     ConsoleHome-did views old new before now name status _ (ConsoleHome-conversed_over views old new before now config name status) ran

@@ -285,8 +285,8 @@ HasReason-served_over {S} views old new before now said config farm service stat
         elim ran.did [
           | inl unheard ↦ rw is (HasReason-unheard views old new before now said service.listen ran.history ran.calls_for unheard)
           | inr heard ↦ rw is (HasReason-serving views old new before now said config farm service ran.calls_for
-            (taken-by views old new before now said config farm (Serve service) opened heard.openings (record { given = ran.led.disk_given; back = ran.led.disk_back; disk = ran.led.disk; kept = kept }))
-            (ReasonOf-heard views old new before now service ran.opening.state ran.history ran.calls ran.calls_for heard))
+              (taken-by views old new before now said config farm (Serve service) opened heard.openings (record { given = ran.led.disk_given; back = ran.led.disk_back; disk = ran.led.disk; kept = kept }))
+              (ReasonOf-heard views old new before now service ran.opening.state ran.history ran.calls ran.calls_for heard))
         ]
 
 HasReason-did : {F S C N T I D : Type 0} (views : Views F S C N T I D) (old new : Lendings F S C N T I D) (before now : ℕ) (said : Option Command) (config : Config) (farm name : List ℕ) (work : Work) (status : Status) (Did : Type 0)

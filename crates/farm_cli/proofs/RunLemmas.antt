@@ -1,5 +1,5 @@
 -- What the calls of a run leave together.
-use Rattle.std.proofs.Common.{◌≡◌, ℕ, ◌+◌, suc, true, false, Bool, List, [], ◌∷◌, length, Option, Some, None, refl, sym, ap, subst, ◌∙◌, inl, inr}
+use Rattle.std.proofs.Common.{◌≡◌, ℕ, ◌+◌, ◌⊎◌, suc, true, false, Bool, List, [], ◌∷◌, length, Option, Some, None, refl, sym, ap, subst, ◌∙◌, inl, inr}
 use Rattle.causes.specs.Causes.{Rose}
 use Rattle.disk_journal.specs.declared.fault.OpenFault.{OpenFault}
 use Rattle.disk_journal.specs.declared.fault.OpenFault.TheVariants as faults
@@ -35,7 +35,8 @@ use Rattle.farm_cli.specs.Inputs.{Tells}
 use Rattle.farm_machine.specs.Config.{counts_of}
 use Rattle.farm_machine.specs.declared.config.ConfigCounts.{ConfigCounts}
 use Rattle.farm_cli.specs.Disks.{BeginsFrom, DiskHolds, HasFarm, IsMissing, IsRefusedFor, LedOver, WasUnopened}
-use Rattle.farm_cli.specs.Heard.{ServesLent, IsUnheard, IsHeard, ServedOver}
+use Rattle.farm_cli.specs.Heard.{workers_of, ServesLent, IsUnheard, IsHeard, ServedOver}
+use Rattle.farm_cli.specs.Serves.{ServesFarm, NeverServed}
 use Rattle.farm_cli.specs.House.{CanGive, after_giving, after_return, WasLent, after_opened, after_closing, CanOpenAmong, WasOpened, Doors, after_listened, Lendings}
 use Rattle.farm_cli.specs.Used.{LeavesConsole, UsedConsole}
 use Rattle.farm_cli.specs.Run.{DidOver, Obeyed, RanOverFile, RanLoad, RanRendering, RanSigning, RanCommand, Ran}
@@ -418,12 +419,15 @@ ServesLent-same views old old' new new' opened door Did first last h = record {
 
 IsHeard-same : {F S C N T I D : Type 0} (views : Views F S C N T I D) (old old' new new' : Lendings F S C N T I D) (before now : ℕ) (service : Service) (start : State) (history : List Entry) (calls : List ℕ) (status : Status)
     → SameLent old old' → SameLent new new' → IsHeard views old new before now service start history calls status → IsHeard views old' new' before now service start history calls status
-IsHeard-same {D = D} views old old' new new' before now service start history calls status first last h = record {
-  openings = h.openings;
-  door = h.door;
-  could = rw first.doors h.could;
-  lent = subst (λ (doors : Doors D). ServesLent views old' new' (after_listened doors) h.door _) (sym first.doors) (ServesLent-same views old old' new new' (after_listened old.doors) h.door _ first last h.lent);
-}
+IsHeard-same {D = D} views old old' new new' before now service start history calls status first last h =
+    let Did : LinkState → LinkState → Station → List Station → Type 0 = λ talk talked lent crew.
+        ServesFarm (workers_of service) service.connections talk talked lent crew start history calls status ⊎ ((history ≡ []) × NeverServed talk talked lent crew status) in
+    record {
+      openings = h.openings;
+      door = h.door;
+      could = rw first.doors h.could;
+      lent = subst (λ (doors : Doors D). ServesLent views old' new' (after_listened doors) h.door Did) (sym first.doors) (ServesLent-same views old old' new new' (after_listened old.doors) h.door Did first last h.lent);
+    }
 
 pub did_same : {F S C N T I D : Type 0} (views : Views F S C N T I D) (old old' new new' : Lendings F S C N T I D) (before now : ℕ) (service : Service) (start : State) (history : List Entry) (calls : List ℕ) (status : Status)
     → SameLent old old' → SameLent new new'

@@ -43,4 +43,3 @@ HasRisen before after = (before < after) ⊎ (2 ^ 64 - 1 ≤ after)
 pub record WentWell (part : Part) : Type 0 where
   pub accepts : part.failed ≡ 0
   pub connections : All (λ c. status_of c.served ≡ Done) part.connections
-

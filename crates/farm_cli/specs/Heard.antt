@@ -63,8 +63,8 @@ pub record IsHeard {F S C N T I D : Type 0} (views : Views F S C N T I D) (old n
   pub door : D
   pub could : CanListen old.doors service.listen (Ok door)
   pub lent : ServesLent views old new (after_listened old.doors) door (λ talk talked lent crew.
-    ServesFarm (workers_of service) service.connections talk talked lent crew start history calls status
-    ⊎ ((history ≡ []) × NeverServed talk talked lent crew status))
+      ServesFarm (workers_of service) service.connections talk talked lent crew start history calls status
+      ⊎ ((history ≡ []) × NeverServed talk talked lent crew status))
 
 -- The farm was led through a history by those who served it, or nobody was heard.
 pub record ServesDoor {F S C N T I D : Type 0} (views : Views F S C N T I D) (old new : Lendings F S C N T I D) (before now : ℕ) (service : Service) (start end : State) (Held Holds : Opening → List Entry → Type 0) (status : Status) : Type 0 where

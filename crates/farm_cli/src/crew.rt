@@ -93,6 +93,7 @@ pub(crate) fn gather<D: Listener, C: Clock + Drop, I: Draws + Drop>(
     requires none { row.old.items ≡ [] }
     requires some { 0 < count }
     requires room { count ≤ vec_capacity row.old }
+    ensures some { 0 < length row.new.items }
     ensures crew { AreCrew (station_by D.Listener C.Clock I.Draws first) (map (station_by D.Listener C.Clock I.Draws) row.new.items) }
     ensures whole { OnOk result (IsWholeCrew count (station_by D.Listener C.Clock I.Draws first) (map (station_by D.Listener C.Clock I.Draws) row.new.items)) }
     ensures cause { IfErr result (λ lack. lack ≡ Door → IsDoorFailed (station_by D.Listener C.Clock I.Draws first) (map (station_by D.Listener C.Clock I.Draws) row.new.items)) }

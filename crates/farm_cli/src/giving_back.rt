@@ -41,9 +41,10 @@ pub(crate) fn dismiss<H: House>(crew: Vec<HandOf<H>>, house: &mut H)
     requires { 0 < vec_len crew }
     ensures lends { (first : Worker H.Door H.Time H.Ids NoGate) × (others : List (Worker H.Door H.Time H.Ids NoGate)) × (crew.items ≡ first ∷ others)
         × (H.lends house.new ≡ record (H.lends house.old) {
-            clock = after_return (H.lends house.old).clock first.clock;
-            draws = after_return (H.lends house.old).draws first.draws;
-            doors = all_left (H.lends house.old).doors (map (λ worker. worker.door) (first ∷ others)) }) }
+          clock = after_return (H.lends house.old).clock first.clock;
+          draws = after_return (H.lends house.old).draws first.draws;
+          doors = all_left (H.lends house.old).doors (map (λ worker. worker.door) (first ∷ others));
+        }) }
     ensures refusals { H.refusals house.new ≡ H.refusals house.old }
 {
     let mut crew = crew;

@@ -100,7 +100,9 @@ fn open_named(
         return (MemoryDoors::Shut(None, back), Err(Failed));
     };
     if named.address.as_str() == address {
-        (MemoryDoors::Opened(back), Ok(named.door))
+        let mut kept = back;
+        kept.clear();
+        (MemoryDoors::Opened(kept), Ok(named.door))
     } else {
         (MemoryDoors::Shut(Some(named), back), Err(Failed))
     }

@@ -93,7 +93,12 @@ impl MemoryHouse {
     /// # Errors
     ///
     /// Want of memory for that room.
-    pub fn with_door(self, address: String, door: MemoryListener, room: usize) -> Result<Self, AllocError>
+    pub fn with_door(
+        self,
+        address: String,
+        door: MemoryListener,
+        room: usize,
+    ) -> Result<Self, AllocError>
         ensures lends { IfOk result (λ house. ⟦<MemoryHouse as House>⟧.lends house
             ≡ record (⟦<MemoryHouse as House>⟧.lends self) { doors = shut room (only_file (string_bytes address) door) }) }
         ensures refusals { IfOk result (λ house. ⟦<MemoryHouse as House>⟧.refusals house ≡ ⟦<MemoryHouse as House>⟧.refusals self) }

@@ -1,16 +1,22 @@
 //! Runs of `render`, with values of JSON-e's reference (https://json-e.js.org/language.html).
 
 use crate::tests::{Case, Outcome, outcome_of};
-use std::alloc::AllocError;
+use std::alloc::{AllocError, Global};
+use std::sync::Wait;
 use std::test::Fail;
+use std::thread::Threads;
 
 /// Runs `render` over this input.
-fn rendered(rt: &HostRuntime, input: &[u8]) -> Result<Outcome, AllocError> {
+fn rendered(
+    rt: &(impl Threads + Wait + Sync),
+    alloc: Global,
+    input: &[u8],
+) -> Result<Outcome, AllocError> {
     let case = Case {
         words: &["render"],
         ..Case::over(input)
     };
-    outcome_of(rt, &case)
+    outcome_of(rt, alloc, &case)
 }
 
 #[test]
@@ -54,7 +60,7 @@ fn templates_are_rendered(rt: HostRuntime) -> Result<(), Fail> {
         ),
     ];
     for (input, output) in rows {
-        let done = rendered(&rt, input)?;
+        let done = rendered(&rt, rt.alloc(), input)?;
         assert_eq!(rt; done.status.code(), 0);
         assert_eq!(rt; done.output.as_slice(), output);
         assert_eq!(rt; done.notes.len(), 0);
@@ -91,7 +97,7 @@ fn inputs_of_another_form_are_refused(rt: HostRuntime) -> Result<(), Fail> {
         ),
     ];
     for (input, note) in rows {
-        let refused = rendered(&rt, input)?;
+        let refused = rendered(&rt, rt.alloc(), input)?;
         assert_eq!(rt; refused.status.code(), 3);
         assert_eq!(rt; refused.output.len(), 0);
         assert_eq!(rt; refused.notes.as_slice(), note);
@@ -160,7 +166,7 @@ fn faults_are_told_with_their_place(rt: HostRuntime) -> Result<(), Fail> {
     for (template, words) in rows {
         let input = format!(in alloc; "{{\"context\":{{}},\"template\":{template}}}")?;
         let note = format!(in alloc; "the input is refused: {words}\n")?;
-        let refused = rendered(&rt, input.as_bytes())?;
+        let refused = rendered(&rt, rt.alloc(), input.as_bytes())?;
         assert_eq!(rt; refused.status.code(), 3);
         assert_eq!(rt; refused.output.len(), 0);
         assert_eq!(rt; refused.notes.as_slice(), note.as_bytes());
@@ -172,7 +178,7 @@ fn faults_are_told_with_their_place(rt: HostRuntime) -> Result<(), Fail> {
 fn what_fails_and_what_is_too_long_ends_with_its_status(rt: HostRuntime) -> Result<(), Fail> {
     let alloc = rt.alloc();
     let long = vec![in alloc; b' '; 1_048_577]?;
-    let refused = rendered(&rt, long.as_slice())?;
+    let refused = rendered(&rt, rt.alloc(), long.as_slice())?;
     let note: &[u8] = b"the input is refused: it has more than 1048576 bytes\n";
     assert_eq!(rt; refused.status.code(), 3);
     assert_eq!(rt; refused.notes.as_slice(), note);
@@ -183,14 +189,14 @@ fn what_fails_and_what_is_too_long_ends_with_its_status(rt: HostRuntime) -> Resu
         failing_reads: &[0],
         ..Case::over(input)
     };
-    let unread = outcome_of(&rt, &unread)?;
+    let unread = outcome_of(&rt, rt.alloc(), &unread)?;
     assert_eq!(rt; unread.status.code(), 5);
     let unwritten = Case {
         words: &["render"],
         failing_writes: &[0],
         ..Case::over(input)
     };
-    let unwritten = outcome_of(&rt, &unwritten)?;
+    let unwritten = outcome_of(&rt, rt.alloc(), &unwritten)?;
     assert_eq!(rt; unwritten.status.code(), 6);
     assert_eq!(rt; unread.output.len() + unwritten.output.len(), 0);
     Ok(())

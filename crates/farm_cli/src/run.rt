@@ -35,7 +35,12 @@ use std::thread::Threads;
 /// The history that `answer` and `serve` lead through is legal, so the laws of `farm_machine::law` hold of it: a call is denied exactly where its
 /// caller's scopes do not hold what it asks (`a_denial_is_of_scopes_that_are_missing`), a task is created once
 /// (`a_task_is_created_once`), and an equal createTask after it is answered with the task's status (`an_equal_call_acts_once`).
-pub fn run<R: Threads + Wait + Sync, H: House>(rt: &R, alloc: Global, words: &[String], house: &mut H) -> Status
+pub fn run<R: Threads + Wait + Sync, H: House>(
+    rt: &R,
+    alloc: Global,
+    words: &[String],
+    house: &mut H,
+) -> Status
 where
     <H::Door as Listener>::Peer: Send,
     ensures runs { let views = views_of H.File.Source H.Store.Disk H.Console.Link H.Notes.Sink H.Time.Clock H.Ids.Draws H.Door.Listener in
@@ -52,7 +57,12 @@ where
 }
 
 /// Runs what the words ask for, where they are taken.
-fn perform<R: Threads + Wait + Sync, H: House>(rt: &R, alloc: Global, words: &[String], house: &mut H) -> Ended
+fn perform<R: Threads + Wait + Sync, H: House>(
+    rt: &R,
+    alloc: Global,
+    words: &[String],
+    house: &mut H,
+) -> Ended
 where
     <H::Door as Listener>::Peer: Send,
     ensures ran { let views = views_of H.File.Source H.Store.Disk H.Console.Link H.Notes.Sink H.Time.Clock H.Ids.Draws H.Door.Listener in
@@ -69,7 +79,12 @@ where
 }
 
 /// Runs a command.
-fn run_command<R: Threads + Wait + Sync, H: House>(rt: &R, alloc: Global, command: &Command, house: &mut H) -> Ended
+fn run_command<R: Threads + Wait + Sync, H: House>(
+    rt: &R,
+    alloc: Global,
+    command: &Command,
+    house: &mut H,
+) -> Ended
 where
     <H::Door as Listener>::Peer: Send,
     ensures ran { let views = views_of H.File.Source H.Store.Disk H.Console.Link H.Notes.Sink H.Time.Clock H.Ids.Draws H.Door.Listener in
@@ -86,7 +101,13 @@ where
 }
 
 /// Does work over a farm, where its file can be opened.
-fn run_over_farm<R: Threads + Wait + Sync, H: House>(rt: &R, alloc: Global, farm: &str, work: &Work, house: &mut H) -> Ended
+fn run_over_farm<R: Threads + Wait + Sync, H: House>(
+    rt: &R,
+    alloc: Global,
+    farm: &str,
+    work: &Work,
+    house: &mut H,
+) -> Ended
 where
     <H::Door as Listener>::Peer: Send,
     ensures ran { let views = views_of H.File.Source H.Store.Disk H.Console.Link H.Notes.Sink H.Time.Clock H.Ids.Draws H.Door.Listener in

@@ -99,7 +99,10 @@ where
         }
         Err(Failed) => {
             row.destroy_empty();
-            (farm, unheard(alloc, service.listen.as_str(), house.reason()))
+            (
+                farm,
+                unheard(alloc, service.listen.as_str(), house.reason()),
+            )
         }
     }
 }
@@ -147,8 +150,16 @@ fn after_workers(alloc: Global, status: Status, address: &str) -> Ended
     match status {
         Status::Door => at_door(alloc, address),
         Status::Read => Ended::told(alloc, Status::Read, ": of a connection"),
-        Status::Write => Ended::told(alloc, Status::Write, ": of a connection, or of standard output"),
-        Status::Wire => Ended::told(alloc, Status::Wire, ": a connection sent what is no request, or ended inside one"),
+        Status::Write => Ended::told(
+            alloc,
+            Status::Write,
+            ": of a connection, or of standard output",
+        ),
+        Status::Wire => Ended::told(
+            alloc,
+            Status::Wire,
+            ": a connection sent what is no request, or ended inside one",
+        ),
         _ => Ended::plain(status),
     }
 }

@@ -100,7 +100,7 @@ fn a_worker_serves_its_connections(rt: HostRuntime) -> Result<(), Fail> {
     let case = case(&words, &[]);
     let door = door(alloc, CREATION, pings(alloc, 2)?.as_slice(), &[])?;
     let mut house = house(alloc, &case, &[], door)?;
-    let done = outcome_in(&rt, &case, &mut house)?;
+    let done = outcome_in(&rt, alloc, &case, &mut house)?;
     assert_eq!(rt; done.status.code(), 0);
     let output: &[u8] = b"ready\nserved 3\n";
     assert_eq!(rt; done.output.as_slice(), output);
@@ -114,7 +114,7 @@ fn a_worker_serves_its_connections(rt: HostRuntime) -> Result<(), Fail> {
     let disk = house.returned_disk().ok_or("the disk")?;
     let one: &[u8] = b"ok roles=1 clients=0 hooks=0 records=1 tasks=1\n";
     for image in &disk.images(alloc, &[0, 0xa5])? {
-        assert_eq!(rt; checked(&rt, image)?.as_slice(), one);
+        assert_eq!(rt; checked(&rt, alloc, image)?.as_slice(), one);
     }
     Ok(())
 }
@@ -132,7 +132,7 @@ fn four_workers_serve(rt: HostRuntime) -> Result<(), Fail> {
     twins.push(pinged(alloc, 2)?)?;
     let door = MemoryListener::new(alloc, pinged(alloc, 1)?, Vec::new(alloc), twins);
     let mut house = house(alloc, &case, &[], door)?;
-    let done = outcome_in(&rt, &case, &mut house)?;
+    let done = outcome_in(&rt, alloc, &case, &mut house)?;
     assert_eq!(rt; done.status.code(), 0);
     let output: &[u8] = b"ready\nserved 10\n";
     assert_eq!(rt; done.output.as_slice(), output);
@@ -174,7 +174,7 @@ fn what_fails_while_serving_ends_with_its_status(rt: HostRuntime) -> Result<(), 
     for (case, bytes, first, failing, code, output, note) in rows {
         let door = door(alloc, PING, first, failing)?;
         let mut house = house(alloc, &case, bytes, door)?;
-        let done = outcome_in(&rt, &case, &mut house)?;
+        let done = outcome_in(&rt, alloc, &case, &mut house)?;
         assert_eq!(rt; done.status.code(), code);
         assert_eq!(rt; done.output.as_slice(), output);
         assert_eq!(rt; done.notes.as_slice(), note);

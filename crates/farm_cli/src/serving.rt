@@ -140,6 +140,7 @@ fn serve_gathered<
 where
     D::Peer: Send,
     requires few { length crew.items * (connections * REQUESTS) ≤ 9223372036854775808 }
+    ensures each { length result.crew.items ≡ length crew.items }
     ensures serves { (count : ℕ) (lent : Station) → IsWholeCrew count lent (map (station_by D.Listener C.Clock I.Draws) crew.items)
         → ServesAll count connections (state_of L.Link console.old) (state_of L.Link console.new) lent (map (station_by D.Listener C.Clock I.Draws) result.crew.items)
         (O.state object) (O.state result.object) (O.holds object) (O.holds result.object) result.status }
@@ -148,8 +149,15 @@ where
     match Shared::new(alloc, object) {
         Ok((shared, token)) => {
             let workers = crew.as_mut_slice();
-            let (token, status) =
-                serve_ready(rt, alloc, &shared, token, console, workers, connections);
+            let (token, status) = serve_ready(
+                rt,
+                alloc,
+                &shared,
+                token,
+                console,
+                workers,
+                connections,
+            );
             let object = shared.close(token);
             Left {
                 object,
@@ -188,6 +196,7 @@ where
     requires some { 0 < shifts.workers }
     requires room { shifts.workers ≤ vec_capacity row }
     requires few { shifts.workers * (shifts.connections * REQUESTS) ≤ 9223372036854775808 }
+    ensures some { 0 < length result.crew.items }
     ensures serves { ServesAll shifts.workers shifts.connections (state_of L.Link console.old) (state_of L.Link console.new)
         (station_by D.Listener C.Clock I.Draws first) (map (station_by D.Listener C.Clock I.Draws) result.crew.items)
         (O.state object) (O.state result.object) (O.holds object) (O.holds result.object) result.status }
