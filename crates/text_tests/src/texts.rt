@@ -220,6 +220,12 @@ fn clocks_tell_their_last_again(rt: HostRuntime) {
             for millis in [0, LAST_TOLD_MOMENT, LAST_TOLD_MOMENT] {
                 assert!(rt; tells(&mut clock, millis), "{millis}");
             }
+            // Another one begins with the first moment.
+            match clock.fork() {
+                Ok(mut other) => assert!(rt; tells(&mut other, 0)),
+                Err(_) => assert!(rt; false, "no fork"),
+            }
+            assert!(rt; tells(&mut clock, LAST_TOLD_MOMENT));
         }
         None => assert!(rt; false, "no clock"),
     }
@@ -232,6 +238,7 @@ fn draws_tell_their_last_again(rt: HostRuntime) {
         let drawn = draws.draw().text();
         assert!(rt; drawn.as_slice() == b"AAAAAAAAQACAAAAAAAAAAA".as_slice());
     }
+    assert!(rt; draws.fork().is_ok());
 }
 
 #[test]
@@ -339,6 +346,6 @@ fn the_host_tells(rt: HostRuntime) -> Result<(), Fail> {
     let mut refused = FaultCount::new();
     let mut draws = HostDraws::new(&rt, &mut refused).map_err(|_| "no random bytes")?;
     assert_ne!(rt; draws.draw(), draws.draw());
-    assert_ne!(rt; draws.fork().draw(), draws.draw());
+    assert_ne!(rt; draws.seed_another().draw(), draws.draw());
     Ok(())
 }
