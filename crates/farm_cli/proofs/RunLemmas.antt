@@ -421,7 +421,7 @@ IsHeard-same : {F S C N T I D : Type 0} (views : Views F S C N T I D) (old old' 
     → SameLent old old' → SameLent new new' → IsHeard views old new before now service start history calls status → IsHeard views old' new' before now service start history calls status
 IsHeard-same {D = D} views old old' new new' before now service start history calls status first last h =
     let Did : LinkState → LinkState → Station → List Station → Type 0 = λ talk talked lent crew.
-        ServesFarm (workers_of service) service.connections talk talked lent crew start history calls status ⊎ ((history ≡ []) × NeverServed talk talked lent crew status) in
+    ServesFarm (workers_of service) service.connections talk talked lent crew start history calls status ⊎ ((history ≡ []) × NeverServed talk talked lent crew status) in
     record {
       openings = h.openings;
       door = h.door;

@@ -315,7 +315,13 @@ fn requests_are_signed(rt: HostRuntime) -> Result<(), Fail> {
 fn a_body_that_is_too_long_is_not_signed(rt: HostRuntime) -> Result<(), Fail> {
     let alloc = rt.alloc();
     let body = vec![in alloc; b'a'; 1_048_577]?;
-    let longest = signed(&rt, rt.alloc(), "POST", ["--type", "text/plain"].as_slice(), &body[1..])?;
+    let longest = signed(
+        &rt,
+        rt.alloc(),
+        "POST",
+        ["--type", "text/plain"].as_slice(),
+        &body[1..],
+    )?;
     assert_eq!(rt; longest.status.code(), 0);
     let refused = signed(
         &rt,
