@@ -36,11 +36,6 @@ pub struct TaskDef {
     pub task_group_id: SlugId,
 }
 
-// Each part may cross threads; the proof names them one by one, since a search alone gives up at so many.
-unsafe impl Send for TaskDef {}
-
-unsafe impl Sync for TaskDef {}
-
 /// Whether two definitions are the same in every part; their full forms are then the same too. It takes no memory.
 pub fn same(a: &TaskDef, b: &TaskDef) -> bool
     ensures { IsTrue result ↔ (a.now ≡ b.now) }
