@@ -1,6 +1,6 @@
 -- What a farm keeps may go to another thread where the tables of its tasks may.
 use denote.Param.Send.{IsSend, view_send}
-use denote.Param.SendFields.{declared_send, as_row_send}
+use denote.Param.SendFields.{declared_send}
 use Rattle.farm_rows.specs.contracts.tables.TaskTables as tables
 use Rattle.farm_machine.specs.contracts.tables.Tables.{the_row}
 use Rattle.farm_machine.specs.contracts.tables.Tables.TheInside.{the_type as inside_type}
