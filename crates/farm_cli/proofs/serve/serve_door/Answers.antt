@@ -1,3 +1,5 @@
+use denote.Exit.{yes}
+use denote.Param.Send.{arg_send, param_send}
 use Rattle.farm_cli.specs.Views.{views_of}
 use Rattle.farm_cli.proofs.LentLemmas.{ServesLent-from_calls}
 use Rattle.farm_core.proofs.CrossingLemmas.{farm_send}
@@ -11,4 +13,5 @@ returns-clause-lent g c =
     c.back_console.ensures.lends dismissed.3 (rw dismissed.2 at c.serve_object-left.ensures.serves)
 
 pub serve_object-left-requires-send-O : goal.serve_object-left-requires-send-O
-serve_object-left-requires-send-O g c = farm_send _ g.H.Store.Disk c.type_bounds.send-H-Store c.farms_tables_cross_threads.ensures.sent
+serve_object-left-requires-send-O g c = λ κs within.
+    param_send _ _ (arg_send _ yes _ (farm_send _ g.H.Store.Disk c.type_bounds.send-H-Store c.farms_tables_cross_threads.ensures.sent))
