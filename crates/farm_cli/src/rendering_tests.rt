@@ -119,7 +119,7 @@ const FAULTS: &str = r#"{"$eval":"1+"}|fault 1 of the template at "": it is no e
 {"$evil":"1"}|fault 7 of the template at "": an operator is unknown or one of two, its keys are others, or a binder is bad
 {"$switch":{"true":1,"1==1":2}}|fault 8 of the template at "": two branches are true
 {"${'a'}":1,"a":2}|fault 9 of the template at "": two keys of a map are equal
-{"$eval":"((((((((((((((((((((((((((((((((((((((((((((((((((((((((((((((((((1))))))))))))))))))))))))))))))))))))))))))))))))))))))))))))))))"}|fault 10 of the template at "": an expression is more than 64 deep
+{"$eval":"((((((((((((((((((((((((((((((((((((((((((((((((((((((((((((((((1))))))))))))))))))))))))))))))))))))))))))))))))))))))))))))))))"}|fault 10 of the template at "": an expression is more than 64 deep
 {"$fromNow":"1 fortnight","from":"2017-01-19T16:27:20.974Z"}|fault 11 of the template at "": a text is no span of time
 {"$eval":"len(range(0,2000000))"}|its template costs more than 1000000
 {"$eval":"range(0,1000000)"}|its template costs more than 1000000"#;
