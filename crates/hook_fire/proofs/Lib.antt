@@ -1,5 +1,5 @@
-pub mod BookLemmas
 pub mod ContextLemmas
 pub mod DefaultLemmas
 pub mod FiringLemmas
 pub mod LateLemmas
+pub mod PlaceLemmas

@@ -3,3 +3,4 @@ pub mod Contexts
 pub mod Defaults
 pub mod Firing
 pub mod Hooks
+pub mod Places
