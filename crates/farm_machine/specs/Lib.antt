@@ -7,6 +7,7 @@ pub mod Config
 pub mod Deeds
 pub mod Entry
 pub mod Expressions
+pub mod Firings
 pub mod Grants
 pub mod Judgement
 pub mod Law
