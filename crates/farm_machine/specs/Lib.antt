@@ -9,6 +9,7 @@ pub mod Entry
 pub mod Expressions
 pub mod Firings
 pub mod Grants
+pub mod HookLaws
 pub mod Judgement
 pub mod Law
 pub mod Laws

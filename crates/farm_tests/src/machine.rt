@@ -19,6 +19,7 @@ use std::alloc::{AllocError, Global};
 use std::test::Fail;
 use task_defs::read_task;
 
+mod hooks;
 mod runs;
 mod work;
 
