@@ -42,6 +42,7 @@ use Rattle.farm_machine.specs.Config.{claim_millis}
 use Rattle.farm_machine.specs.Entry.{Asking, Entry, tick, call, finished, out_of_memory, disk_failed, was_halted}
 use Rattle.farm_machine.specs.Judgement.{Judgement}
 use Rattle.farm_machine.specs.Laws.{creation_of, creation_of_kind}
+use Rattle.farm_machine.specs.Order.{case_of}
 use Rattle.farm_machine.specs.RunLaws.{is_same_run, claims_by, claims_in, run_in, claims_of}
 use Rattle.farm_machine.specs.State.{State}
 use Rattle.farm_machine.specs.Step.{lawful, after, farm_rules}
@@ -277,29 +278,29 @@ after-claims name at (Ok creation) = claims-some name at.state.contents at.momen
 after-claims name at (Err answer) = claims-none name at.state.contents at.moment
 
 call-claims : (name : RunName) (at : Setting) (asked : Call) (judgement : Judgement) → HaveOwnIds at.state.contents.rows → IsDoneBy at judgement (form_of asked) → Claims name at.state.contents at.moment judgement.change
-call-claims name at (NoRoute route) judgement own done_so = done-claims name at _ judgement done_so (claims-none name at.state.contents at.moment)
-call-claims name at (BadParameter parameter) judgement own done_so = done-claims name at _ judgement done_so (claims-none name at.state.contents at.moment)
-call-claims name at (BadBody fault) judgement own done_so = done-claims name at _ judgement done_so (claims-none name at.state.contents at.moment)
-call-claims name at Ping judgement own done_so = done-claims name at _ judgement done_so (claims-none name at.state.contents at.moment)
+call-claims name at (NoRoute route) judgement own done_so = done-claims name at (case_of (form_of (NoRoute route)) at) judgement done_so (claims-none name at.state.contents at.moment)
+call-claims name at (BadParameter parameter) judgement own done_so = done-claims name at (case_of (form_of (BadParameter parameter)) at) judgement done_so (claims-none name at.state.contents at.moment)
+call-claims name at (BadBody fault) judgement own done_so = done-claims name at (case_of (form_of (BadBody fault)) at) judgement done_so (claims-none name at.state.contents at.moment)
+call-claims name at Ping judgement own done_so = done-claims name at (case_of (form_of Ping) at) judgement done_so (claims-none name at.state.contents at.moment)
 call-claims name at (Task id) judgement own done_so =
-    done-claims name at _ judgement done_so
+    done-claims name at (case_of (form_of (Task id)) at) judgement done_so
     (
     let none = claims-none name at.state.contents at.moment in
     each-task (Claims name at.state.contents at.moment) id (row_with id at.state.contents.rows) _ none (λ row. none)
     )
-call-claims name at (ListTaskGroup group page) judgement own done_so = done-claims name at _ judgement done_so (claims-none name at.state.contents at.moment)
-call-claims name at (ListDependentTasks id page) judgement own done_so = done-claims name at _ judgement done_so (claims-none name at.state.contents at.moment)
-call-claims name at (PendingTasks queue) judgement own done_so = done-claims name at _ judgement done_so (claims-none name at.state.contents at.moment)
+call-claims name at (ListTaskGroup group page) judgement own done_so = done-claims name at (case_of (form_of (ListTaskGroup group page)) at) judgement done_so (claims-none name at.state.contents at.moment)
+call-claims name at (ListDependentTasks id page) judgement own done_so = done-claims name at (case_of (form_of (ListDependentTasks id page)) at) judgement done_so (claims-none name at.state.contents at.moment)
+call-claims name at (PendingTasks queue) judgement own done_so = done-claims name at (case_of (form_of (PendingTasks queue)) at) judgement done_so (claims-none name at.state.contents at.moment)
 call-claims name at (Status id) judgement own done_so =
-    done-claims name at _ judgement done_so
+    done-claims name at (case_of (form_of (Status id)) at) judgement done_so
     (
     let none = claims-none name at.state.contents at.moment in
     each-task (Claims name at.state.contents at.moment) id (row_with id at.state.contents.rows) _ none (λ row. none)
     )
-call-claims name at (CreateTask creation) judgement own done_so = done-claims name at _ judgement done_so (claims-some name at.state.contents at.moment (at_moment at.moment (Create creation)) refl)
-call-claims name at (ClaimWork work) judgement own done_so = done-claims name at _ judgement done_so (claims-work name at.state.contents at.moment (at.moment + claim_millis at.state.config) work (picks (min work.tasks 32) work.queue at.state.contents.rows) own refl)
+call-claims name at (CreateTask creation) judgement own done_so = done-claims name at (case_of (form_of (CreateTask creation)) at) judgement done_so (claims-some name at.state.contents at.moment (at_moment at.moment (Create creation)) refl)
+call-claims name at (ClaimWork work) judgement own done_so = done-claims name at (case_of (form_of (ClaimWork work)) at) judgement done_so (claims-work name at.state.contents at.moment (at.moment + claim_millis at.state.config) work (picks (min work.tasks 32) work.queue at.state.contents.rows) own refl)
 call-claims name at (ReclaimTask run) judgement own done_so =
-    done-claims name at _ judgement done_so
+    done-claims name at (case_of (form_of (ReclaimTask run)) at) judgement done_so
     (
     let none = claims-none name at.state.contents at.moment in
     each-task (Claims name at.state.contents at.moment) run.id (row_with run.id at.state.contents.rows) _ none
@@ -307,7 +308,7 @@ call-claims name at (ReclaimTask run) judgement own done_so =
     (claims-some name at.state.contents at.moment (at_moment at.moment (Reclaim (record { id = run.id; run = run.run; taken_until = at.moment + claim_millis at.state.config }))) refl))
     )
 call-claims name at (ReportRun report) judgement own done_so =
-    done-claims name at _ judgement done_so
+    done-claims name at (case_of (form_of (ReportRun report)) at) judgement done_so
     (
     let none = claims-none name at.state.contents at.moment in
     each-task (Claims name at.state.contents at.moment) report.id (row_with report.id at.state.contents.rows) _ none
@@ -315,19 +316,19 @@ call-claims name at (ReportRun report) judgement own done_so =
     (claims-some name at.state.contents at.moment (at_moment at.moment (Resolve report)) refl))
     )
 call-claims name at (ScheduleTask id) judgement own done_so =
-    done-claims name at _ judgement done_so
+    done-claims name at (case_of (form_of (ScheduleTask id)) at) judgement done_so
     (
     each-task (Claims name at.state.contents at.moment) id (row_with id at.state.contents.rows) _ (claims-none name at.state.contents at.moment)
     (λ row. claims-some name at.state.contents at.moment (at_moment at.moment (Schedule id)) refl)
     )
 call-claims name at (RerunTask id) judgement own done_so =
-    done-claims name at _ judgement done_so
+    done-claims name at (case_of (form_of (RerunTask id)) at) judgement done_so
     (
     each-task (Claims name at.state.contents at.moment) id (row_with id at.state.contents.rows) _ (claims-none name at.state.contents at.moment)
     (λ row. claims-some name at.state.contents at.moment (at_moment at.moment (Rerun id)) refl)
     )
 call-claims name at (CancelTask id) judgement own done_so =
-    done-claims name at _ judgement done_so
+    done-claims name at (case_of (form_of (CancelTask id)) at) judgement done_so
     (
     each-task (Claims name at.state.contents at.moment) id (row_with id at.state.contents.rows) _ (claims-none name at.state.contents at.moment)
     (λ row. claims-some name at.state.contents at.moment (at_moment at.moment (Cancel id)) refl)

@@ -1,18 +1,19 @@
 -- Whoever triggers a hook is denied exactly where its scopes do not hold what that asks, and the hook exactly where its own do not.
-use Rattle.std.proofs.Common.{◌≡◌, ◌≢◌, ℕ, Bool, true, false, IsTrue, List, [], ◌∷◌, ◌++◌, map, get_or, Option, Some, None, Result, Ok, Err, codes, refl, sym, ap, ◌∙◌, subst, inl, inr}
+use Rattle.std.proofs.Common.{◌≡◌, ◌≢◌, ℕ, ◌==◌, Bool, true, false, IsTrue, List, [], ◌∷◌, get_or, Option, Some, None, Result, Ok, Err, refl, sym, ap, ◌∙◌, subst, inl, inr}
 use Rattle.json.specs.Print.{escape_byte}
 use Rattle.scope_sets.specs.Expressions.{Expression, holds, missing, reduced}
 use Rattle.scope_sets.proofs.LawLemmas.{missing_full}
 use Rattle.call_rules.specs.Policy.{create_policy, trigger_policy}
 use Rattle.call_rules.specs.declared.hook_names.HookName.{HookName}
 use Rattle.farm_record.specs.declared.change.Creation.{Creation}
-use Rattle.farm_text.specs.Document.{Members}
 use Rattle.hawk_auth.specs.Access.{Access as Admission, Expands}
 use Rattle.hook_fire.specs.Hooks.{HookData}
 use Rattle.hook_fire.specs.declared.fault.FireFault.{FireFault}
 use Rattle.hook_fire.specs.declared.fault.FireFault.TheVariants.{Template, TooMuchWork, Definition, NoMemory}
+use Rattle.jsone_values.specs.Faults.{rule_of}
 use Rattle.task_defs.specs.declared.task_def.TaskDef.{TaskDef}
 use Rattle.farm_machine.specs.declared.config.Config.{Config}
+use Rattle.farm_machine.specs.declared.question.BodyFault.TheVariants.{NoDefinition}
 use Rattle.farm_machine.specs.declared.question.Call.{Call}
 use Rattle.farm_machine.specs.declared.question.Call.TheVariants.{TriggerHook}
 use Rattle.farm_machine.specs.declared.question.Trigger.{Trigger}
@@ -20,13 +21,13 @@ use Rattle.farm_machine.specs.declared.reply.Answer.{Answer}
 use Rattle.farm_machine.specs.Access.{Access, Has, Refused, HasAccess, access_by, refusal_of}
 use Rattle.farm_machine.specs.Calls.CreateTask.{create_task}
 use Rattle.farm_machine.specs.Calls.TriggerHook.{hook_at, of_hook, trigger_hook, Fired, unless_lacking, by_access, HookMay, fault_answer, Follows, ComesTo, case_after}
-use Rattle.farm_machine.specs.Case.{Setting, Case, passing}
+use Rattle.farm_machine.specs.Case.{Setting, Case}
 use Rattle.farm_machine.specs.Entry.{Asking, Entry, call, finished}
 use Rattle.farm_machine.specs.HookLaws.{TellsExactly, Triggered, Grants}
 use Rattle.farm_machine.specs.Judgement.{Judgement, only_answer}
 use Rattle.farm_machine.specs.Laws.{setting_behind}
 use Rattle.farm_machine.specs.Order.{asks_then, IsFirst, GoesOn, ending, in_order}
-use Rattle.farm_machine.specs.Replies.{error_text, insufficient_scopes, hook_insufficient_scopes, expansion_limit}
+use Rattle.farm_machine.specs.Replies.{insufficient_scopes, hook_insufficient_scopes, expansion_limit, template_fault, too_costly, bad_body}
 use Rattle.farm_machine.specs.State.{State}
 use Rattle.farm_machine.specs.Verdict.{form_of, IsVerdict}
 use Rattle.farm_machine.proofs.DenialLemmas.{not_denied, create-other, rules-other, held-first}
@@ -44,18 +45,18 @@ IsNoDenial answer = (lack : Expression) → answer ≢ insufficient_scopes lack
 other-status : (answer : Answer) → answer.status ≢ 403 → (tell : Expression → Answer) → ((lack : Expression) → (tell lack).status ≡ 403) → (lack : Expression) → answer ≢ tell lack
 other-status answer other tell denies lack same = other (ap (λ (a : Answer). a.status) same ∙ denies lack)
 
+-- another letter is no I
+no_i : (letter : ℕ) → (letter == 73) ≡ false → letter ≢ 73
+no_i letter other is = let same : (73 == 73) ≡ false = rw is at other in cc
+
 -- the first letters of their codes differ
 limit-other : IsNoDenial expansion_limit
 unfolding escape_byte
-limit-other lack same =
-    let letters : 69 ≡ 73 = ap (λ (a : Answer). get_or a.body 9 0) same in
-    cc
+limit-other lack same = no_i 69 refl (ap (λ (a : Answer). get_or a.body 9 0) same)
 
 hook-no-denial : (missed : Expression) → IsNoDenial (hook_insufficient_scopes missed)
 unfolding escape_byte
-hook-no-denial missed lack same =
-    let letters : 72 ≡ 73 = ap (λ (a : Answer). get_or a.body 9 0) same in
-    cc
+hook-no-denial missed lack same = no_i 72 refl (ap (λ (a : Answer). get_or a.body 9 0) same)
 
 -- what comes of a hook that ends with an answer denies no caller
 access-no-denial : (config : Config) (name : HookName) (creation : Creation) (access : Access) (answer : Answer) → HookMay config name access → Err answer ≡ by_access creation access → IsNoDenial answer
@@ -71,10 +72,14 @@ access-no-denial config name creation (Has scopes) answer may same = by (missing
   by None e = cc
   by (Some lack) e = let one : answer ≡ hook_insufficient_scopes lack = cc in subst IsNoDenial (sym one) (hook-no-denial lack)
 
+-- an answer that is told has the status that is told
+told-status : (told answer : Answer) → told.status ≢ 403 → Some told ≡ Some answer → answer.status ≢ 403
+told-status told answer other same = let one : told ≡ answer = cc in subst (λ (a : Answer). a.status ≢ 403) one other
+
 fault-status : (fault : FireFault) (answer : Answer) → fault_answer fault ≡ Some answer → answer.status ≢ 403
-fault-status (Template fault) answer is = let one : _ ≡ answer = cc in subst (λ (a : Answer). a.status ≢ 403) one (not_denied 400 refl)
-fault-status TooMuchWork answer is = let one : _ ≡ answer = cc in subst (λ (a : Answer). a.status ≢ 403) one (not_denied 400 refl)
-fault-status (Definition fault) answer is = let one : _ ≡ answer = cc in subst (λ (a : Answer). a.status ≢ 403) one (not_denied 400 refl)
+fault-status (Template fault) answer is = told-status (template_fault (rule_of fault.rule) fault.path) answer (not_denied 400 refl) is
+fault-status TooMuchWork answer is = told-status too_costly answer (not_denied 400 refl) is
+fault-status (Definition fault) answer is = told-status (bad_body (NoDefinition fault)) answer (not_denied 400 refl) is
 fault-status NoMemory answer is = cc
 
 follows-no-denial : (name : HookName) (at : Setting) (outcome : Result TaskDef FireFault) (answer : Answer) → Follows name at outcome (Err answer) → IsNoDenial answer
@@ -100,13 +105,13 @@ after-no-denial trigger at (Err answer) judgement comes first =
 -- ---- a hook that was triggered
 
 module _ (opening : State) (before after : List Entry) (asking : Asking) (judgement : Judgement) (trigger : Trigger) (hook : HookData) (scopes : List (List ℕ)) (is : Triggered opening before after asking judgement trigger hook scopes) where
-  at : Setting
+  abbrev at : Setting
   at = setting_behind opening before asking
 
-  case : Setting → Case
+  abbrev case : Setting → Case
   case = trigger_hook trigger
 
-  behind_policy : List (Judgement → Type 0)
+  abbrev behind_policy : List (Judgement → Type 0)
   behind_policy = GoesOn Fired (ComesTo trigger) case_after at ∷ []
 
   named : (case at).parameter ≡ None
@@ -158,7 +163,7 @@ module _ (opening : State) (before after : List Entry) (asking : Asking) (judgem
         }
 
   module _ (holding : IsTrue (holds scopes (trigger_policy trigger.hook))) (definition : TaskDef) (granted : List (List ℕ)) (grants : Grants opening at trigger hook definition granted) where
-    made : Creation
+    abbrev made : Creation
     made = made_at at definition
 
     -- what comes of it is a createTask of the definition, by whoever has what the hook's scopes give

@@ -127,7 +127,7 @@ form-decided longest (RerunTask id) at caller accepted ends =
     ))
 form-decided longest (CancelTask id) at caller accepted ends = status-decided id (row_with id at.state.contents.rows) _ (λ row. (when-decided (is_resolved row) (tells_status row), tt))
 form-decided longest (TriggerHook trigger) at caller accepted ends = λ passes.
-    let some = ComesTo-some longest trigger at accepted (ends passes.there) in
+    let some = ComesTo-some longest trigger at accepted ends passes.there in
     (some.0, some.1, after-decided some.0 at)
 
 -- each call has a verdict, over accepted roles and a book of clients; a triggerHook where the firing of its hook comes to something
