@@ -64,8 +64,8 @@ access-no-denial config name creation (Refused refused) answer (Err refusal, (ma
     let one : answer ≡ refused = cc in
     let limit : refused ≡ expansion_limit = refused-is refused refusal is ∙ ap refusal_of which in
     subst IsNoDenial (sym (one ∙ limit)) limit-other where
-  refused-is : (r : Answer) (f : _) → Refused r ≡ Refused (refusal_of f) → r ≡ refusal_of f
-  refused-is r f e = cc
+      refused-is : (r : Answer) (f : _) → Refused r ≡ Refused (refusal_of f) → r ≡ refusal_of f
+      refused-is r f e = cc
 access-no-denial config name creation (Refused refused) answer (Ok scopes, gives, is) same = cc
 access-no-denial config name creation (Has scopes) answer may same = by (missing scopes (create_policy creation.definition)) same where
   by : (lack : Option Expression) → Err answer ≡ unless_lacking creation lack → IsNoDenial answer
@@ -138,9 +138,9 @@ module _ (opening : State) (before after : List Entry) (asking : Asking) (judgem
   comes held =
       let none : missing scopes (case at).policy ≡ None = rw (policy, held) refl in
       only (held-first at asking.caller case behind_policy scopes judgement access named there none first) where
-    only : IsFirst behind_policy judgement → GoesOn Fired (ComesTo trigger) case_after at judgement
-    only (inl goes_on) = goes_on
-    only (inr (a, none)) = absurd none
+        only : IsFirst behind_policy judgement → GoesOn Fired (ComesTo trigger) case_after at judgement
+        only (inl goes_on) = goes_on
+        only (inr (a, none)) = absurd none
 
   pub callers-exact : TellsExactly insufficient_scopes scopes (trigger_policy trigger.hook) judgement.answer
   callers-exact = by (holds scopes (trigger_policy trigger.hook)) refl where

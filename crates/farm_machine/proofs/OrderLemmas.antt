@@ -164,12 +164,15 @@ IsJudged-finished-so at caller case (Ok judged) passes finished = IsJudged-finis
 IsJudged-finished-so at caller case (Err e) passes finished = tt
 
 -- what comes of a call that passes up to its policy, and is finished so, is judged so
-pub IsJudged-came : {E : Type 0} (Found : Type 0) (at : Setting) (caller : Caller) (case : Setting → Case) (Comes : Setting → Found → Type 0) (rest : Found → Setting → Case) (found : Found) (result : Result Judged E) → Passes at caller (case at) → Comes at found → IfOk result (IsFinished at (rest found at)) → IfOk result (IsJudged at caller (asks_then Found case Comes rest))
-IsJudged-came Found at caller case Comes rest found (Ok judged) passes comes finished = record {
+pub IsJudged-came : (Found : Type 0) (at : Setting) (caller : Caller) (case : Setting → Case) (Comes : Setting → Found → Type 0) (rest : Found → Setting → Case) (found : Found) (judged : Judged) → Passes at caller (case at) → Comes at found → IsFinished at (rest found at) judged → IsJudged at caller (asks_then Found case Comes rest) judged
+IsJudged-came Found at caller case Comes rest found judged passes comes finished = record {
   first = asks-passed at caller case (GoesOn Found Comes rest at ∷ []) (judgement_of judged) passes (inl (found, comes, finished.first));
   kept = finished.kept;
 }
-IsJudged-came Found at caller case Comes rest found (Err e) passes comes finished = tt
+
+pub IsJudged-came-so : {E : Type 0} (Found : Type 0) (at : Setting) (caller : Caller) (case : Setting → Case) (Comes : Setting → Found → Type 0) (rest : Found → Setting → Case) (found : Found) (result : Result Judged E) → Passes at caller (case at) → Comes at found → IfOk result (IsFinished at (rest found at)) → IfOk result (IsJudged at caller (asks_then Found case Comes rest))
+IsJudged-came-so Found at caller case Comes rest found (Ok judged) passes comes finished = IsJudged-came Found at caller case Comes rest found judged passes comes finished
+IsJudged-came-so Found at caller case Comes rest found (Err e) passes comes finished = tt
 
 -- a rule ends it, or what it does is judged
 pub IsFinished-ruled : (at : Setting) (case : Case) (judged : Judged) (a : Answer) → judged.answer ≡ a → judged.change ≡ None → IsFirstRule case.rules (Some a) → IsFinished at case judged

@@ -83,10 +83,18 @@ pub(crate) fn judge_trigger(
     if let Some(answer) = refusal(alloc, caller, &call, &at)? {
         return Ok(Judged::only(answer));
     }
-    match firing_of(alloc, &call.trigger, &at)? {
+    let firing = firing_of(alloc, &call.trigger, &at)?;
+    match firing {
         Firing::Refuses(answer) => Ok(Judged::only(answer)),
         Firing::Makes(creation) => {
-            finish(alloc, CreateTask { creation }, config, tables, moment, drawn)
+            finish(
+                alloc,
+                CreateTask { creation },
+                config,
+                tables,
+                moment,
+                drawn,
+            )
         }
     }
 }
