@@ -4,6 +4,7 @@ pub mod DenialLemmas
 pub mod ExpressionLemmas
 pub mod FaultLemmas
 pub mod FiredLemmas
+pub mod FiringLemmas
 pub mod HookLawLemmas
 pub mod OnceLemmas
 pub mod OrderLemmas
