@@ -22,30 +22,8 @@ parse_so source (Err (syntax_fault i)) same is bad deep = λ has. tree_or_bad so
 parse_so source (Err too_deep_fault) same is bad deep = deep refl
 parse_so source (Err parse_memory) same is bad deep = tt
 
-pub by_tree : (source : List ℕ) (scopes : List Document) (n : ℕ) (r : Result ExprTree ParseFault) (tree : ExprTree) (p : EvalOutcome) → r ≡ Ok tree
-    → ((t : Shape) → tree.nodes.items ≡ postfix t → IsOutcome (record { source = tree.text.now; scopes = scopes }) t n p) → IsParse source r → Evaluated source scopes n (told p)
-by_tree source scopes n r tree p e evaluates h =
-    let (same, is) = subst (IsParse source) e h in
-    inl (record {
-      tree = is.tree;
-      of_text = is.of_text;
-      shallow = is.shallow;
-      value = p;
-      evaluated = subst (λ (x : List ℕ). IsOutcome (record { source = x; scopes = scopes }) is.tree n p) same (evaluates is.tree is.written);
-      is = refl;
-    })
-
-pub no_expression : (source : List ℕ) (scopes : List Document) (n : ℕ) (r : Result ExprTree ParseFault) (i : ℕ) → r ≡ Err (syntax_fault i) → IsParse source r → Evaluated source scopes n (faulted Syntax [])
-no_expression source scopes n r i e h = inr (inr (subst (IsParse source) e h, refl))
-
-pub deep_expression : (source : List ℕ) (scopes : List Document) (n : ℕ) (r : Result ExprTree ParseFault) → r ≡ Err too_deep_fault → IsParse source r → Evaluated source scopes n (faulted TooDeep [])
-deep_expression source scopes n r e h = inr (inl (subst (IsParse source) e h, refl))
-
 pub parsed_tree : (source : List ℕ) (tree : ExprTree) → IsParsed source tree.nodes.items → HasTree source
 parsed_tree source tree is = (is.tree, is.of_text)
 
 pub deep_tree : (source : List ℕ) → IsTooDeep source → HasTree source
 deep_tree source is = (is.tree, is.of_text)
-
-pub bad_text : (source : List ℕ) (i : ℕ) → IsBadByte source i → ¬ HasTree source
-bad_text source i bad has = tree_or_bad source has.0 i has.1 bad

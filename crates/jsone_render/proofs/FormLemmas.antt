@@ -99,6 +99,3 @@ pub by_more : (o : Others) (operator : Operator) (ms : Members) → o ≡ more_o
 by_more o operator ms e ks are =
     let (a, b, more, is) = subst (λ x. AreOthers x ks) e are in
     subst (λ l. ByOthers l operator ms (faulty BadOperator)) (sym is) refl
-
-pub by_operator : (ms : Members) (f : Form) (r : Result (Option Operator) Fault) → r ≡ operator_in (keys_of ms) → ByOperator r ms f → IsForm ms f
-by_operator ms f r e h = subst (λ x. ByOperator x ms f) e h

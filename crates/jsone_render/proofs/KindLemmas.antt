@@ -19,14 +19,6 @@ no_map ms (whole z) ds h = refl
 no_map ms (text bs) ds h = refl
 no_map ms (array es) ds h = refl
 
-pub no_list : (d : Document) (ds : List Document) → IsNoList d → flattened (d ∷ ds) ≡ d ∷ flattened ds
-no_list (array es) ds h = absurd h
-no_list null ds h = refl
-no_list (boolean b) ds h = refl
-no_list (whole z) ds h = refl
-no_list (text bs) ds h = refl
-no_list (object ms) ds h = refl
-
 pub no_text : {A : Type 0} (x : Option Document) (Is : List ℕ → Outcome A → Type 0) → IsNoText x → OfText x Is (faulted WrongKind [])
 no_text (Some (text bs)) Is h = absurd h
 no_text (Some null) Is h = refl
