@@ -28,11 +28,12 @@ pub struct States {}
 impl Model for States {
     ghost use Rattle.std.specs.Coded.{codes};
     ghost use Rattle.task_defs.specs.Codes.{members_code};
+    ghost use Rattle.hook_fire.specs.Codes.{document_code};
     ghost use Rattle.farm_machine.specs.State.{State, empty_state, no_config};
 
     ghost Value = { State };
 
-    ghost coded = { Prim.hlevel (codes, members_code) };
+    ghost coded = { Prim.hlevel (codes, members_code, document_code) };
 
     ghost view = { λ _. empty_state no_config };
 }
@@ -43,11 +44,12 @@ pub struct Entries {}
 impl Model for Entries {
     ghost use Rattle.std.specs.Coded.{codes};
     ghost use Rattle.task_defs.specs.Codes.{members_code};
+    ghost use Rattle.hook_fire.specs.Codes.{document_code};
     ghost use Rattle.farm_machine.specs.Entry.{Entry, tick};
 
     ghost Value = { Entry };
 
-    ghost coded = { Prim.hlevel (codes, members_code) };
+    ghost coded = { Prim.hlevel (codes, members_code, document_code) };
 
     ghost view = { λ _. tick 0 };
 }
@@ -58,13 +60,14 @@ pub struct Openings {}
 impl Model for Openings {
     ghost use Rattle.std.specs.Coded.{codes};
     ghost use Rattle.task_defs.specs.Codes.{members_code};
+    ghost use Rattle.hook_fire.specs.Codes.{document_code};
     ghost use Rattle.std.specs.Prelude.{[]};
     ghost use Rattle.farm_machine.specs.Law.{Opening};
     ghost use Rattle.farm_machine.specs.State.{empty_state, no_config};
 
     ghost Value = { Opening };
 
-    ghost coded = { Prim.hlevel (codes, members_code) };
+    ghost coded = { Prim.hlevel (codes, members_code, document_code) };
 
     ghost view = { λ _. record { state = empty_state no_config; records = []; faults = 0 } };
 }

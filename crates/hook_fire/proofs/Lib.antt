@@ -1,3 +1,4 @@
+pub mod BookLemmas
 pub mod ContextLemmas
 pub mod DefaultLemmas
 pub mod FiringLemmas

@@ -1,3 +1,5 @@
+pub mod Codes
 pub mod Contexts
 pub mod Defaults
 pub mod Firing
+pub mod Hooks
