@@ -18,7 +18,7 @@ use Rattle.toml.specs.Data.{Data, string, integer, float, boolean, datetime, arr
 use Rattle.toml.specs.View.{view, items_of}
 use Rattle.toml.specs.declared.value.Value.{Value}
 use Rattle.farm_files.specs.declared.fault.Rule.{Rule}
-use Rattle.farm_files.specs.declared.fault.Rule.TheVariants.{NotToml, UnknownKey, MissingKey, WrongKind, OutOfForm, RepeatedId, ParameterCycle, TooLong}
+use Rattle.farm_files.specs.declared.fault.Rule.TheVariants.{NotToml, UnknownKey, MissingKey, WrongKind, OutOfForm, RepeatedId, ParameterCycle, NotJson, TooLong}
 use Rattle.farm_files.specs.declared.fault.RowFault.{RowFault}
 use Rattle.farm_files.specs.declared.fault.RowFault.TheVariants as rows
 use Rattle.farm_files.specs.declared.fault.Table.{Table}
@@ -83,6 +83,7 @@ module _ (ms : Members) (id scopes : Data) (only : has_only role_keys ms ≡ tru
       (record { only = only; keys = keys; kinds = kinds h.0 h.1 }, λ form. h.2 (subst (λ o. All (All IsPrintable) (texts_in o)) (sym e2) form.printable))
   keys_from_values (Err (rows.Breaks RepeatedId)) h = absurd h
   keys_from_values (Err (rows.Breaks ParameterCycle)) h = absurd h
+  keys_from_values (Err (rows.Breaks NotJson)) h = absurd h
   keys_from_values (Err (rows.Breaks TooLong)) h = absurd h
   keys_from_values (Err rows.NoMemory) h = tt
 

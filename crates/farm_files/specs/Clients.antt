@@ -53,9 +53,9 @@ pub record HasRowClientForm (text : ClientText) : Type 0 where
   pub scopes_form : All (HasHandedInForm 4096) text.scopes
   pub moment : (m : ℕ) × IsDateTime m text.expires
 
--- the rows of `[[client]]`
+-- the rows of `[[client]]`, in which no JSON stands
 abbrev pub client_rows : Kind ClientText
-client_rows = record { keys = client_keys; HasKeys = HasClientKeys; HasKinds = HasClientKinds; says = client_in; HasForm = HasRowClientForm; id_of = λ text. text.id }
+client_rows = record { keys = client_keys; HasKeys = HasClientKeys; HasKinds = HasClientKinds; says = client_in; HasForm = HasRowClientForm; id_of = λ text. text.id; HasJson = λ text. Unit {0} }
 
 -- the client that a row says: its expiry is the moment that is written
 pub record IsClientFrom (text : ClientText) (client : ClientData) : Type 0 where
