@@ -1,11 +1,20 @@
 -- Hooks, beside what their rows say.
-use Rattle.std.proofs.Common.{◌≡◌, ℕ, suc, List, [], ◌∷◌, ◌++◌, Some, refl, sym, ap, ◌∙◌}
-use Rattle.std.specs.Prelude.{slice_get}
+use Rattle.std.proofs.Common.{◌≡◌, ℕ, suc, List, [], ◌∷◌, ◌++◌, Some, Result, Ok, Err, String, Global, refl, sym, ap, ◌∙◌, subst}
+use Rattle.std.specs.BTreeSet.{BTreeSet}
+use Rattle.std.specs.Prelude.{slice_get, MatchResult}
 use Rattle.farm_text.specs.Document.{Document, data_of}
 use Rattle.farm_text.specs.Reading.{IsJson, unwhole}
 use Rattle.hawk_auth.proofs.DataLemmas.{IsJson-one}
-use Rattle.hook_fire.specs.Hooks.{HookData}
-use Rattle.farm_files.specs.Hooks.{HookText, IsTemplateText, HasTemplate, IsHookFrom, AreHooks}
+use Rattle.hook_fire.specs.declared.firing.Hook.{Hook}
+use Rattle.hook_fire.specs.Hooks.{HookData, hook_data}
+use Rattle.toml.specs.Data.{Data, Members, as_table}
+use Rattle.farm_files.specs.declared.fault.Rule.TheVariants.{NotToml, UnknownKey, MissingKey, WrongKind, OutOfForm, RepeatedId, ParameterCycle, NotJson, TooLong}
+use Rattle.farm_files.specs.declared.fault.RowFault.{RowFault}
+use Rattle.farm_files.specs.declared.fault.RowFault.TheVariants as rows
+use Rattle.farm_files.specs.Hooks.{HookText, hook_in, hook_rows, name_of, IsTemplateText, HasTemplate, IsHookFrom, AreHooks}
+use Rattle.farm_files.specs.Parts.{IsSoundRow, RefusesJson, RefusesRowBehind}
+use Rattle.farm_files.specs.Rows.{says_of}
+use Rattle.farm_files.proofs.RuleLemmas.{table_is}
 
 hook_is : (h k : HookData) → h.group ≡ k.group → h.id ≡ k.id → h.template ≡ k.template → h ≡ k
 hook_is h k group id template =
@@ -39,6 +48,9 @@ some_hooks (t ∷ ts) have none =
     (λ p. some_hooks ts (λ k u e. have (suc k) u e)
     (λ hs are. none (record { group = t.group; id = t.id; template = p.0 } ∷ hs) (record { group = refl; id = refl; template = p.1 }, are)))
 
+pub named : (t : HookText) (name group id : List ℕ) → name ≡ group ++ 47 ∷ id → group ≡ t.group → id ≡ t.id → name ≡ name_of t
+named t name group id is group_is id_is = is ∙ ap (λ g. g ++ 47 ∷ id) group_is ∙ ap (λ i. t.group ++ 47 ∷ i) id_is
+
 -- a text with a number that is not whole is no template
 pub not_whole : (text path : List ℕ) (d : _) (more : List (List ℕ)) → IsJson text d → unwhole d ≡ path ∷ more → (template : Document) → ¬ IsTemplateText text template
 not_whole text path d more json broken template is =
@@ -46,3 +58,23 @@ not_whole text path d more json broken template is =
     let one : d ≡ data_of template = cc in
     let none : unwhole d ≡ [] = ap unwhole one ∙ is.whole in
     absurd (cc)
+
+-- ---- what the template of a row decides
+
+module _ (names : BTreeSet (String Global)) (i : ℕ) (d : Data) (ms : Members) (said : HookText) (is : Some ms ≡ as_table d) (same : said ≡ hook_in ms)
+    (taken : HasTemplate (hook_in ms) → IsSoundRow hook_rows names i d) (refused : ¬ HasTemplate (hook_in ms) → RefusesRowBehind hook_rows names i d (rows.Breaks NotJson)) where
+  pub row_made : (r : Result Hook RowFault) → MatchResult r (λ hook. IsHookFrom said (hook_data hook)) (RefusesJson said.task)
+      → MatchResult r (λ hook. IsSoundRow hook_rows names i d × IsHookFrom (says_of hook_rows d) (hook_data hook)) (RefusesRowBehind hook_rows names i d)
+  row_made (Ok hook) h =
+      let from : IsHookFrom (hook_in ms) (hook_data hook) = subst (λ t. IsHookFrom t (hook_data hook)) same h in
+      (taken ((hook_data hook).template, from.template), subst (λ x. IsHookFrom (says_of hook_rows x) (hook_data hook)) (sym (table_is d ms is)) from)
+  row_made (Err (rows.Breaks NotJson)) h = refused (λ has. h has.0 (subst (λ (t : HookText). IsTemplateText t.task has.0) (sym same) has.1))
+  row_made (Err (rows.Breaks NotToml)) h = absurd h
+  row_made (Err (rows.Breaks UnknownKey)) h = absurd h
+  row_made (Err (rows.Breaks MissingKey)) h = absurd h
+  row_made (Err (rows.Breaks WrongKind)) h = absurd h
+  row_made (Err (rows.Breaks OutOfForm)) h = absurd h
+  row_made (Err (rows.Breaks RepeatedId)) h = absurd h
+  row_made (Err (rows.Breaks ParameterCycle)) h = absurd h
+  row_made (Err (rows.Breaks TooLong)) h = absurd h
+  row_made (Err rows.NoMemory) h = λ es are. tt

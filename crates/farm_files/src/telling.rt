@@ -141,7 +141,9 @@ fn told_of_repeat(alloc: Global, rows: &[Value], fault: &Fault) -> Result<String
     let header = header_of(fault.table);
     let earlier = first_named(rows, fault);
     match fault.table {
-        Table::Hook => format!(in alloc; "{header} {row}: row {earlier} has this group and id, too"),
+        Table::Hook => format!(in alloc;
+            "{header} {row}: row {earlier} has this group and id, too"
+        ),
         _ => format!(in alloc; "{header} {row}: row {earlier} has this id, too"),
     }
 }

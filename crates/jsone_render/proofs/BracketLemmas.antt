@@ -1,6 +1,6 @@
 -- In an expression each bracket that begins ends, and each text in quotes, so no `}` stands outside of them.
-use Rattle.std.proofs.Common.{◌≡◌, ℕ, zero, suc, ◌+◌, ◌-◌, ◌<◌, ◌≤◌, Bool, true, false, not, cond, ◌==◌, ◌||◌, ◌⊎◌, inl, inr, if◌then◌else◌, List, [], ◌∷◌, ◌++◌, length, take, drop, slice_index, codes, Option, Some, None, unwrap_or, refl, sym, ap, ◌∙◌, subst, arith, length-drop, add-one, sub-one}
-use Rattle.std.proofs.lemmas.Bool.{and_parts, or_parts, ne_eqb, eqb-true, both_ways, false≢true, cases_Bool, cases_lt}
+use Rattle.std.proofs.Common.{◌≡◌, ℕ, zero, suc, ◌+◌, ◌-◌, ◌<◌, ◌≤◌, Bool, true, false, cond, ◌==◌, ◌||◌, ◌⊎◌, inl, inr, List, [], ◌∷◌, ◌++◌, length, take, drop, slice_index, codes, Option, Some, None, unwrap_or, refl, sym, ap, ◌∙◌, subst, arith, add-one}
+use Rattle.std.proofs.lemmas.Bool.{and_parts, ne_eqb, both_ways, false≢true, cases_Bool, cases_lt}
 use Rattle.std.proofs.lemmas.List.{drop_all, take_more, take-take, take-append-drop, drop-drop}
 use Rattle.std.proofs.lemmas.Slice.Eq.{bytes_eq-Decides}
 use Rattle.std.proofs.Math.Dec.{eqb-suc-zero}
@@ -9,14 +9,13 @@ use Rattle.std.specs.Char.{is_ascii_digit}
 use Rattle.std.specs.Map.{lookup}
 use Rattle.std.specs.Option.{option_and_then}
 use Rattle.std.specs.Str.{bytes_eq}
-use Rattle.jsone_expr.specs.declared.marks.Operator.TheVariants.{Or, And, Within, Equal, NotEqual, Below, AtMost, Above, AtLeast, Plus, Minus, Times, Over, Power}
+use Rattle.jsone_expr.specs.declared.marks.Operator.TheVariants.{Or, And, Equal, NotEqual, Below, AtMost, Above, AtLeast, Plus, Minus, Times, Over, Power}
 use Rattle.jsone_expr.specs.declared.marks.Sign.{Sign}
 use Rattle.jsone_expr.specs.declared.marks.Sign.TheVariants.{Denied, Negative, Positive}
-use Rattle.jsone_expr.specs.declared.marks.Literal.TheVariants.{True, False, Null}
 use Rattle.jsone_expr.specs.declared.marks.Mark.{Mark}
 use Rattle.jsone_expr.specs.declared.marks.Mark.TheVariants.{Bang, Dot, Comma, Colon, OpenRound, CloseRound, OpenSquare, CloseSquare, OpenCurly, CloseCurly, Unknown}
 use Rattle.jsone_expr.specs.declared.tokens.Token.{Token}
-use Rattle.jsone_expr.specs.declared.tokens.Token.TheVariants.{Digits as digits, Quoted as quoted, Word as word, Literal as literal_word, Operator as operator, Mark as mark}
+use Rattle.jsone_expr.specs.declared.tokens.Token.TheVariants.{Digits as digits, Quoted as quoted, Word as word, Operator as operator, Mark as mark}
 use Rattle.jsone_expr.specs.declared.tokens.Word.{Word}
 use Rattle.jsone_expr.specs.declared.tokens.Key.{Key}
 use Rattle.jsone_expr.specs.declared.tokens.Key.TheVariants.{Plain as plain, InQuotes as in_quotes}
@@ -24,13 +23,11 @@ use Rattle.jsone_expr.specs.declared.tokens.Piece.{Piece}
 use Rattle.jsone_expr.specs.Trees.{Tree, number, text, literal, name, unary, binary, group, member, index, slice, call, items, entries, Side, absent, present, Trees, no_trees, tree, Fields, no_fields, field}
 use Rattle.jsone_expr.specs.Grammar.{sign_token, key_token, spelled, side_spelled, trees_spelled, fields_spelled}
 use Rattle.jsone_expr.specs.Tokens.{is_space, is_quote, is_letter, is_word_byte, closes, words, symbols, word_token, only_if, token_at, IsToken, IsUnknown, behind_spaces, AreTokens}
-use Rattle.jsone_expr.specs.Texts.{token_list, IsTree}
+use Rattle.jsone_expr.specs.Texts.{token_list}
 use Rattle.jsone_render.specs.declared.ends.Place.{Place}
 use Rattle.jsone_render.specs.declared.ends.Place.TheVariants.{Outside, Quoted}
 use Rattle.jsone_render.specs.Ends.{opens, shuts, opened, shut, beside, behind}
 use Rattle.jsone_render.specs.Expressions.{HasTree}
-use Rattle.jsone_render.specs.Texts.{NoneEnds}
-use Rattle.jsone_render.specs.Answers.{EndsOnlyAt}
 
 -- ---- the tokens of a tree
 

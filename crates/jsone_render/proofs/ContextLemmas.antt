@@ -1,5 +1,5 @@
 -- A template whole, with its context.
-use Rattle.std.proofs.Common.{◌≡◌, ℕ, Bool, true, false, List, [], ◌∷◌, Option, Some, Err, refl, sym, ap, subst, ◌∙◌}
+use Rattle.std.proofs.Common.{◌≡◌, ℕ, Bool, true, false, List, [], ◌∷◌, Option, Some, refl, sym, ap, subst, ◌∙◌}
 use Rattle.std.specs.Bool.{MatchBool}
 use Rattle.std.specs.List.{list_all}
 use Rattle.farm_text.specs.Document.{Document, null, boolean, whole, text, array, object, Members}
@@ -7,14 +7,11 @@ use Rattle.farm_text.specs.Doc.{document, documents}
 use Rattle.jsone_values.specs.declared.faults.Fault.TheVariants.{BadContext}
 use Rattle.jsone_eval.specs.declared.context.Context.{Context}
 use Rattle.jsone_eval.specs.Scopes.{scopes_of}
-use Rattle.jsone_render.specs.declared.faults.RenderFault.{RenderFault}
-use Rattle.jsone_render.specs.declared.faults.RenderFault.TheVariants.{Fault as a_fault, TooMuchWork, NoMemory}
-use Rattle.jsone_render.specs.Answers.{Answers, IsAnswer, LacksMap, found_in}
+use Rattle.jsone_render.specs.Answers.{LacksMap}
 use Rattle.jsone_render.specs.Maps.{keys_of}
 use Rattle.jsone_render.specs.Names.{is_name}
 use Rattle.jsone_render.specs.Outcomes.{Outcome, given, faulted, or_null, Operand}
 use Rattle.jsone_render.specs.Templates.{Renders, IsRendered}
-use Rattle.jsone_render.proofs.OutcomeLemmas.{fault_through}
 
 -- nothing is bound but the names of the context
 pub only_scope : (c : Context) (d : Document) → document c.outermost.now ≡ d → c.bindings.items ≡ [] → scopes_of c ≡ d ∷ []

@@ -1,5 +1,5 @@
 -- Where an expression in a text ends, and what is left behind it.
-use Rattle.std.proofs.Common.{◌≡◌, ℕ, ◌+◌, ◌<◌, List, [], ◌∷◌, ◌++◌, length, take, drop, slice_index, Bool, true, suc, Some, sym, ap, subst, ◌∙◌, arith, length-append, add-one, drop-cons}
+use Rattle.std.proofs.Common.{◌≡◌, ℕ, ◌+◌, ◌<◌, List, ◌∷◌, ◌++◌, length, take, drop, slice_index, Bool, true, suc, Some, sym, ap, subst, ◌∙◌, arith, length-append, add-one, drop-cons}
 use Rattle.std.specs.Bool.{MatchBool}
 use Rattle.std.specs.Str.{IsUtf8, IsCharBoundary}
 use Rattle.std.proofs.lemmas.Bool.{MatchBool-at_true}

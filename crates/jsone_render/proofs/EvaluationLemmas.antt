@@ -1,19 +1,12 @@
 -- An expression's text, and what it comes to.
-use Rattle.std.proofs.Common.{◌≡◌, ℕ, List, [], Result, Ok, Err, IfOk, inl, inr, refl, subst}
-use Rattle.farm_text.specs.Document.{Document}
-use Rattle.jsone_values.specs.declared.faults.Fault.TheVariants.{Syntax, TooDeep}
+use Rattle.std.proofs.Common.{◌≡◌, ℕ, List, Result, Ok, Err, IfOk, refl}
 use Rattle.jsone_expr.specs.declared.parser.ParseFault.{ParseFault}
 use Rattle.jsone_expr.specs.declared.parser.ParseFault.TheVariants.{Syntax as syntax_fault, TooDeep as too_deep_fault, NoMemory as parse_memory}
 use Rattle.jsone_expr.specs.declared.parser.Tree.{Tree as ExprTree}
-use Rattle.jsone_expr.specs.Postfix.{postfix}
 use Rattle.jsone_expr.specs.Texts.{IsParsed, IsTooDeep, IsBadByte}
-use Rattle.jsone_expr.specs.Trees.{Tree as Shape}
 use Rattle.jsone_expr.proofs.TextLemmas.{tree_or_bad}
-use Rattle.jsone_eval.specs.Outcomes.{Outcome as EvalOutcome}
-use Rattle.jsone_eval.specs.Values.{IsOutcome}
 use Rattle.jsone_render.specs.Answers.{IsParse}
-use Rattle.jsone_render.specs.Expressions.{told, HasTree, Evaluated}
-use Rattle.jsone_render.specs.Outcomes.{faulted}
+use Rattle.jsone_render.specs.Expressions.{HasTree}
 
 pub parse_so : (source : List ℕ) (r : Result ExprTree ParseFault) → IfOk r (λ tree. tree.text.now ≡ source) → IfOk r (λ tree. IsParsed source tree.nodes.items)
     → ((i : ℕ) → r ≡ Err (syntax_fault i) → IsBadByte source i) → (r ≡ Err too_deep_fault → IsTooDeep source) → IsParse source r

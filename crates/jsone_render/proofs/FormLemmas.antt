@@ -1,17 +1,15 @@
 -- The form of a map, step by step.
-use Rattle.std.proofs.Common.{◌≡◌, ℕ, suc, true, false, List, [], ◌∷◌, ◌++◌, get_or, Option, Result, inl, refl, sym, ap, ap₂, subst, ◌∙◌, arith, Bor}
+use Rattle.std.proofs.Common.{◌≡◌, ℕ, suc, true, false, List, [], ◌∷◌, ◌++◌, get_or, inl, refl, sym, ap, ap₂, subst, ◌∙◌, arith, Bor}
 use Rattle.std.proofs.lemmas.Bool.{false≢true}
 use Rattle.std.proofs.lemmas.List.{append_cancel_left}
 use Rattle.std.specs.List.{list_all}
 use Rattle.farm_text.specs.Document.{Members}
-use Rattle.jsone_values.specs.declared.faults.Fault.{Fault}
 use Rattle.jsone_values.specs.declared.faults.Fault.TheVariants.{BadOperator}
 use Rattle.jsone_render.specs.declared.keys.Others.{Others}
 use Rattle.jsone_render.specs.declared.keys.Others.TheVariants.{None as no_others, One as one_other, More as more_others}
 use Rattle.jsone_render.specs.declared.operators.Operator.{Operator}
 use Rattle.jsone_render.specs.Answers.{AreOthers}
-use Rattle.jsone_render.specs.Forms.{Form, faulty, binding, operator_in, has_words, binding_word, takes_names, Binds, ByOthers, ByOperator, IsForm}
-use Rattle.jsone_render.specs.Maps.{keys_of}
+use Rattle.jsone_render.specs.Forms.{Form, faulty, binding, has_words, binding_word, takes_names, Binds, ByOthers}
 use Rattle.jsone_render.specs.Names.{is_name, between_commas, are_distinct, IsBinder}
 use Rattle.jsone_render.proofs.BinderLemmas.{Lacks, name_lacks, has_comma, both, same_inside}
 

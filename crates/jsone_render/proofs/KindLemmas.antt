@@ -3,7 +3,7 @@ use Rattle.std.proofs.Common.{◌≡◌, ℕ, List, [], ◌∷◌, ◌++◌, Opt
 use Rattle.farm_text.specs.Document.{Document, null, boolean, whole, whole as integer, text, array, object, items_of, Members}
 use Rattle.jsone_values.specs.declared.faults.Fault.TheVariants.{WrongKind}
 use Rattle.jsone_values.specs.Members.{listed}
-use Rattle.jsone_render.specs.Answers.{IsNoMap, IsNoList, IsNoText}
+use Rattle.jsone_render.specs.Answers.{IsNoMap, IsNoText}
 use Rattle.jsone_render.specs.Expressions.{OfText}
 use Rattle.jsone_render.specs.Merges.{merged, merged_onto, merge_of, reverse_of, flattened}
 use Rattle.jsone_render.specs.Bindings.{numbered}

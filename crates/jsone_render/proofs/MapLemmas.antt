@@ -1,12 +1,8 @@
 -- The members of a map without an operator, one after the other.
-use Rattle.std.proofs.Common.{◌≡◌, ℕ, ◌+◌, true, false, List, [], ◌∷◌, is_some, Option, Some, refl, sym, subst}
-use Rattle.std.specs.Bool.{MatchBool}
-use Rattle.farm_text.specs.Document.{Document, object, Members, member_at, put}
-use Rattle.jsone_values.specs.declared.faults.Fault.TheVariants.{KeyTwice}
-use Rattle.jsone_render.specs.Maps.{key_text, KeysRender}
-use Rattle.jsone_render.specs.Outcomes.{Outcome, given, faulted, pay}
-use Rattle.jsone_render.specs.Texts.{Written}
-use Rattle.jsone_render.proofs.OutcomeLemmas.{loop_step}
+use Rattle.std.proofs.Common.{◌≡◌, ℕ, ◌+◌, List, [], Option, Some, sym, subst}
+use Rattle.farm_text.specs.Document.{Document, object, Members}
+use Rattle.jsone_render.specs.Maps.{KeysRender}
+use Rattle.jsone_render.specs.Outcomes.{Outcome, pay}
 
 abbrev pub Rest : Type 0
 Rest = List (List ℕ × Document)

@@ -19,11 +19,10 @@ use Rattle.jsone_render.specs.declared.faults.RenderFault.{RenderFault}
 use Rattle.jsone_render.specs.declared.operators.Operator.{Operator}
 use Rattle.jsone_render.specs.declared.operators.Operator.TheVariants.{Eval, If, Switch, Match, Let, Map, Reduce, Find, Sort, FromNow}
 use Rattle.jsone_render.specs.Answers.{Answers, Kept, IsUnder, IsNoMap, IsNoList, LacksMap, Finishes, branch_taken, found_in, strings_in}
-use Rattle.jsone_render.specs.Bindings.{LetIn, numbered, turns_of, EachRenders, MappedOver, TurnsReduce, ReducedOver}
+use Rattle.jsone_render.specs.Bindings.{LetIn, numbered, EachRenders, MappedOver, TurnsReduce, ReducedOver}
 use Rattle.jsone_render.specs.Conditions.{Taken, OneTaken, SwitchRenders, MatchRenders}
 use Rattle.jsone_render.specs.Forms.{Form, IsForm, key_of}
 use Rattle.jsone_render.specs.Maps.{keys_of, kept_at, KeysRender}
-use Rattle.jsone_render.specs.Merges.{merged}
 use Rattle.jsone_render.specs.Names.{is_name}
 use Rattle.jsone_render.specs.Outcomes.{Outcome, given, faulted, pay, worth, at_operator, as_found, kept, After, Meaning, Operand}
 use Rattle.jsone_render.specs.Templates.{Given, SpanRenders, AloneRenders, BoundOver, Under, Renders, ItemsRender, ValuesRender, MemberRenders, BranchRenders, FormRenders}
