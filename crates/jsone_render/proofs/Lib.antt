@@ -6,6 +6,7 @@ pub mod EvaluationLemmas
 pub mod PathLemmas
 pub mod ScopeLemmas
 pub mod CutLemmas
+pub mod TokenLemmas
 pub mod BracketLemmas
 pub mod TextLemmas
 pub mod TemplateLemmas
