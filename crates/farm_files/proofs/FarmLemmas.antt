@@ -14,7 +14,7 @@ use Rattle.farm_files.specs.declared.fault.Rule.{Rule}
 use Rattle.farm_files.specs.declared.fault.Rule.TheVariants.{NotToml, UnknownKey, MissingKey, WrongKind, OutOfForm, RepeatedId, ParameterCycle, NotJson, TooLong}
 use Rattle.farm_files.specs.declared.fault.Fault.{Fault}
 use Rattle.farm_files.specs.Faults.{rule_number, fault_at, turn, IsBefore, IsFirst, IsLeastRule}
-use Rattle.farm_files.specs.Values.{has_only, list_of}
+use Rattle.farm_files.specs.Values.{has_only}
 use Rattle.farm_files.specs.Clients.{AreClients, client_rows, clients_in}
 use Rattle.farm_files.specs.Hooks.{AreHooks, hook_rows, hooks_in}
 use Rattle.farm_files.specs.Roles.{LiesOnCycle, role_rows, roles_in}

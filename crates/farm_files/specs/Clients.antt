@@ -1,10 +1,9 @@
 -- What the rows of `[[client]]` say, and which rules they break (this project's own format, in TOML 1.1).
-use Rattle.std.specs.Prelude.{◌≡◌, ℕ, Bool, true, false, List, [], ◌∷◌, Option, is_some, unwrap_or, option_and_then, All, codes}
-use Rattle.std.specs.List.{list_all}
+use Rattle.std.specs.Prelude.{◌≡◌, ℕ, Bool, true, false, List, [], ◌∷◌, Option, All, codes}
 use Rattle.farm_text.specs.DateTime.{IsDateTime}
 use Rattle.scope_sets.specs.Scopes.{IsPrintable, HasHandedInForm}
 use Rattle.hawk_auth.specs.Clients.{ClientData, IsClientId, IsToken}
-use Rattle.toml.specs.Data.{Data, Members, as_bool, get_member}
+use Rattle.toml.specs.Data.{Data, Members, get_member}
 use Rattle.farm_files.specs.Rows.{Kind, said_in}
 use Rattle.farm_files.specs.Values.{has_all, is_text, are_texts, is_truth, passes, text_or, texts_in, truth_or}
 

@@ -1,4 +1,4 @@
-use Rattle.std.proofs.Common.{◌≡◌, ℕ, List, sym, ap, ◌∙◌, subst, refl, arith}
+use Rattle.std.proofs.Common.{◌≡◌, ℕ, List, sym, ◌∙◌, subst, refl, arith}
 use Rattle.std.specs.List.{list_any}
 use Rattle.std.specs.Str.{bytes_eq}
 use Rattle.std.proofs.lemmas.Bool.{false≢true}
@@ -10,7 +10,7 @@ use Rattle.toml.specs.Data.{Data}
 use Rattle.toml.specs.View.{view, table_view}
 use Rattle.farm_files.specs.Earlier.{AreIdsOf}
 use Rattle.farm_files.specs.Clients.{client_rows}
-use Rattle.farm_files.specs.Rows.{Kind, HasRowForm, says_of}
+use Rattle.farm_files.specs.Rows.{HasRowForm, says_of}
 use Rattle.farm_files.proofs.RuleLemmas.{table_is, table_refused, keys_refused, form_refused, id_refused, row_taken}
 use Rattle.farm_files.proofs.clients.read_row.Goals as goal
 

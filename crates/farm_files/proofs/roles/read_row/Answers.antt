@@ -7,7 +7,7 @@ use Rattle.toml.specs.Data.{Data}
 use Rattle.toml.specs.View.{view, table_view}
 use Rattle.farm_files.specs.Earlier.{AreIdsOf}
 use Rattle.farm_files.specs.Roles.{role_rows}
-use Rattle.farm_files.specs.Rows.{Kind, HasRowForm, says_of}
+use Rattle.farm_files.specs.Rows.{HasRowForm, says_of}
 use Rattle.farm_files.proofs.RuleLemmas.{table_is, table_refused, keys_refused, form_refused, id_refused, row_taken}
 use Rattle.farm_files.proofs.roles.read_row.Goals as goal
 
