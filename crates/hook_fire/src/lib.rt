@@ -11,7 +11,7 @@ mod laws;
 pub use book::HookBook;
 pub use fault::FireFault;
 pub use firing::{Hook, fire};
-pub use laws::{late_moments_are_not_read, the_firing_is_one};
+pub use laws::{hooks_cross_threads, late_moments_are_not_read, the_firing_is_one};
 
 #[cfg(test)]
 mod tests;

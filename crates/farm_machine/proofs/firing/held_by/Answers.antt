@@ -1,11 +1,12 @@
-use Rattle.std.proofs.Common.{◌≡◌, Option, Some, None, option_map, refl, sym, ap, ◌∙◌, subst}
-use Rattle.scope_sets.specs.Expressions.{Expression, view, missing}
-use Rattle.call_rules.specs.Policy.{create_policy}
-use Rattle.farm_machine.specs.Calls.TriggerHook.{unless_lacking}
+-- What is missing of the scopes refuses the call; where nothing is, the task is to be made.
+use Rattle.std.proofs.Common.{option_map, sym, ap, ◌∙◌}
+use Rattle.scope_sets.specs.Expressions.{view}
+use Rattle.farm_machine.proofs.FiringLemmas.{lacks-so, holds-so}
 use Rattle.farm_machine.proofs.firing.held_by.Goals as goal
 
-pub returns-in-Some : goal.returns-in-Some
-returns-in-Some c = ?
+pub returns-in_ok-hook_insufficient_scopes-in-Some : goal.returns-in_ok-hook_insufficient_scopes-in-Some
+returns-in_ok-hook_insufficient_scopes-in-Some c =
+    lacks-so c.args.creation c.args.scopes.now _ (view c.in-Some.lack) _ c.in_ok-asked.ensures (sym (ap (option_map view) c.in-Some.is) ∙ c.in_ok-lack.ensures) c.in_ok-hook_insufficient_scopes-in-Some.ensures
 
 pub returns-in-None : goal.returns-in-None
-returns-in-None c = ?
+returns-in-None c = holds-so c.args.creation c.args.scopes.now _ c.in_ok-asked.ensures (sym (ap (option_map view) c.in-None.is) ∙ c.in_ok-lack.ensures)
