@@ -22,7 +22,7 @@ use Rattle.farm_machine.specs.declared.reply.Answer.{Answer}
 use Rattle.farm_machine.specs.Access.{Access, Has, Refused}
 use Rattle.farm_machine.specs.Calls.TriggerHook.{hook_at, of_hook, Fired, unless_lacking, by_access, HookMay, fault_answer, ComesTo}
 use Rattle.farm_machine.specs.Case.{Setting}
-use Rattle.farm_machine.specs.Firings.{outcome_of}
+use Rattle.farm_machine.specs.Firings.{outcome_of, fired_by}
 use Rattle.farm_machine.specs.Replies.{not_found, expansion_limit, hook_insufficient_scopes}
 
 -- what is missing of the scopes is told
@@ -41,12 +41,12 @@ abbrev pub IsGranted : Config → HookName → Creation → Fired → Type 0
 IsGranted config name creation fired = (access : Access) × HookMay config name access × (fired ≡ by_access creation access)
 
 -- the hook has the closure of its start list
-pub grants-closure : {E : Type 0} (config : Config) (name : HookName) (creation : Creation) (roles : List RoleData) (start : List ℕ) (scopes : List (List ℕ)) (result : Result Firing E)
+pub grants-closure : {E : Type 0} (config : Config) (name : HookName) (creation : Creation) (roles : List RoleData) (start : List ℕ) (scopes : List (List ℕ)) (result : Result (Option Answer) E)
     → roles ≡ config.roles → start ≡ hook_start name → IsClosure 10_000 roles (start ∷ []) scopes
-    → IfOk result (λ firing. outcome_of firing ≡ unless_lacking creation (missing scopes (create_policy creation.definition)))
-    → IfOk result (λ firing. IsGranted config name creation (outcome_of firing))
+    → IfOk result (λ answer. fired_by creation answer ≡ unless_lacking creation (missing scopes (create_policy creation.definition)))
+    → IfOk result (λ answer. IsGranted config name creation (fired_by creation answer))
 grants-closure config name creation roles start scopes (Err e) same is closed comes = comes
-grants-closure config name creation roles start scopes (Ok firing) same is closed comes =
+grants-closure config name creation roles start scopes (Ok answer) same is closed comes =
     let over : IsClosure 10_000 config.roles (start ∷ []) scopes = subst (λ (r : List RoleData). IsClosure 10_000 r (start ∷ []) scopes) same closed in
     let of : IsClosure 10_000 config.roles (hook_start name ∷ []) scopes = subst (λ (s : List ℕ). IsClosure 10_000 config.roles (s ∷ []) scopes) is over in
     (Has scopes, (Ok scopes, of, refl), comes)

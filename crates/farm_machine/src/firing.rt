@@ -4,7 +4,7 @@ ghost use Rattle.scope_sets.specs.Expressions.{missing};
 ghost use Rattle.call_rules.specs.Policy.{create_policy as create_expression};
 ghost use Rattle.farm_machine.specs.Access.{Access};
 ghost use Rattle.farm_machine.specs.Calls.TriggerHook.{hook_at, ComesTo, HookMay, by_access, fault_answer, unless_lacking};
-ghost use Rattle.farm_machine.specs.Firings.{outcome_of};
+ghost use Rattle.farm_machine.specs.Firings.{outcome_of, fired_by};
 
 use crate::answers;
 use crate::case::Scene;
@@ -58,23 +58,43 @@ fn granted(
     ensures { IfOk result (λ firing. (access : Access) × HookMay at.now.state.config name.now access
         × (outcome_of firing ≡ by_access creation access)) }
 {
+    match refusal_of_hook(alloc, name, &creation, at)? {
+        Some(answer) => Ok(Firing::Refuses(answer)),
+        None => Ok(Firing::Makes(creation)),
+    }
+}
+
+/// The answer that refuses a task that a hook makes, if the hook's scopes do not hold what it asks.
+fn refusal_of_hook(
+    alloc: Global,
+    name: &HookName,
+    creation: &Creation,
+    at: &Scene<'_>,
+) -> Result<Option<Answer>, AllocError>
+    ensures { IfOk result (λ answer. (access : Access) × HookMay at.now.state.config name.now access
+        × (fired_by creation.now answer ≡ by_access creation.now access)) }
+{
     let start = hook_scope(alloc, name)?;
     match at.config.roles.roles().expand(alloc, &[start]) {
-        Ok(scopes) => held_by(alloc, &scopes, creation),
-        Err(ExpandFault::TooMany) => Ok(Firing::Refuses(answers::expansion_limit(alloc)?)),
+        Ok(scopes) => refusal_within(alloc, &scopes, creation),
+        Err(ExpandFault::TooMany) => Ok(Some(answers::expansion_limit(alloc)?)),
         Err(ExpandFault::NoMemory) => Err(AllocError),
     }
 }
 
-/// The task is to be made where these scopes hold what it asks.
-fn held_by(alloc: Global, scopes: &ScopeSet, creation: Creation) -> Result<Firing, AllocError>
-    ensures { IfOk result (λ firing. outcome_of firing
-        ≡ unless_lacking creation (missing scopes.now (create_expression creation.definition))) }
+/// The answer that refuses a task, if these scopes do not hold what it asks.
+fn refusal_within(
+    alloc: Global,
+    scopes: &ScopeSet,
+    creation: &Creation,
+) -> Result<Option<Answer>, AllocError>
+    ensures { IfOk result (λ answer. fired_by creation.now answer
+        ≡ unless_lacking creation.now (missing scopes.now (create_expression creation.now.definition))) }
 {
     let asked = create_policy(alloc, &creation.definition)?;
     match missing(alloc, scopes, &asked)? {
-        Some(lack) => Ok(Firing::Refuses(answers::hook_insufficient_scopes(alloc, &lack)?)),
-        None => Ok(Firing::Makes(creation)),
+        Some(lack) => Ok(Some(answers::hook_insufficient_scopes(alloc, &lack)?)),
+        None => Ok(None),
     }
 }
 

@@ -5,8 +5,8 @@ use Rattle.farm_machine.specs.Case.{Setting}
 use Rattle.farm_machine.proofs.FiringLemmas.{found-so, comes-made, comes-refused}
 use Rattle.farm_machine.proofs.firing.firing_of.Goals as goal
 
-pub prove-unreachable-requires : goal.prove-unreachable-requires
-prove-unreachable-requires c =
+pub unreachable-requires : goal.unreachable-requires
+unreachable-requires c =
     c.requires
     (found-so c.args.trigger.now c.args.at.now c.as_str.result.now c.as_str-2.result.now _ None c.as_str.ensures.value c.as_str-2.ensures.value
     (ap (λ (s : Setting). s.state.config.hooks) c.at.view_is) c.in_default.ensures)

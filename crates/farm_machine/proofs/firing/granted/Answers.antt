@@ -1,15 +1,14 @@
--- The hook has the closure of its start list, or too many scopes are derivable.
-use Rattle.std.proofs.Common.{ap, ◌∙◌}
-use Rattle.farm_machine.specs.Case.{Setting}
-use Rattle.farm_machine.proofs.FiringLemmas.{grants-closure, grants-too-many}
+-- What refuses the task is what comes of it; where nothing does, the task is.
+use Rattle.std.proofs.Common.{Option, subst}
+use Rattle.farm_machine.specs.declared.reply.Answer.{Answer}
+use Rattle.farm_machine.specs.Firings.{fired_by}
+use Rattle.farm_machine.proofs.FiringLemmas.{IsGranted}
 use Rattle.farm_machine.proofs.firing.granted.Goals as goal
 
-pub returns-in-Ok : goal.returns-in-Ok
-returns-in-Ok c =
-    grants-closure c.args.at.now.state.config c.args.name.now c.args.creation c.roles.result.now _ c.in-Ok.scopes c.held_by.result
-    (c.roles.ensures ∙ ap (λ (s : Setting). s.state.config.roles) c.at.view_is) c.in_ok-start.ensures c.in-Ok.ensures.closure c.held_by.ensures
+pub returns-in-Some : goal.returns-in-Some
+returns-in-Some c =
+    subst (λ (a : Option Answer). IsGranted c.args.at.now.state.config c.args.name.now c.args.creation (fired_by c.args.creation a)) c.in-Some.is c.in_ok-answer.ensures
 
-pub returns-in_ok-expansion_limit-in-Err-TooMany : goal.returns-in_ok-expansion_limit-in-Err-TooMany
-returns-in_ok-expansion_limit-in-Err-TooMany c =
-    grants-too-many c.args.at.now.state.config c.args.name.now c.args.creation c.roles.result.now _ c.in-Err-TooMany.field-0 _
-    (c.roles.ensures ∙ ap (λ (s : Setting). s.state.config.roles) c.at.view_is) c.in_ok-start.ensures c.in-Err-TooMany.field-0-is c.in-Err-TooMany.ensures.closure c.in_ok-expansion_limit-in-Err-TooMany.ensures
+pub returns-in-None : goal.returns-in-None
+returns-in-None c =
+    subst (λ (a : Option Answer). IsGranted c.args.at.now.state.config c.args.name.now c.args.creation (fired_by c.args.creation a)) c.in-None.is c.in_ok-answer.ensures
