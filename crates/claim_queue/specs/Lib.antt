@@ -3,3 +3,4 @@ pub mod Dues
 pub mod Waits
 pub mod Places
 pub mod Firsts
+pub mod Heaps

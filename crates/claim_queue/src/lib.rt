@@ -6,15 +6,20 @@
 
 mod due_rows;
 mod entries;
+mod heap;
+mod heap_edits;
 mod laws;
 mod pending;
 mod queues;
 mod room;
+mod steps;
+mod turns;
 
 pub use due_rows::{Deadlines, DueRows, Leases};
 pub use entries::rank;
 pub use laws::{the_best_is_one, the_first_due_is_one};
 pub use pending::Pending;
+pub use steps::Steps;
 
 #[cfg(test)]
 mod tests;
