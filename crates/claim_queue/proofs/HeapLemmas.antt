@@ -18,8 +18,8 @@ unfolding comes_before
 chain a b c p q = grind (arith, nat_tests)
 
 -- what is said of two turns, where they stand in another heap
-put : (heap later : List Turn) (a b c d : ℕ) → turn_at later c ≡ turn_at heap a → turn_at later d ≡ turn_at heap b → Follows heap a b → Follows later c d
-put heap later a b c d p q follows = cc
+pub follows-too : (heap later : List Turn) (a b c d : ℕ) → turn_at later c ≡ turn_at heap a → turn_at later d ≡ turn_at heap b → Follows heap a b → Follows later c d
+follows-too heap later a b c d p q follows = cc
 
 pub follows-self : (heap : List Turn) (place : ℕ) → Follows heap place place
 follows-self heap place = by (comes_before (turn_at heap place) (turn_at heap place)) refl where
@@ -33,32 +33,32 @@ module _ (heap : List Turn) (at left right : ℕ) (left_is : left ≡ 2 * at + 1
   pub right-first : comes_before (turn_at heap right) (turn_at heap left) ≡ true → (other : ℕ) → IsBelow at other → Follows heap right other
   right-first sooner other below = by (same? other left) where
     by : (other ≡ left) ⊎ (other ≢ left) → Follows heap right other
-    by (inl is) = put heap heap right left right other refl (ap (turn_at heap) is) (one_way (turn_at heap right) (turn_at heap left) sooner)
-    by (inr ne) = let is : other ≡ right = omega arith in put heap heap right right right other refl (ap (turn_at heap) is) (follows-self heap right)
+    by (inl is) = follows-too heap heap right left right other refl (ap (turn_at heap) is) (one_way (turn_at heap right) (turn_at heap left) sooner)
+    by (inr ne) = let is : other ≡ right = omega arith in follows-too heap heap right right right other refl (ap (turn_at heap) is) (follows-self heap right)
 
   pub left-first : comes_before (turn_at heap right) (turn_at heap left) ≡ false → (other : ℕ) → IsBelow at other → Follows heap left other
   left-first later other below = by (same? other left) where
     by : (other ≡ left) ⊎ (other ≢ left) → Follows heap left other
-    by (inl is) = put heap heap left left left other refl (ap (turn_at heap) is) (follows-self heap left)
-    by (inr ne) = let is : other ≡ right = omega arith in put heap heap left right left other refl (ap (turn_at heap) is) later
+    by (inl is) = follows-too heap heap left left left other refl (ap (turn_at heap) is) (follows-self heap left)
+    by (inr ne) = let is : other ≡ right = omega arith in follows-too heap heap left right left other refl (ap (turn_at heap) is) later
 
   pub left-only : length heap ≤ right → (other : ℕ) → IsBelow at other → other < length heap → Follows heap left other
-  left-only end other below lt = let is : other ≡ left = omega arith in put heap heap left left left other refl (ap (turn_at heap) is) (follows-self heap left)
+  left-only end other below lt = let is : other ≡ left = omega arith in follows-too heap heap left left left other refl (ap (turn_at heap) is) (follows-self heap left)
 
 -- ---- in order but for one place
 
 pub in-order : (heap : List Turn) (at : ℕ) → IsOrderedBut at heap → LeadsBelow at heap → FollowsAbove at heap → IsOrdered heap
 in-order heap at but leads follows = λ parent place below lt. by parent place below lt (same? parent at) (same? place at) where
   by : (parent place : ℕ) → IsBelow parent place → place < length heap → (parent ≡ at) ⊎ (parent ≢ at) → (place ≡ at) ⊎ (place ≢ at) → Follows heap parent place
-  by parent place below lt (inl is) _ = put heap heap at place parent place (ap (turn_at heap) is) refl (leads place (omega arith, omega arith) lt)
-  by parent place below lt (inr ne) (inl is) = put heap heap parent at parent place refl (ap (turn_at heap) is) (follows parent (omega arith, omega arith))
+  by parent place below lt (inl is) _ = follows-too heap heap at place parent place (ap (turn_at heap) is) refl (leads place (omega arith, omega arith) lt)
+  by parent place below lt (inr ne) (inl is) = follows-too heap heap parent at parent place refl (ap (turn_at heap) is) (follows parent (omega arith, omega arith))
   by parent place below lt (inr ne) (inr not) = but.others parent place below lt ne not
 
 pub follows-top : (heap : List Turn) → FollowsAbove 0 heap
 follows-top heap = λ parent below. absurd (omega arith)
 
 pub follows-one : (heap : List Turn) (up at : ℕ) → IsBelow up at → Follows heap up at → FollowsAbove at heap
-follows-one heap up at below follows = λ parent under. let same : parent ≡ up = omega arith in put heap heap up at parent at (ap (turn_at heap) same) refl follows
+follows-one heap up at below follows = λ parent under. let same : parent ≡ up = omega arith in follows-too heap heap up at parent at (ap (turn_at heap) same) refl follows
 
 pub leads-none : (heap : List Turn) (at : ℕ) → length heap ≤ 2 * at + 1 → LeadsBelow at heap
 leads-none heap at none = λ place below lt. absurd (omega arith)
@@ -74,9 +74,9 @@ module _ (heap later : List Turn) (at up : ℕ) (long : length later ≡ length 
     by : (parent ≡ at) ⊎ (parent ≢ at) → (place ≡ at) ⊎ (place ≢ at) → Follows later parent place
     by (inl is) _ =
         let ne : place ≢ at = omega arith in
-        put heap later up place parent place (ap (turn_at later) is ∙ x.here) (x.rest place ne place_not_up) (but.across up place below (omega arith, omega arith) (omega arith))
+        follows-too heap later up place parent place (ap (turn_at later) is ∙ x.here) (x.rest place ne place_not_up) (but.across up place below (omega arith, omega arith) (omega arith))
     by (inr ne) (inl is) = absurd (omega arith)
-    by (inr ne) (inr not) = put heap later parent place parent place (x.rest parent ne not_up) (x.rest place not place_not_up) (but.others parent place under (omega arith) ne not)
+    by (inr ne) (inr not) = follows-too heap later parent place parent place (x.rest parent ne not_up) (x.rest place not place_not_up) (but.others parent place under (omega arith) ne not)
 
   risen-across : (parent place : ℕ) → IsBelow parent up → IsBelow up place → place < length later → Follows later parent place
   risen-across parent place above under lt = by (same? place at) where
@@ -93,11 +93,11 @@ module _ (heap later : List Turn) (at up : ℕ) (long : length later ≡ length 
     over = but.others parent up above (omega arith) not_at up_not_at
 
     by : (place ≡ at) ⊎ (place ≢ at) → Follows later parent place
-    by (inl is) = put heap later parent up parent place (x.rest parent not_at not_up) (ap (turn_at later) is ∙ x.here) over
+    by (inl is) = follows-too heap later parent up parent place (x.rest parent not_at not_up) (ap (turn_at later) is ∙ x.here) over
     by (inr ne) =
         let place_not_up : place ≢ up = omega arith in
         let beside : Follows heap up place = but.others up place under (omega arith) up_not_at ne in
-        put heap later parent place parent place (x.rest parent not_at not_up) (x.rest place ne place_not_up) (chain (turn_at heap place) (turn_at heap up) (turn_at heap parent) beside over)
+        follows-too heap later parent place parent place (x.rest parent not_at not_up) (x.rest place ne place_not_up) (chain (turn_at heap place) (turn_at heap up) (turn_at heap parent) beside over)
 
   risen-leads : LeadsBelow up later
   risen-leads place under lt = by (same? place at) where
@@ -105,12 +105,12 @@ module _ (heap later : List Turn) (at up : ℕ) (long : length later ≡ length 
     back = one_way (turn_at heap at) (turn_at heap up) first
 
     by : (place ≡ at) ⊎ (place ≢ at) → Follows later up place
-    by (inl is) = put heap later at up up place x.there (ap (turn_at later) is ∙ x.here) back
+    by (inl is) = follows-too heap later at up up place x.there (ap (turn_at later) is ∙ x.here) back
     by (inr ne) =
         let place_not_up : place ≢ up = omega arith in
         let up_not_at : up ≢ at = omega arith in
         let beside : Follows heap up place = but.others up place under (omega arith) up_not_at ne in
-        put heap later at place up place x.there (x.rest place ne place_not_up) (chain (turn_at heap place) (turn_at heap up) (turn_at heap at) beside back)
+        follows-too heap later at place up place x.there (x.rest place ne place_not_up) (chain (turn_at heap place) (turn_at heap up) (turn_at heap at) beside back)
 
   pub risen : IsOrderedBut up later × LeadsBelow up later
   risen = (record { others = risen-others; across = risen-across }, risen-leads)
@@ -123,9 +123,9 @@ module _ (heap later : List Turn) (at child : ℕ) (long : length later ≡ leng
     by : (parent ≡ at) ⊎ (parent ≢ at) → (place ≡ at) ⊎ (place ≢ at) → Follows later parent place
     by (inl is) _ =
         let ne : place ≢ at = omega arith in
-        put heap later child place parent place (ap (turn_at later) is ∙ x.here) (x.rest place ne place_not_child) (first place (omega arith, omega arith) (omega arith))
-    by (inr ne) (inl is) = put heap later parent child parent place (x.rest parent ne not_child) (ap (turn_at later) is ∙ x.here) (but.across parent child (omega arith, omega arith) below within)
-    by (inr ne) (inr not) = put heap later parent place parent place (x.rest parent ne not_child) (x.rest place not place_not_child) (but.others parent place under (omega arith) ne not)
+        follows-too heap later child place parent place (ap (turn_at later) is ∙ x.here) (x.rest place ne place_not_child) (first place (omega arith, omega arith) (omega arith))
+    by (inr ne) (inl is) = follows-too heap later parent child parent place (x.rest parent ne not_child) (ap (turn_at later) is ∙ x.here) (but.across parent child (omega arith, omega arith) below within)
+    by (inr ne) (inr not) = follows-too heap later parent place parent place (x.rest parent ne not_child) (x.rest place not place_not_child) (but.others parent place under (omega arith) ne not)
 
   sunk-across : (parent place : ℕ) → IsBelow parent child → IsBelow child place → place < length later → Follows later parent place
   sunk-across parent place over under lt =
@@ -133,12 +133,12 @@ module _ (heap later : List Turn) (at child : ℕ) (long : length later ≡ leng
       let child_not_at : child ≢ at = omega arith in
       let place_not_at : place ≢ at = omega arith in
       let place_not_child : place ≢ child = omega arith in
-      put heap later child place parent place (ap (turn_at later) is ∙ x.here) (x.rest place place_not_at place_not_child) (but.others child place under (omega arith) child_not_at place_not_at)
+      follows-too heap later child place parent place (ap (turn_at later) is ∙ x.here) (x.rest place place_not_at place_not_child) (but.others child place under (omega arith) child_not_at place_not_at)
 
   sunk-follows : FollowsAbove child later
   sunk-follows parent over =
       let is : parent ≡ at = omega arith in
-      put heap later child at parent child (ap (turn_at later) is ∙ x.here) x.there (one_way (turn_at heap child) (turn_at heap at) sooner)
+      follows-too heap later child at parent child (ap (turn_at later) is ∙ x.here) x.there (one_way (turn_at heap child) (turn_at heap at) sooner)
 
   pub sunk : IsOrderedBut child later × FollowsAbove child later
   sunk = (record { others = sunk-others; across = sunk-across }, sunk-follows)

@@ -5,3 +5,4 @@ pub mod LeastLemmas
 pub mod HeapLemmas
 pub mod MoveLemmas
 pub mod StepLemmas
+pub mod EditLemmas

@@ -85,12 +85,10 @@ pub record IsPut (turn : Turn) (heap later : List Turn) (places moved : List ℕ
   pub here : IsIn turn later
   pub stay : (other : Turn) → IsIn other heap → other.row ≢ turn.row → IsIn other later
   pub come : (other : Turn) → IsIn other later → (IsIn other heap × (other.row ≢ turn.row)) ⊎ (other ≡ turn)
-  pub kept : IsKept later moved
   pub others : (row : ℕ) → row ≢ turn.row → HasNoTurn row heap → slice_index moved row ≡ slice_index places row
 
 -- a row has no turn from now on, and the other rows have theirs
 pub record IsTaken (row : ℕ) (heap later : List Turn) (places moved : List ℕ) : Type 0 where
   pub stay : (other : Turn) → IsIn other heap → other.row ≢ row → IsIn other later
   pub come : (other : Turn) → IsIn other later → IsIn other heap × (other.row ≢ row)
-  pub kept : IsKept later moved
   pub others : (other : ℕ) → HasNoTurn other heap → slice_index moved other ≡ slice_index places other
