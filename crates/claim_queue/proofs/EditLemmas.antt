@@ -3,7 +3,8 @@ use Rattle.std.proofs.Common.{◌≡◌, ◌≢◌, ℕ, suc, ◌+◌, ◌-◌, 
 use Rattle.std.proofs.lemmas.List.{get_or_append_left, get_or-take, take_at}
 use Rattle.std.proofs.Math.Seq.{get_or-append_seam}
 use Rattle.claim_queue.specs.declared.turns.Turn.{Turn}
-use Rattle.claim_queue.specs.Heaps.{turn_at, IsBelow, Follows, IsOrdered, IsOrderedBut, IsIn, KnowsPlaces, HasNoTurn, HasTurn, IsExchanged, AreMoved, IsKept, IsPut, IsTaken, AreFew, AreAtMost}
+use Rattle.claim_queue.specs.Heaps.{turn_at, IsBelow, Follows, IsOrdered, IsOrderedBut, IsIn, KnowsPlaces, HasNoTurn, HasTurn, IsExchanged, AreMoved, IsKept, IsPut, IsTaken}
+use Rattle.claim_queue.specs.Counts.{AreAtMost, AreFew}
 use Rattle.claim_queue.proofs.HeapLemmas.{same?, chain, follows-too}
 use Rattle.claim_queue.proofs.MoveLemmas.{row_at, rows-differ, not-in, none-later}
 use Rattle.claim_queue.proofs.StepLemmas.{doubled}

@@ -6,3 +6,9 @@ pub mod HeapLemmas
 pub mod MoveLemmas
 pub mod StepLemmas
 pub mod EditLemmas
+pub mod TableLemmas
+pub mod DueLemmas
+pub mod WaitLemmas
+pub mod WiderLemmas
+pub mod QueueLemmas
+pub mod ReserveLemmas

@@ -2,7 +2,8 @@
 use Rattle.std.proofs.Common.{◌≡◌, ℕ, suc, ◌+◌, ◌-◌, ◌*◌, ◌/◌, ◌^◌, ◌<◌, ◌≤◌, refl, sym, ap, ◌∙◌, subst, arith}
 use Rattle.std.proofs.Math.Nat.{mul-le-mul_left}
 use Rattle.std.proofs.lemmas.Nat.{pow-add}
-use Rattle.claim_queue.specs.Heaps.{IsBelow, AreAtMost, AreFew}
+use Rattle.claim_queue.specs.Counts.{AreAtMost, AreFew}
+use Rattle.claim_queue.specs.Heaps.{IsBelow}
 
 pub doubled : (levels : ℕ) → 2 ^ (levels + 1) ≡ 2 * 2 ^ levels
 doubled levels = let e : 2 ^ (levels + 1) ≡ 2 ^ levels * 2 = pow-add 2 levels 1 in omega arith

@@ -64,14 +64,6 @@ pub record AreMoved (heap later : List Turn) (places moved : List ℕ) : Type 0 
   pub known : KnowsPlaces later moved
   pub others : (row : ℕ) → HasNoTurn row heap → slice_index moved row ≡ slice_index places row
 
--- steps were counted, and so many at most
-abbrev pub AreAtMost : ℕ → ℕ → ℕ → Type 0
-AreAtMost most before after = (before ≤ after) × (after ≤ before + most)
-
--- steps were counted, and at most three for each level: so many levels that two to their power is at most twice the rows held and one
-abbrev pub AreFew : ℕ → ℕ → ℕ → Type 0
-AreFew count before after = (levels : ℕ) × (2 ^ levels ≤ 2 * count + 1) × AreAtMost (3 * levels) before after
-
 -- in order, and each place is known
 abbrev pub IsKept : List Turn → List ℕ → Type 0
 IsKept heap places = IsOrdered heap × KnowsPlaces heap places
@@ -92,3 +84,7 @@ pub record IsTaken (row : ℕ) (heap later : List Turn) (places moved : List ℕ
   pub stay : (other : Turn) → IsIn other heap → other.row ≢ row → IsIn other later
   pub come : (other : Turn) → IsIn other later → IsIn other heap × (other.row ≢ row)
   pub others : (other : ℕ) → HasNoTurn other heap → slice_index moved other ≡ slice_index places other
+
+-- there are more places, and those that there were stay
+abbrev pub IsWider : List ℕ → List ℕ → Type 0
+IsWider places wider = (length places ≤ length wider) × ((row : ℕ) → row < length places → slice_index wider row ≡ slice_index places row)

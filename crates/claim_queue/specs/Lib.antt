@@ -4,3 +4,6 @@ pub mod Waits
 pub mod Places
 pub mod Firsts
 pub mod Heaps
+pub mod Counts
+pub mod DueHeaps
+pub mod WaitHeaps

@@ -1,6 +1,7 @@
 //! Rows in an array heap with their places: what comes first stands first.
 ghost use Rattle.std.specs.Prelude.{◌≡◌, ◌≢◌, ℕ, ◌+◌, ◌*◌, ◌^◌, ◌<◌, ◌≤◌, length};
-ghost use Rattle.claim_queue.specs.Heaps.{turn_at, IsBelow, Follows, IsOrdered, IsOrderedBut, LeadsBelow, FollowsAbove, KnowsPlaces, IsExchanged, AreMoved, AreAtMost};
+ghost use Rattle.claim_queue.specs.Heaps.{turn_at, IsBelow, Follows, IsOrdered, IsOrderedBut, LeadsBelow, FollowsAbove, KnowsPlaces, IsExchanged, AreMoved};
+ghost use Rattle.claim_queue.specs.Counts.{AreAtMost};
 
 use crate::steps::Steps;
 use crate::turns::{Turn, comes_before};

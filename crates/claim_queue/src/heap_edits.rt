@@ -1,6 +1,7 @@
 //! Rows that get a turn in a heap, another turn, or none.
 ghost use Rattle.std.specs.Prelude.{◌≡◌, ◌+◌, ◌<◌, ◌≤◌, length, vec_capacity};
-ghost use Rattle.claim_queue.specs.Heaps.{turn_at, IsOrderedBut, KnowsPlaces, IsKept, HasTurn, HasNoTurn, IsPut, IsTaken, AreFew};
+ghost use Rattle.claim_queue.specs.Heaps.{turn_at, IsOrderedBut, KnowsPlaces, IsKept, HasTurn, HasNoTurn, IsPut, IsTaken};
+ghost use Rattle.claim_queue.specs.Counts.{AreFew};
 
 use crate::heap::{exchange, rise, settle};
 use crate::steps::Steps;

@@ -1,7 +1,9 @@
 //! Room for rows by their numbers.
-ghost use Rattle.std.specs.Prelude.{◌≡◌, ◌<◌, ◌^◌, length, MatchResult};
+ghost use Rattle.std.specs.Prelude.{◌≡◌, ◌≤◌, ◌<◌, ◌^◌, length, vec_capacity, MatchResult, OnOk};
 ghost use Rattle.claim_queue.specs.Held.{up_to};
+ghost use Rattle.claim_queue.specs.Heaps.{IsWider};
 
+use crate::turns::Turn;
 use std::alloc::AllocError;
 
 /// Makes room for all rows below a number. Where memory runs out, all stays as it was.
@@ -15,4 +17,25 @@ pub(crate) fn make_rows<T: Copy>(rows: &mut Vec<Option<T>>, below: u32) -> Resul
         return Ok(());
     }
     rows.resize(below, None)
+}
+
+/// Makes room for the places of all rows below a number. Where memory runs out, all stays as it was.
+pub(crate) fn make_places(places: &mut Vec<usize>, below: u32) -> Result<(), AllocError>
+    ensures wider { IsWider places.old.items places.new.items }
+    ensures below { OnOk result (below ≤ length places.new.items) }
+{
+    let below = below as usize;
+    if below <= places.len() {
+        return Ok(());
+    }
+    places.resize(below, 0)
+}
+
+/// Makes room for so many turns. Where memory runs out, all stays as it was.
+pub(crate) fn make_turns(heap: &mut Vec<Turn>, room: usize) -> Result<(), AllocError>
+    ensures turns { heap.new.items ≡ heap.old.items }
+    ensures memory { vec_capacity heap.old ≤ vec_capacity heap.new }
+    ensures room { OnOk result (room ≤ vec_capacity heap.new) }
+{
+    heap.reserve(room.saturating_sub(heap.len()))
 }

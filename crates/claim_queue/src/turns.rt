@@ -1,6 +1,7 @@
 //! Turns of rows, and which of two comes before the other.
 ghost use Rattle.std.specs.Prelude.{◌≡◌, ◌+◌, ◌&&◌, ◌||◌, ◌==◌, nat_lt};
 ghost use Rattle.claim_queue.specs.Heaps.{comes_before};
+ghost use Rattle.claim_queue.specs.WaitHeaps.{top_row};
 
 use crate::steps::Steps;
 use std::sync::ledger::Ledger;
@@ -27,4 +28,14 @@ fn is_less(one: Turn, other: Turn) -> bool
     ensures { result ≡ (nat_lt one.second other.second || ((one.second == other.second) && nat_lt one.row other.row)) }
 {
     one.second < other.second || (one.second == other.second && one.row < other.row)
+}
+
+/// The row of the turn at the top of a heap.
+pub(crate) fn top_row(heap: &[Turn]) -> Option<u32>
+    ensures { result ≡ top_row heap.now }
+{
+    match heap.first() {
+        Some(turn) => Some(turn.row),
+        None => None,
+    }
 }
