@@ -218,5 +218,24 @@ few-settled levels count before after le steps =
 
 -- ---- a vector whose slice was written
 
-pub written : (later items : List Turn) (len : ℕ) → length later ≡ len → take len (later ++ drop (length later) items) ≡ later
+pub written : {A : Type 0} (later items : List A) (len : ℕ) → length later ≡ len → take len (later ++ drop (length later) items) ≡ later
 written later items len long = take_at later (drop (length later) items) len long
+
+-- what is left where the last turn of a vector went, by what the calls tell
+pub put-last-leaves : (heap given mid front : List Turn) (places between : List ℕ) (hole count len : ℕ) → IsKept heap places → given ≡ heap → hole + 1 < length heap → count ≡ len → len ≡ length heap
+    → IsExchanged hole (count - 1) given mid → AreMoved given mid places between → front ≡ take (len - 1) (take len (mid ++ drop (length mid) heap))
+    → IsOrderedBut hole front × KnowsPlaces front between × IsTaken (row_at heap hole) heap front places between
+put-last-leaves heap given mid front places between hole count len kept same within is long x m left =
+    let x_heap = subst (λ (l : List Turn). IsExchanged hole (count - 1) l mid) same x in
+    let m_heap = subst (λ (l : List Turn). AreMoved l mid places between) same m in
+    let long_mid : length mid ≡ len = m_heap.long ∙ sym long in
+    let whole : take len (mid ++ drop (length mid) heap) ≡ mid = written mid heap len long_mid in
+    let last : len - 1 ≡ count - 1 = omega arith in
+    let front_is : front ≡ take (count - 1) mid = left ∙ (ap (take (len - 1)) whole ∙ ap (λ n. take n mid) last) in
+    let end_ : count - 1 + 1 ≡ length heap = omega arith in
+    let less : hole < count - 1 = omega arith in
+    subst (λ (l : List Turn). IsOrderedBut hole l × KnowsPlaces l between × IsTaken (row_at heap hole) heap l places between) (sym front_is) (
+      popped-ordered heap mid places between hole (count - 1) kept end_ less x_heap m_heap,
+      popped-known heap mid places between hole (count - 1) kept end_ less x_heap m_heap,
+      cut heap mid places between hole (count - 1) kept end_ less x_heap m_heap,
+    )

@@ -12,3 +12,5 @@ pub mod WaitLemmas
 pub mod WiderLemmas
 pub mod QueueLemmas
 pub mod ReserveLemmas
+pub mod DueMoves
+pub mod WaitMoves

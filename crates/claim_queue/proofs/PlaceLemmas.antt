@@ -1,39 +1,14 @@
 -- Entries and what they tell.
 use Rattle.std.proofs.Common.{◌≡◌, ℕ, zero, suc, ◌+◌, ◌-◌, ◌<◌, ◌≤◌, Bool, true, false, if◌then◌else◌, List, [], ◌∷◌, ◌++◌, map, length, replicate, Option, Some, None, option_map, refl, sym, ap, ◌∙◌, slice_get, slice_index_or, slice_set, subst, arith}
-use Rattle.std.specs.List.{filter, reduce, count_by}
+use Rattle.std.specs.List.{count_by}
 use Rattle.std.specs.Str.{bytes_eq}
 use Rattle.claim_queue.specs.declared.entries.Entry.{Entry}
 use Rattle.claim_queue.specs.declared.queues.Queue.{Queue}
-use Rattle.claim_queue.specs.Held.{held_from, up_to}
-use Rattle.claim_queue.specs.Waits.{Waiting, Waits, knows, raised, with_room, roomier, room_in, waits_in, count_in, spare_in, goes_before, better, best_of}
-use Rattle.claim_queue.specs.Places.{name_at, told, told_rows, ArePlaced, better_entry}
-use Rattle.claim_queue.proofs.HeldLemmas.{held_from-map, filter-map, reduce-map, within-held, count-map}
+use Rattle.claim_queue.specs.Held.{up_to}
+use Rattle.claim_queue.specs.Waits.{Waiting, Waits, knows, raised, with_room, roomier, room_in, waits_in, count_in, spare_in}
+use Rattle.claim_queue.specs.Places.{name_at, told, told_rows, ArePlaced}
+use Rattle.claim_queue.proofs.HeldLemmas.{within-held, count-map}
 use Rattle.std.proofs.lemmas.List.{map-set}
-
--- what an entry and its row tell
-abbrev tell : List Queue → Entry × ℕ → Waiting × ℕ
-tell queues r = (told queues r.0, r.1)
-
-tell-better : (queues : List Queue) (a b : Entry × ℕ) → tell queues (better_entry a b) ≡ better (tell queues a) (tell queues b)
-tell-better queues a b = by (goes_before (told [] b.0) (told [] a.0)) where
-  by : (t : Bool) → tell queues (if t then b else a) ≡ (if t then tell queues b else tell queues a)
-  by true = refl
-  by false = refl
-
-row-told : (queues : List Queue) (o : Option (Entry × ℕ)) → option_map (λ (r : Waiting × ℕ). r.1) (option_map (tell queues) o) ≡ option_map (λ (r : Entry × ℕ). r.1) o
-row-told queues None = refl
-row-told queues (Some r) = refl
-
--- the best of the entries is the best of what they tell
-pub best-told : (queues : List Queue) (rows : List (Option Entry)) (queue : List ℕ) (waits : Waits) → waits.rows ≡ told_rows queues rows
-    → best_of queue waits ≡ option_map (λ (r : Entry × ℕ). r.1) (reduce better_entry (filter (λ r. bytes_eq (told queues r.0).queue queue) (held_from 0 rows)))
-best-told queues rows queue waits is =
-    let all : held_from 0 waits.rows ≡ map (tell queues) (held_from 0 rows) = ap (held_from 0) is ∙ held_from-map (told queues) 0 rows in
-    let kept : filter (λ (r : Waiting × ℕ). bytes_eq r.0.queue queue) (held_from 0 waits.rows) ≡ map (tell queues) (filter (λ (r : Entry × ℕ). bytes_eq (told queues r.0).queue queue) (held_from 0 rows)) =
-    ap (filter (λ (r : Waiting × ℕ). bytes_eq r.0.queue queue)) all ∙ filter-map (tell queues) (λ (r : Waiting × ℕ). bytes_eq r.0.queue queue) (held_from 0 rows) in
-    let chosen : reduce better (filter (λ (r : Waiting × ℕ). bytes_eq r.0.queue queue) (held_from 0 waits.rows)) ≡ option_map (tell queues) (reduce better_entry (filter (λ (r : Entry × ℕ). bytes_eq (told queues r.0).queue queue) (held_from 0 rows))) =
-    ap (reduce better) kept ∙ reduce-map (tell queues) better_entry better (tell-better queues) (filter (λ (r : Entry × ℕ). bytes_eq (told queues r.0).queue queue) (held_from 0 rows)) in
-    ap (option_map (λ (r : Waiting × ℕ). r.1)) chosen ∙ row-told queues (reduce better_entry (filter (λ (r : Entry × ℕ). bytes_eq (told queues r.0).queue queue) (held_from 0 rows)))
 
 -- ---- the places of entries
 
@@ -151,15 +126,6 @@ told-set queues rows waits row entry name is told_ named =
 pub told-clear : (queues : List Queue) (rows : List (Option Entry)) (waits : Waits) (row : ℕ) → told_rows queues rows ≡ waits.rows → told_rows queues (slice_set rows row None) ≡ slice_set waits.rows row None
 told-clear queues rows waits row told_ =
     map-set (option_map (told queues)) rows row None ∙ ap (λ (l : List (Option Waiting)). slice_set l row None) told_
-
--- the best of the entries, by what the call has
-pub best-shown : (queues seen : List Queue) (rows found : List (Option Entry)) (name : List ℕ) (waits : Waits) (best : Option (Entry × ℕ)) → told_rows queues rows ≡ waits.rows → seen ≡ queues → found ≡ rows
-    → best ≡ reduce better_entry (filter (λ r. bytes_eq (told seen r.0).queue name) (held_from 0 found)) → option_map (λ (r : Entry × ℕ). r.1) best ≡ best_of name waits
-best-shown queues seen rows found name waits best told_ same_queues same_rows is =
-    let e : best ≡ reduce better_entry (filter (λ r. bytes_eq (told queues r.0).queue name) (held_from 0 rows)) =
-    is ∙ (ap (λ (k : List Queue). reduce better_entry (filter (λ r. bytes_eq (told k r.0).queue name) (held_from 0 found))) same_queues
-    ∙ ap (λ (k : List (Option Entry)). reduce better_entry (filter (λ r. bytes_eq (told queues r.0).queue name) (held_from 0 k))) same_rows) in
-    ap (option_map (λ (r : Entry × ℕ). r.1)) e ∙ sym (best-told queues rows name waits (sym told_))
 
 -- ---- the collection as it is seen
 

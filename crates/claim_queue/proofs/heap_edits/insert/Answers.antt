@@ -1,7 +1,7 @@
 use Rattle.std.proofs.Common.{◌≡◌, ◌++◌, [], ◌∷◌, List, ◌∙◌, rules, sym, subst, length, take, drop, slice_set}
 use Rattle.std.proofs.lemmas.List.{take_at}
 use Rattle.claim_queue.specs.declared.turns.Turn.{Turn}
-use Rattle.claim_queue.specs.Heaps.{AreMoved, IsPut}
+use Rattle.claim_queue.specs.Heaps.{AreMoved, IsKept, IsPut}
 use Rattle.claim_queue.proofs.EditLemmas.{inserted, written}
 use Rattle.claim_queue.proofs.heap_edits.insert.Goals as goal
 
@@ -19,3 +19,10 @@ returns-clause-put g c =
     written later c.push.new.self.items c.push.new.self.len (c.rise.ensures.moved.long ∙ c.deref_mut.ensures.len) in
     subst (λ (l : List Turn). IsPut turn heap l c.args.places.now c.rise.new.places) (sym is)
     (inserted heap turn later c.args.places.now c.rise.new.places c.requires.absent.0 moved)
+
+pub returns-clause-kept : goal.returns-clause-kept
+returns-clause-kept g c =
+    let later = c.rise.new.heap in
+    let is : take c.push.new.self.len (later ++ drop (length later) c.push.new.self.items) ≡ later =
+    written later c.push.new.self.items c.push.new.self.len (c.rise.ensures.moved.long ∙ c.deref_mut.ensures.len) in
+    subst (λ (l : List Turn). IsKept l c.rise.new.places) (sym is) (c.rise.ensures.ordered, c.rise.ensures.moved.known)

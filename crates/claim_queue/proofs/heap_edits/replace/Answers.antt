@@ -14,3 +14,6 @@ returns-clause-steps g c =
     let heap = c.args.heap.now in
     let levels : 2 ^ steps.0 ≤ length heap = subst (λ n. 2 ^ steps.0 ≤ n) (length-set heap _ c.args.turn) steps.1 in
     few-settled steps.0 (length heap) c.args.steps.now c.settle.new.steps levels (steps.2.0, omega (arith, steps.2.1))
+
+pub returns-clause-kept : goal.returns-clause-kept
+returns-clause-kept g c = (c.settle.ensures.ordered, c.settle.ensures.moved.known)

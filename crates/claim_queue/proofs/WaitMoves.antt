@@ -1,0 +1,103 @@
+-- What the calls of rows that wait see, and what they leave, by what the calls in them tell.
+use Rattle.std.proofs.Common.{◌≡◌, ◌≢◌, ℕ, ◌+◌, ◌-◌, ◌<◌, ◌≤◌, false, List, length, Option, Some, None, Vec, vec_capacity, refl, sym, ap, ◌∙◌, subst, slice_get, slice_set, slice_index_or, arith}
+use Rattle.std.specs.Global.{Global}
+use Rattle.std.specs.List.{count_by}
+use Rattle.std.specs.Str.{bytes_eq}
+use Rattle.claim_queue.specs.declared.entries.Entry.{Entry}
+use Rattle.claim_queue.specs.declared.queues.Queue.{Queue}
+use Rattle.claim_queue.specs.declared.turns.Turn.{Turn}
+use Rattle.claim_queue.specs.Waits.{Waiting, Waits, room_in, waits_in, count_in, spare_in, best_of}
+use Rattle.claim_queue.specs.Places.{name_at, told_rows, ArePlaced}
+use Rattle.claim_queue.specs.Firsts.{IsHeld, IsBest}
+use Rattle.claim_queue.specs.Counts.{AreFew}
+use Rattle.claim_queue.specs.Heaps.{turn_at, HasNoTurn, HasTurn, IsKept, IsPut, IsTaken}
+use Rattle.claim_queue.specs.WaitHeaps.{entry_turn, heap_at, memory_at, room_at, is_at, AreQueued, HaveHeaps}
+use Rattle.claim_queue.proofs.HeldLemmas.{within-held}
+use Rattle.claim_queue.proofs.LeastLemmas.{best-is, best-one}
+use Rattle.claim_queue.proofs.TableLemmas.{held-within}
+use Rattle.claim_queue.proofs.WaitLemmas.{heap-here, wait-absent, wait-held, wait-put, wait-taken}
+use Rattle.claim_queue.proofs.QueueLemmas.{count-place, room-here}
+use Rattle.claim_queue.proofs.ReserveLemmas.{have-more}
+
+-- the best row is what the queue's definition says
+pub best-shown : (name : List ℕ) (queues : List Queue) (rows : List (Option Waiting)) (waits : Waits) (best : Option ℕ) → queues ≡ waits.queues → rows ≡ waits.rows → IsBest name (record { queues = queues; rows = rows }) best → best ≡ best_of name waits
+best-shown name queues rows waits best same_queues same_rows is =
+    let there : IsBest name (record { queues = waits.queues; rows = waits.rows }) best =
+    subst (λ (k : List Queue). IsBest name (record { queues = k; rows = waits.rows }) best) same_queues
+    (subst (λ (r : List (Option Waiting)). IsBest name (record { queues = queues; rows = r }) best) same_rows is) in
+    best-one name waits best (best_of name waits) there (best-is name waits)
+
+module _ (queues : List Queue) (rows : List (Option Entry)) (heaps : List (Vec Turn Global)) (places : List ℕ) (placed : ArePlaced (length queues) rows) (queued : AreQueued rows heaps places) (have : HaveHeaps queues heaps) where
+  -- how many rows wait in the queue at a place
+  pub count-heap : (place : ℕ) (name : List ℕ) (waits : Waits) → told_rows queues rows ≡ waits.rows → place < length queues → name_at place queues ≡ name → length (heap_at place heaps) ≡ count_in name waits
+  count-heap place name waits told_ within named =
+      queued.count place ∙ (count-place queues place name have.apart within named rows placed ∙ ap (count_by (waits_in name)) told_)
+
+  -- room that is left is memory that is left
+  pub room-left : (place : ℕ) (name : List ℕ) (waits : Waits) → queues ≡ waits.queues → told_rows queues rows ≡ waits.rows → place < length queues → name_at place queues ≡ name → 1 ≤ spare_in name waits
+      → length (heap_at place heaps) < memory_at place heaps
+  room-left place name waits same told_ within named spare =
+      let count = count-heap place name waits told_ within named in
+      let room : room_in name waits.queues ≡ room_at place queues = ap (room_in name) (sym same) ∙ room-here queues place name have.apart within named in
+      let memory = have.memory place within in
+      let left : 1 ≤ room_in name waits.queues - count_in name waits = spare in
+      omega arith
+
+  -- ---- the heap of the queue of an entry, as it is borrowed
+
+  module _ (entry : Entry) (v : Vec Turn Global) (given : List ℕ) (within : entry.queue < length queues) (here : v ≡ slice_index_or heaps entry.queue v) (same : given ≡ places) where
+    in_heaps : entry.queue < length heaps
+    in_heaps = let e = have.long in omega arith
+
+    here_is : heap_at entry.queue heaps ≡ v.items
+    here_is = (heap-here heaps entry.queue v v in_heaps here).0
+
+    memory_is : memory_at entry.queue heaps ≡ vec_capacity v
+    memory_is = (heap-here heaps entry.queue v v in_heaps here).1
+
+    pub wait-room : (name : List ℕ) (waits : Waits) → queues ≡ waits.queues → told_rows queues rows ≡ waits.rows → name_at entry.queue queues ≡ name → 1 ≤ spare_in name waits → length v.items < vec_capacity v
+    wait-room name waits same_queues told_ named spare =
+        let left = room-left entry.queue name waits same_queues told_ within named spare in
+        let long : length (heap_at entry.queue heaps) ≡ length v.items = ap length here_is in
+        let memory = memory_is in
+        omega arith
+
+    pub wait-few : (name : List ℕ) (waits : Waits) (old new : ℕ) → told_rows queues rows ≡ waits.rows → name_at entry.queue queues ≡ name → AreFew (length v.items) old new → AreFew (count_in name waits) old new
+    wait-few name waits old new told_ named few =
+        subst (λ n. AreFew n old new) (sym (ap length here_is) ∙ count-heap entry.queue name waits told_ within named) few
+
+    pub wait-kept : IsKept v.items given
+    wait-kept = subst (λ (l : List ℕ). IsKept v.items l) (sym same) (subst (λ (h : List Turn). IsKept h places) here_is (queued.kept entry.queue))
+
+    pub wait-turn-absent : (turn : Turn) (row : ℕ) → turn ≡ entry_turn entry row → slice_get rows row ≡ Some None → HasNoTurn turn.row v.items × (turn.row < length given)
+    wait-turn-absent turn row is none =
+        let row_is : turn.row ≡ row = ap (λ (t : Turn). t.row) is in
+        let absent : HasNoTurn turn.row (heap_at entry.queue heaps) = subst (λ n. HasNoTurn n (heap_at entry.queue heaps)) (sym row_is) (wait-absent rows heaps places queued entry.queue row none) in
+        let lt = within-held rows row None none in
+        let wide = queued.wide in
+        let long : length given ≡ length places = ap length same in
+        (subst (λ (h : List Turn). HasNoTurn turn.row h) here_is absent, omega arith)
+
+    pub wait-added : (next : Vec Turn Global) (moved : List ℕ) (turn : Turn) (row : ℕ) → turn ≡ entry_turn entry row → slice_get rows row ≡ Some None → IsPut turn v.items next.items given moved → IsKept next.items moved
+        → length next.items ≡ length v.items + 1 → length moved ≡ length given → AreQueued (slice_set rows row (Some entry)) (slice_set heaps entry.queue next) moved
+    wait-added next moved turn row is none p kept more long =
+        let put_ : IsPut (entry_turn entry row) (heap_at entry.queue heaps) next.items places moved =
+        subst (λ (h : List Turn). IsPut (entry_turn entry row) h next.items places moved) (sym here_is)
+        (subst (λ (l : List ℕ). IsPut (entry_turn entry row) v.items next.items l moved) same (subst (λ (t : Turn). IsPut t v.items next.items given moved) is p)) in
+        let more_ : length next.items ≡ length (heap_at entry.queue heaps) + 1 = more ∙ ap (λ (h : List Turn). length h + 1) (sym here_is) in
+        wait-put rows heaps places queued next moved row entry none (within-held rows row None none) in_heaps put_ kept more_ (long ∙ ap length same)
+
+    pub wait-row-held : (row : ℕ) → IsHeld rows row entry → HasTurn row v.items given
+    wait-row-held row held_ =
+        subst (λ (l : List ℕ). HasTurn row v.items l) (sym same) (subst (λ (h : List Turn). HasTurn row h places) here_is (wait-held rows heaps places queued row entry held_))
+
+    pub wait-removed : (next : Vec Turn Global) (moved : List ℕ) (row : ℕ) → IsHeld rows row entry → IsTaken row v.items next.items given moved → IsKept next.items moved
+        → length next.items + 1 ≡ length v.items → length moved ≡ length given → AreQueued (slice_set rows row None) (slice_set heaps entry.queue next) moved
+    wait-removed next moved row held_ p kept less long =
+        let taken : IsTaken row (heap_at entry.queue heaps) next.items places moved =
+        subst (λ (h : List Turn). IsTaken row h next.items places moved) (sym here_is) (subst (λ (l : List ℕ). IsTaken row v.items next.items l moved) same p) in
+        let less_ : length next.items + 1 ≡ length (heap_at entry.queue heaps) = less ∙ ap length (sym here_is) in
+        wait-taken rows heaps places queued next moved row entry held_ in_heaps taken kept less_ (long ∙ ap length same)
+
+    pub wait-memory : (next : Vec Turn Global) → vec_capacity v ≤ vec_capacity next → HaveHeaps queues (slice_set heaps entry.queue next)
+    wait-memory next more = have-more queues heaps have entry.queue (name_at entry.queue queues) 0 next within refl (subst (λ n. n ≤ vec_capacity next) (sym memory_is) more)
