@@ -200,8 +200,8 @@ module _ (heap mid : List Turn) (places between : List ℕ) (hole last : ℕ) (k
   }
 
 -- moves after that
-pub taken-moved : (heap mid later : List Turn) (places between moved : List ℕ) (row : ℕ) → IsTaken row heap mid places between → AreMoved mid later between moved → IsTaken row heap later places moved
-taken-moved heap mid later places between moved row t m = record {
+pub taken-moved : (heap mid later : List Turn) (places between moved : List ℕ) (gone : ℕ) → IsTaken gone heap mid places between → AreMoved mid later between moved → IsTaken gone heap later places moved
+taken-moved heap mid later places between moved gone t m = record {
   stay = λ other in_ ne. m.stay other (t.stay other in_ ne);
   come = λ other in_. t.come other (m.come other in_);
   others = λ other none. m.others other (none-later heap mid other (λ turn in_. (t.come turn in_).0) none) ∙ t.others other none;

@@ -14,3 +14,4 @@ pub mod QueueLemmas
 pub mod ReserveLemmas
 pub mod DueMoves
 pub mod WaitMoves
+pub mod DueRoom

@@ -176,3 +176,13 @@ pub placed-after : (places wider : ℕ) (rows later : List (Option Entry)) (belo
 placed-after places wider rows later below placed le is =
     let P : List (Option Entry) → Type 0 = λ r. ArePlaced wider r in
     subst P (sym is) (placed-more wider rows (below - length rows) (placed-wider places wider rows le placed))
+
+-- a row that tells nothing has no entry
+none-told : (queues : List Queue) (rows : List (Option Entry)) (row : ℕ) → slice_get (told_rows queues rows) row ≡ Some None → slice_get rows row ≡ Some None
+none-told queues [] row none = cc
+none-told queues (None ∷ rows) zero none = refl
+none-told queues (Some e ∷ rows) zero none = absurd (cc)
+none-told queues (o ∷ rows) (suc row) none = none-told queues rows row none
+
+pub not-told : (queues : List Queue) (rows : List (Option Entry)) (waits : Waits) (row : ℕ) → told_rows queues rows ≡ waits.rows → slice_get waits.rows row ≡ Some None → slice_get rows row ≡ Some None
+not-told queues rows waits row is none = none-told queues rows row (ap (λ (l : List (Option Waiting)). slice_get l row) is ∙ none)

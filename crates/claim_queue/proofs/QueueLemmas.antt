@@ -1,5 +1,5 @@
 -- Queues with names of their own: how many rows wait in one, for how many room was made, and which row is the best.
-use Rattle.std.proofs.Common.{◌≡◌, ◌≢◌, ℕ, zero, suc, ◌+◌, ◌-◌, ◌<◌, ◌≤◌, ◌==◌, ◌⊎◌, inl, inr, Bool, true, false, cond, max, List, [], ◌∷◌, ◌++◌, length, map, Option, Some, None, Vec, refl, sym, ap, ◌∙◌, subst, slice_get, slice_index_or, arith, option_map, length-append}
+use Rattle.std.proofs.Common.{◌≡◌, ◌≢◌, ℕ, zero, suc, ◌+◌, ◌-◌, ◌<◌, ◌≤◌, ◌==◌, ◌&&◌, ◌||◌, nat_lt, ◌⊎◌, inl, inr, Bool, true, false, cond, max, List, [], ◌∷◌, ◌++◌, length, map, Option, Some, None, Vec, refl, sym, ap, ◌∙◌, subst, slice_get, slice_index_or, arith, option_map, length-append}
 use Rattle.std.specs.Option.{option_map_or}
 use Rattle.std.specs.List.{count_by}
 use Rattle.std.specs.Global.{Global}
@@ -110,10 +110,14 @@ placed-held places (Some e ∷ rows) zero entry placed is = let same : e ≡ ent
 placed-held places (None ∷ rows) (suc row) entry placed is = placed-held places rows row entry placed is
 placed-held places (Some e ∷ rows) (suc row) entry placed is = placed-held places rows row entry placed.1 is
 
+lex-goes : (a b c d row there : ℕ) → (nat_lt a c || ((a == c) && (nat_lt b d || ((b == d) && nat_lt there row)))) ≡ false
+    → ((nat_lt a c || ((a == c) && nat_lt b d)) ≡ false) × ((nat_lt c a || ((c == a) && nat_lt d b)) ≡ false → row ≤ there)
+lex-goes a b c d row there is = (grind (arith, nat_tests), λ same. grind (arith, nat_tests))
+
 goes-of : (queues : List Queue) (one other : Entry) (row there : ℕ) → comes_before (entry_turn other there) (entry_turn one row) ≡ false
     → (goes_before (told queues other) (told queues one) ≡ false) × (goes_before (told queues one) (told queues other) ≡ false → row ≤ there)
 unfolding comes_before
-goes-of queues one other row there follows = (grind (arith, nat_tests), λ same. grind (arith, nat_tests))
+goes-of queues one other row there follows = lex-goes (rank other.priority) other.number (rank one.priority) one.number row there follows
 
 module _ (queues : List Queue) (rows : List (Option Entry)) (heaps : List (Vec Turn Global)) (places : List ℕ) (name : List ℕ) (placed : ArePlaced (length queues) rows) (queued : AreQueued rows heaps places) where
   abbrev seen : Waits

@@ -49,8 +49,8 @@ module _ (queues : List Queue) (heaps : List (Vec Turn Global)) (have : HaveHeap
     by (inl is) =
         let now : memory_at other (slice_set heaps queue v) ≡ vec_capacity v = ap (λ n. memory_at n (slice_set heaps queue v)) is ∙ memory-same heaps queue v in_heaps in
         let was : memory_at other heaps ≡ memory_at queue heaps = ap (λ n. memory_at n heaps) is in
-        omega arith
-    by (inr ne) = let now = memory-other heaps queue other v ne in omega arith
+        omega (arith, old)
+    by (inr ne) = let now = memory-other heaps queue other v ne in omega (arith, old)
 
   -- the heap of one queue has more memory
   pub have-more : HaveHeaps queues (slice_set heaps queue v)
@@ -60,8 +60,8 @@ module _ (queues : List Queue) (heaps : List (Vec Turn Global)) (have : HaveHeap
   pub have-raised : room ≤ vec_capacity v → HaveHeaps (map (raised name room) queues) (slice_set heaps queue v)
   have-raised enough = record {
     long = length-set heaps queue v ∙ (have.long ∙ sym long);
-    apart = λ one other p q same. have.apart one other (omega arith) (omega arith) (sym (name-raised name room queues one) ∙ (same ∙ name-raised name room queues other));
-    memory = λ other lt. memory other (omega arith) (same? other queue);
+    apart = λ one other p q same. have.apart one other (omega (arith, long)) (omega (arith, long)) (sym (name-raised name room queues one) ∙ (same ∙ name-raised name room queues other));
+    memory = λ other lt. memory other (omega (arith, long)) (same? other queue);
   } where
     long : length (map (raised name room) queues) ≡ length queues
     long = length-map queues (raised name room)

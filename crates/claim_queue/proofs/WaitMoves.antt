@@ -1,5 +1,5 @@
 -- What the calls of rows that wait see, and what they leave, by what the calls in them tell.
-use Rattle.std.proofs.Common.{◌≡◌, ◌≢◌, ℕ, ◌+◌, ◌-◌, ◌<◌, ◌≤◌, false, List, length, Option, Some, None, Vec, vec_capacity, refl, sym, ap, ◌∙◌, subst, slice_get, slice_set, slice_index_or, arith}
+use Rattle.std.proofs.Common.{◌≡◌, ◌≢◌, ℕ, ◌+◌, ◌-◌, ◌<◌, ◌≤◌, false, List, [], ◌∷◌, length, Option, Some, None, Vec, vec_capacity, refl, sym, ap, ◌∙◌, subst, slice_get, slice_set, slice_index_or, arith}
 use Rattle.std.specs.Global.{Global}
 use Rattle.std.specs.List.{count_by}
 use Rattle.std.specs.Str.{bytes_eq}
@@ -11,12 +11,12 @@ use Rattle.claim_queue.specs.Places.{name_at, told_rows, ArePlaced}
 use Rattle.claim_queue.specs.Firsts.{IsHeld, IsBest}
 use Rattle.claim_queue.specs.Counts.{AreFew}
 use Rattle.claim_queue.specs.Heaps.{turn_at, HasNoTurn, HasTurn, IsKept, IsPut, IsTaken}
-use Rattle.claim_queue.specs.WaitHeaps.{entry_turn, heap_at, memory_at, room_at, is_at, AreQueued, HaveHeaps}
+use Rattle.claim_queue.specs.WaitHeaps.{entry_turn, top_row, heap_at, memory_at, room_at, is_at, AreQueued, HaveHeaps}
 use Rattle.claim_queue.proofs.HeldLemmas.{within-held}
 use Rattle.claim_queue.proofs.LeastLemmas.{best-is, best-one}
 use Rattle.claim_queue.proofs.TableLemmas.{held-within}
 use Rattle.claim_queue.proofs.WaitLemmas.{heap-here, wait-absent, wait-held, wait-put, wait-taken}
-use Rattle.claim_queue.proofs.QueueLemmas.{count-place, room-here}
+use Rattle.claim_queue.proofs.QueueLemmas.{count-place, room-here, best-unknown, best-none, best-top}
 use Rattle.claim_queue.proofs.ReserveLemmas.{have-more}
 
 -- the best row is what the queue's definition says
@@ -42,6 +42,30 @@ module _ (queues : List Queue) (rows : List (Option Entry)) (heaps : List (Vec T
       let memory = have.memory place within in
       let left : 1 ≤ room_in name waits.queues - count_in name waits = spare in
       omega arith
+
+  abbrev seen : Waits
+  seen = record { queues = queues; rows = told_rows queues rows }
+
+  -- the best row stands at the top
+  pub best-heap : (place : ℕ) (name : List ℕ) → place < length queues → name_at place queues ≡ name → IsBest name seen (top_row (heap_at place heaps))
+  best-heap place name within named = by (heap_at place heaps) refl where
+    by : (heap : List Turn) → heap_at place heaps ≡ heap → IsBest name seen (top_row (heap_at place heaps))
+    by [] is = subst (λ (h : List Turn). IsBest name seen (top_row h)) (sym is) (best-none queues rows heaps places name placed queued place have.apart within named (ap length is))
+    by (turn ∷ turns) is =
+        let some : 0 < length (heap_at place heaps) = omega (arith, ap length is) in
+        let top : IsBest name seen (Some (turn_at (turn ∷ turns) 0).row) =
+        subst (λ (h : List Turn). IsBest name seen (Some (turn_at h 0).row)) is (best-top queues rows heaps places name placed queued place have.apart within named some) in
+        subst (λ (h : List Turn). IsBest name seen (top_row h)) (sym is) top
+
+  pub best-some : (place : ℕ) (name : List ℕ) (waits : Waits) (v : Vec Turn Global) → queues ≡ waits.queues → told_rows queues rows ≡ waits.rows → place < length queues → name_at place queues ≡ name → v ≡ slice_index_or heaps place v
+      → top_row v.items ≡ best_of name waits
+  best-some place name waits v same told_ within named here =
+      let in_heaps : place < length heaps = let e = have.long in omega arith in
+      let is : heap_at place heaps ≡ v.items = (heap-here heaps place v v in_heaps here).0 in
+      best-shown name queues (told_rows queues rows) waits (top_row v.items) same told_ (subst (λ (h : List Turn). IsBest name seen (top_row h)) is (best-heap place name within named))
+
+  pub best-no-queue : (name : List ℕ) (waits : Waits) → queues ≡ waits.queues → told_rows queues rows ≡ waits.rows → ((place : ℕ) → place < length queues → bytes_eq (name_at place queues) name ≡ false) → None ≡ best_of name waits
+  best-no-queue name waits same told_ none = best-shown name queues (told_rows queues rows) waits None same told_ (best-unknown queues rows heaps places name placed queued none)
 
   -- ---- the heap of the queue of an entry, as it is borrowed
 

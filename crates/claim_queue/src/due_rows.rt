@@ -59,7 +59,6 @@ impl DueRows {
     }
 
     /// For how many more rows there is room.
-    #[tactic(none)]
     pub fn spare(&self) -> usize
         ensures { result ≡ spare_of self.now }
     {
@@ -74,7 +73,6 @@ impl DueRows {
     }
 
     /// Makes room for so many more rows, and for all rows below a number. Where memory runs out, all stays as it was.
-    #[tactic(none)]
     pub fn reserve(&mut self, more: u32, below: u32) -> Result<(), AllocError>
         ensures { MatchResult result (λ _. self.new ≡ roomier more below self.old) (λ _. self.new ≡ self.old) }
     {
@@ -86,7 +84,6 @@ impl DueRows {
     }
 
     /// Holds a row, which falls due at this moment. It takes no memory.
-    #[tactic(none)]
     pub fn add<L: Ledger>(&mut self, row: u32, at: Moment, steps: &mut Steps<L>)
         requires room { 1 ≤ spare_of self.old }
         requires absent { slice_get self.old.rows row ≡ Some None }
@@ -98,7 +95,6 @@ impl DueRows {
     }
 
     /// Lets a row that is held fall due at this moment. It takes no memory.
-    #[tactic(none)]
     pub fn shift<L: Ledger>(&mut self, row: u32, at: Moment, steps: &mut Steps<L>)
         requires { IsSome (slice_index_or self.old.rows row None) }
         ensures rows { self.new ≡ record self.old { rows = slice_set self.old.rows row (Some at) } }
@@ -109,7 +105,6 @@ impl DueRows {
     }
 
     /// Holds a row no longer. It takes no memory.
-    #[tactic(none)]
     pub fn remove<L: Ledger>(&mut self, row: u32, steps: &mut Steps<L>)
         requires { IsSome (slice_index_or self.old.rows row None) }
         ensures rows { self.new ≡ record self.old { rows = slice_set self.old.rows row None } }
@@ -121,7 +116,6 @@ impl DueRows {
 
     /// The row that falls due first, of those that do so at this moment or before, with its moment; of several with one moment the least
     /// row. It takes no step.
-    #[tactic(none)]
     pub fn first_due<L: Ledger>(
         &self,
         moment: Moment,

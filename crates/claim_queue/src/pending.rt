@@ -56,7 +56,6 @@ impl Pending {
     }
 
     /// For how many more rows there is room in a queue.
-    #[tactic(none)]
     pub fn spare(&self, name: &Text) -> usize
         ensures { result ≡ spare_in name.now self.now }
     {
@@ -67,7 +66,6 @@ impl Pending {
     }
 
     /// Makes room in a queue for so many more rows, and for all rows below a number. Where memory runs out, all stays as it was.
-    #[tactic(none)]
     pub fn reserve(&mut self, name: &Text, more: u32, below: u32) -> Result<(), AllocError>
         ensures { MatchResult result (λ _. self.new ≡ roomier name.now more below self.old) (λ _. self.new ≡ self.old) }
     {
@@ -93,7 +91,6 @@ impl Pending {
     }
 
     /// Lets a row wait in a queue. It takes no memory.
-    #[tactic(none)]
     pub fn add<L: Ledger>(
         &mut self,
         row: u32,
@@ -124,7 +121,6 @@ impl Pending {
 
     /// The row that is claimed next in a queue: of those that wait in it the one of the highest priority, and of these the one with the
     /// least number. It takes no step.
-    #[tactic(none)]
     pub fn best<L: Ledger>(&self, name: &Text, steps: &mut Steps<L>) -> Option<u32>
         ensures row { result ≡ best_of name.now self.now }
         ensures steps { steps.new ≡ steps.old }
@@ -146,7 +142,6 @@ impl Pending {
     }
 
     /// Lets a row wait no longer. It takes no memory.
-    #[tactic(none)]
     pub fn remove<L: Ledger>(&mut self, row: u32, steps: &mut Steps<L>)
         requires { IsSome (slice_index_or self.old.rows row None) }
         ensures rows { self.new ≡ record self.old { rows = slice_set self.old.rows row None } }

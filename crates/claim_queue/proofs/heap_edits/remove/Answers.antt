@@ -1,11 +1,11 @@
-use Rattle.std.proofs.Common.{◌≡◌, ◌+◌, ◌*◌, ◌^◌, ◌≤◌, ◌++◌, ℕ, List, ◌∙◌, sym, ap, subst, length, take, drop, arith}
+use Rattle.std.proofs.Common.{◌≡◌, ◌+◌, ◌*◌, ◌^◌, ◌≤◌, ◌++◌, ℕ, List, ◌∙◌, sym, ap, subst, length, take, drop, slice_index, arith}
 use Rattle.claim_queue.specs.declared.turns.Turn.{Turn}
 use Rattle.claim_queue.specs.Heaps.{IsOrderedBut, KnowsPlaces, IsKept, IsTaken, AreMoved}
 use Rattle.claim_queue.proofs.EditLemmas.{taken-moved, few-settled, written}
 use Rattle.claim_queue.proofs.heap_edits.remove.Goals as goal
 
 pub settle-requires-clause-ordered : goal.settle-requires-clause-ordered
-settle-requires-clause-ordered g c = subst (λ (l : List Turn). IsOrderedBut _ l) (sym c.deref_mut.ensures.value) c.put_last.ensures.ordered
+settle-requires-clause-ordered g c = subst (λ (l : List Turn). IsOrderedBut (slice_index c.args.places.now c.args.row) l) (sym c.deref_mut.ensures.value) c.put_last.ensures.ordered
 
 pub settle-requires-clause-known : goal.settle-requires-clause-known
 settle-requires-clause-known g c = subst (λ (l : List Turn). KnowsPlaces l c.put_last.new.places) (sym c.deref_mut.ensures.value) c.put_last.ensures.known

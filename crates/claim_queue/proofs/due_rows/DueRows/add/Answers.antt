@@ -5,6 +5,7 @@ use Rattle.claim_queue.specs.Counts.{AreFew}
 use Rattle.claim_queue.specs.DueHeaps.{AreDue}
 use Rattle.claim_queue.proofs.DueMoves.{given-kept, turn-absent, due-added}
 use Rattle.claim_queue.proofs.EditLemmas.{written}
+use Rattle.claim_queue.proofs.HeldLemmas.{within-held}
 use Rattle.claim_queue.proofs.due_rows.DueRows.add.Goals as goal
 
 pub insert-requires-clause-room : goal.insert-requires-clause-room
@@ -51,3 +52,11 @@ invariant_of-self g c =
 pub returns-clause-steps : goal.returns-clause-steps
 returns-clause-steps g c =
     subst (λ n. AreFew n c.args.steps.now c.insert.new.steps) (c.self.invariant.0.count ∙ ap (λ (d : Dues). held d.rows) c.self.view_is) c.insert.ensures.steps
+
+pub index_mut-requires : goal.index_mut-requires
+index_mut-requires g c =
+    let none : slice_get c.self.inside.rows.items c.args.row ≡ Some None = ap (λ (d : Dues). slice_get d.rows c.args.row) c.self.view_is ∙ c.requires.absent in
+    omega (arith, within-held c.self.inside.rows.items c.args.row None none)
+
+pub returns-clause-rows : goal.returns-clause-rows
+returns-clause-rows g c = ap (λ (d : Dues). let e : Dues = record { room = d.room; rows = slice_set d.rows c.args.row (Some c.args.at) } in e) c.self.view_is

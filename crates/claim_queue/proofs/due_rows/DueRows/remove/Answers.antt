@@ -3,7 +3,7 @@ use Rattle.claim_queue.specs.Held.{held}
 use Rattle.claim_queue.specs.Dues.{Dues}
 use Rattle.claim_queue.specs.Counts.{AreFew}
 use Rattle.claim_queue.specs.DueHeaps.{AreDue}
-use Rattle.claim_queue.proofs.TableLemmas.{held-some}
+use Rattle.claim_queue.proofs.TableLemmas.{held-some, held-within}
 use Rattle.claim_queue.proofs.DueMoves.{given-kept, row-held, due-removed}
 use Rattle.claim_queue.proofs.EditLemmas.{written}
 use Rattle.claim_queue.proofs.due_rows.DueRows.remove.Goals as goal
@@ -41,3 +41,12 @@ invariant_of-self g c =
 pub returns-clause-steps : goal.returns-clause-steps
 returns-clause-steps g c =
     subst (λ n. AreFew n c.args.steps.now c.remove.new.steps) (c.self.invariant.0.count ∙ ap (λ (d : Dues). held d.rows) c.self.view_is) c.remove.ensures.steps
+
+pub index_mut-requires : goal.index_mut-requires
+index_mut-requires g c =
+    let rows = c.self.inside.rows.items in
+    let was = held-some rows c.args.row (subst (λ (d : Dues). IsSome (slice_index_or d.rows c.args.row None)) (sym c.self.view_is) c.requires) in
+    omega (arith, held-within rows c.args.row was.0 was.1)
+
+pub returns-clause-rows : goal.returns-clause-rows
+returns-clause-rows g c = ap (λ (d : Dues). let e : Dues = record { room = d.room; rows = slice_set d.rows c.args.row None } in e) c.self.view_is

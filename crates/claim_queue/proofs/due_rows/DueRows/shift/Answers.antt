@@ -1,11 +1,11 @@
-use Rattle.std.proofs.Common.{◌≡◌, ◌<◌, ℕ, List, Option, Some, None, IsSome, sym, ap, ◌∙◌, subst, length, slice_get, slice_set, slice_index_or, arith, length-set}
+use Rattle.std.proofs.Common.{◌≡◌, ◌<◌, ℕ, List, Option, Some, None, IsSome, sym, ap, ◌∙◌, subst, length, take, drop, ◌++◌, slice_get, slice_set, slice_index_or, arith, length-set}
 use Rattle.claim_queue.specs.declared.turns.Turn.{Turn}
 use Rattle.claim_queue.specs.Held.{held}
 use Rattle.claim_queue.specs.Dues.{Dues}
 use Rattle.claim_queue.specs.Counts.{AreFew}
 use Rattle.claim_queue.specs.Heaps.{HasTurn, IsKept, IsPut}
 use Rattle.claim_queue.specs.DueHeaps.{AreDue}
-use Rattle.claim_queue.proofs.TableLemmas.{held-some}
+use Rattle.claim_queue.proofs.TableLemmas.{held-some, held-within}
 use Rattle.claim_queue.proofs.DueMoves.{given-kept, turn-held, due-shifted}
 use Rattle.claim_queue.proofs.EditLemmas.{written}
 use Rattle.claim_queue.proofs.due_rows.DueRows.shift.Goals as goal
@@ -44,7 +44,7 @@ invariant_of-self g c =
     let within = have.within in
     let same_length = ap length is_heap in
     (
-      subst (λ (h : List Turn). AreDue (slice_set rows c.args.row (Some c.args.at)) h _) (sym is_heap) (subst (λ (l : List ℕ). AreDue (slice_set rows c.args.row (Some c.args.at)) later l) (sym is_places) due),
+      subst (λ (h : List Turn). AreDue (slice_set rows c.args.row (Some c.args.at)) h (take c.self.inside.places.len (moved ++ drop (length moved) places))) (sym is_heap) (subst (λ (l : List ℕ). AreDue (slice_set rows c.args.row (Some c.args.at)) later l) (sym is_places) due),
       record { small = omega (arith, length-set rows c.args.row (Some c.args.at)); within = omega arith; taken = have.taken },
     )
 
@@ -52,3 +52,12 @@ pub returns-clause-steps : goal.returns-clause-steps
 returns-clause-steps g c =
     let few = subst (λ (l : List Turn). AreFew (length l) c.args.steps.now c.replace.new.steps) c.deref_mut.ensures.value c.replace.ensures.steps in
     subst (λ n. AreFew n c.args.steps.now c.replace.new.steps) (c.self.invariant.0.count ∙ ap (λ (d : Dues). held d.rows) c.self.view_is) few
+
+pub index_mut-requires : goal.index_mut-requires
+index_mut-requires g c =
+    let rows = c.self.inside.rows.items in
+    let was = held-some rows c.args.row (subst (λ (d : Dues). IsSome (slice_index_or d.rows c.args.row None)) (sym c.self.view_is) c.requires) in
+    omega (arith, held-within rows c.args.row was.0 was.1)
+
+pub returns-clause-rows : goal.returns-clause-rows
+returns-clause-rows g c = ap (λ (d : Dues). let e : Dues = record { room = d.room; rows = slice_set d.rows c.args.row (Some c.args.at) } in e) c.self.view_is
