@@ -26,9 +26,9 @@ module _ (rows : List (Option ℕ)) (heap : List Turn) (places given : List ℕ)
     turn-absent none = (
       subst (λ n. HasNoTurn n heap) (sym row_is) (due-absent rows heap places due row none),
       let lt = within-held rows row None none in
-      let wide = due.wide in
-      let long : length given ≡ length places = ap length same in
-      omega (arith, row_is),
+          let wide = due.wide in
+          let long : length given ≡ length places = ap length same in
+          omega (arith, row_is),
     )
 
     pub turn-held : (was : ℕ) → IsHeld rows row was → HasTurn turn.row heap given

@@ -9,7 +9,6 @@ use Rattle.claim_queue.proofs.HeapLemmas.{same?, chain, follows-too}
 use Rattle.claim_queue.proofs.MoveLemmas.{row_at, rows-differ, not-in, none-later}
 use Rattle.claim_queue.proofs.StepLemmas.{doubled}
 
-
 -- one row has one turn
 pub one-turn : (heap : List Turn) (places : List ℕ) (one other : ℕ) → KnowsPlaces heap places → one < length heap → other < length heap → row_at heap one ≡ row_at heap other → one ≡ other
 one-turn heap places one other known here there same =
@@ -186,8 +185,7 @@ module _ (heap mid : List Turn) (places between : List ℕ) (hole last : ℕ) (k
       let f = long-popped in
       let lt_last : in_.0 < last = omega arith in
       let lt_mid : in_.0 < length mid = omega arith in
-      let is : turn_at mid in_.0 ≡ other = sym (popped-at in_.0 lt_last) ∙ in_.2 in
-      (
+      let is : turn_at mid in_.0 ≡ other = sym (popped-at in_.0 lt_last) ∙ in_.2 in (
         (in_.0, lt_mid, is),
         λ same. let end_ : in_.0 ≡ last = one-turn mid between in_.0 last m.known lt_mid last-within (ap (λ (t : Turn). t.row) is ∙ (same ∙ sym row-last)) in omega arith,
       )

@@ -23,12 +23,7 @@ fn hold<L: Ledger>(dues: &mut DueRows, row: u32, millis: u64, steps: &mut Steps<
 }
 
 /// Lets a held row fall due at another moment, or no longer where none is given.
-fn change<L: Ledger>(
-    dues: &mut DueRows,
-    row: u32,
-    at: Option<u64>,
-    steps: &mut Steps<L>,
-) -> bool {
+fn change<L: Ledger>(dues: &mut DueRows, row: u32, at: Option<u64>, steps: &mut Steps<L>) -> bool {
     match (dues.at(row), at) {
         (Some(Some(_)), Some(millis)) => dues.shift(row, moment(millis), steps),
         (Some(Some(_)), None) => dues.remove(row, steps),
@@ -135,17 +130,14 @@ fn fill<L: Ledger>(
 }
 
 /// The best rows of a queue, again and again.
-fn takes<L: Ledger>(
-    pending: &mut Pending,
-    queue: &Text,
-    row: u32,
-    steps: &mut Steps<L>,
-) -> bool {
+fn takes<L: Ledger>(pending: &mut Pending, queue: &Text, row: u32, steps: &mut Steps<L>) -> bool {
     pending.best(queue, steps) == Some(row) && leave(pending, row, steps)
 }
 
 #[test]
-fn the_best_is_of_the_first_priority_and_then_the_least_number(rt: HostRuntime) -> Result<(), Fail> {
+fn the_best_is_of_the_first_priority_and_then_the_least_number(
+    rt: HostRuntime,
+) -> Result<(), Fail> {
     take_best::<Brand>(rt, Blank::new(1))
 }
 

@@ -11,11 +11,19 @@ rise-requires g t c κs within =
     let parent = (c.args.place - 1) / 2 in
     let below : IsBelow parent c.args.place = (omega arith, omega arith) in
     let first : comes_before (turn_at heap c.args.place) (turn_at heap parent) ≡ true = sym c.comes_before.ensures.first ∙ c.if-comes_before.true in
-    let moved = c.exchange.ensures.moved in
-    (omega arith, (within, (omega (arith, moved.long), (
-      risen heap c.exchange.new.heap c.args.place parent moved.long c.exchange.ensures.exchanged c.requires.ordered.0 below c.requires.within first,
-      moved.known,
-    ))))
+    let moved = c.exchange.ensures.moved in (
+      omega arith,
+      (
+        within,
+        (
+          omega (arith, moved.long),
+          (
+            risen heap c.exchange.new.heap c.args.place parent moved.long c.exchange.ensures.exchanged c.requires.ordered.0 below c.requires.within first,
+            moved.known,
+          ),
+        ),
+      ),
+    )
 
 pub returns-then-comes_before-clause-moved : goal.returns-then-comes_before-clause-moved
 returns-then-comes_before-clause-moved g t c =

@@ -10,11 +10,19 @@ sink-requires g t c κs within =
     let heap = c.args.heap.now in
     let below = c.first_below-child.ensures.below in
     let sooner : comes_before (turn_at heap c.first_below-child.result) (turn_at heap c.args.place) ≡ true = sym c.comes_before.ensures.first ∙ c.if-comes_before.true in
-    let moved = c.exchange.ensures.moved in
-    (omega (arith, moved.long), (within, (omega (arith, moved.long), (
-      sunk heap c.exchange.new.heap c.args.place c.first_below-child.result moved.long c.exchange.ensures.exchanged c.requires.ordered.0 c.requires.ordered.1 below.0 below.1 c.first_below-child.ensures.first sooner,
-      moved.known,
-    ))))
+    let moved = c.exchange.ensures.moved in (
+      omega (arith, moved.long),
+      (
+        within,
+        (
+          omega (arith, moved.long),
+          (
+            sunk heap c.exchange.new.heap c.args.place c.first_below-child.result moved.long c.exchange.ensures.exchanged c.requires.ordered.0 c.requires.ordered.1 below.0 below.1 c.first_below-child.ensures.first sooner,
+            moved.known,
+          ),
+        ),
+      ),
+    )
 
 pub returns-then-comes_before-clause-moved : goal.returns-then-comes_before-clause-moved
 returns-then-comes_before-clause-moved g t c =
@@ -25,8 +33,7 @@ returns-then-comes_before-clause-steps g t c =
     let steps = c.sink.ensures.steps in
     let fewer = c.first_below-child.ensures.steps in
     let moved = c.exchange.ensures.moved in
-    let count = length c.args.heap.now in
-    (
+    let count = length c.args.heap.now in (
       steps.0 + 1,
       down-more steps.0 count c.args.place c.first_below-child.result c.first_below-child.ensures.below.0 (omega (arith, steps.1, moved.long)),
       (omega (arith, steps.2.0, fewer.0), omega (arith, steps.2.1, fewer.1)),

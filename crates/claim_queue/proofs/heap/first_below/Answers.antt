@@ -9,6 +9,6 @@ returns-then-comes_before-clause-first g c = λ other below lt. right-first c.ar
 pub returns-else-right-heap-clause-first : goal.returns-else-right-heap-clause-first
 returns-else-right-heap-clause-first g c = λ other below lt.
     elim c.else-right-heap.branch [
-      else-right-heap-via-then-right-heap+else-comes_before w ↦ left-first c.args.heap.now c.args.place _ _ refl refl (sym w.comes_before.ensures.first ∙ w.if-comes_before.false) other below
-    | else-right-heap-via-else-right-heap w ↦ left-only c.args.heap.now c.args.place _ _ refl refl w.if-right-heap.false other below lt
+      | else-right-heap-via-then-right-heap+else-comes_before w ↦ left-first c.args.heap.now c.args.place _ _ refl refl (sym w.comes_before.ensures.first ∙ w.if-comes_before.false) other below
+      | else-right-heap-via-else-right-heap w ↦ left-only c.args.heap.now c.args.place _ _ refl refl w.if-right-heap.false other below lt
     ]

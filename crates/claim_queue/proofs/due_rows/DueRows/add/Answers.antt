@@ -43,8 +43,7 @@ invariant_of-self g c =
     let held_ : held c.args.self.now.rows ≡ held rows = ap (λ (d : Dues). held d.rows) (sym c.self.view_is) in
     let spare = c.requires.room in
     let more = c.insert.ensures.more in
-    let memory = c.insert.ensures.room in
-    (
+    let memory = c.insert.ensures.room in (
       subst (λ (l : List ℕ). AreDue (slice_set rows c.args.row (Some c.args.at)) c.insert.new.heap.items l) (sym (written c.insert.new.places places c.self.inside.places.len (long ∙ c.deref_mut.ensures.len))) due,
       record { small = omega (arith, length-set rows c.args.row (Some c.args.at)); within = omega arith; taken = omega arith },
     )

@@ -32,8 +32,7 @@ invariant_of-self g c =
     let within = have.within in
     let taken = have.taken in
     let less = c.remove.ensures.less in
-    let memory = c.remove.ensures.room in
-    (
+    let memory = c.remove.ensures.room in (
       subst (λ (l : List ℕ). AreDue (slice_set rows c.args.row None) c.remove.new.heap.items l) (sym (written c.remove.new.places places c.self.inside.places.len (long ∙ c.deref_mut.ensures.len))) due,
       record { small = omega (arith, length-set rows c.args.row None); within = omega arith; taken = omega arith },
     )

@@ -42,8 +42,7 @@ invariant_of-self g c =
     let have = c.self.invariant.1 in
     let small = have.small in
     let within = have.within in
-    let same_length = ap length is_heap in
-    (
+    let same_length = ap length is_heap in (
       subst (λ (h : List Turn). AreDue (slice_set rows c.args.row (Some c.args.at)) h (take c.self.inside.places.len (moved ++ drop (length moved) places))) (sym is_heap) (subst (λ (l : List ℕ). AreDue (slice_set rows c.args.row (Some c.args.at)) later l) (sym is_places) due),
       record { small = omega (arith, length-set rows c.args.row (Some c.args.at)); within = omega arith; taken = have.taken },
     )

@@ -61,14 +61,13 @@ invariant_of-self g c =
     let none = not-told p.queues.items p.rows.items c.args.self.now c.args.row (ap (λ (w : Waits). w.rows) c.self.view_is) c.requires.absent in
     let long : length c.insert.new.places ≡ length c.deref_mut.result.now = omega (arith, c.insert.auto.places) in
     let queued = wait-added p.queues.items p.rows.items p.heaps.items p.places.items c.self.invariant.1 c.self.invariant.2 c.self.invariant.3 entry c.index_mut.result.now c.deref_mut.result.now here c.index_mut.ensures.value c.deref_mut.ensures.value
-    c.insert.new.heap c.insert.new.places c.entry_turn-turn.result c.args.row c.entry_turn-turn.ensures none c.insert.ensures.put c.insert.ensures.kept c.insert.ensures.more long in
-    (
+    c.insert.new.heap c.insert.new.places c.entry_turn-turn.result c.args.row c.entry_turn-turn.ensures none c.insert.ensures.put c.insert.ensures.kept c.insert.ensures.more long in (
       omega (arith, length-set p.rows.items c.args.row (Some entry)),
       placed-set (length p.queues.items) p.rows.items c.args.row entry here c.self.invariant.1,
       subst (λ (l : List ℕ). AreQueued (slice_set p.rows.items c.args.row (Some entry)) (slice_set p.heaps.items entry.queue c.insert.new.heap) l)
-      (sym (written c.insert.new.places p.places.items p.places.len (long ∙ c.deref_mut.ensures.len))) queued,
+          (sym (written c.insert.new.places p.places.items p.places.len (long ∙ c.deref_mut.ensures.len))) queued,
       wait-memory p.queues.items p.rows.items p.heaps.items p.places.items c.self.invariant.1 c.self.invariant.2 c.self.invariant.3 entry c.index_mut.result.now c.deref_mut.result.now here c.index_mut.ensures.value c.deref_mut.ensures.value
-      c.insert.new.heap c.insert.ensures.room,
+          c.insert.new.heap c.insert.ensures.room,
     )
 
 pub returns-clause-rows : goal.returns-clause-rows
