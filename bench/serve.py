@@ -6,8 +6,9 @@ python3 bench/serve.py PROGRAM [SECONDS]
 PROGRAM is the built program itself. It runs `serve` with 4 workers over a disk in a temporary folder (TMPDIR says on which file system), and each row asks
 for so many seconds (else 3): pings and signed pings on one connection and on four that are kept alive, and creations, claims and completions of tasks, each of
 which is on the disk before it is answered, from one client and from four. A connection serves 1,000 requests, and is then made anew.
-Below them stand what the clients here reach with a loop in the server's place that reads and writes as many bytes, and how often a record of the size
-that a change had can be written and synced, and its gate too, as the program does it. Each client is a process; a client in Python takes some
+Below them stand what the clients here reach with a loop in the server's place that reads and writes as many bytes, how often a record of the size
+that a change had can be written and synced, and its gate too, as the program does it, and what the clients reach with both, one after the other: a loop
+that writes and syncs so before it replies. A farm that took no time of its own would come to that. Each client is a process; a client in Python takes some
 twenty microseconds a call, so pings tell no more than that the program is not slower.
 """
 import json
@@ -98,8 +99,18 @@ def row(what, clients, times):
     print("| %s | %d | %.0f | %s | %s |" % (what, clients, clients * len(times) / sum(times), shown[0], shown[1]), flush=True)
 
 
-def plain_server(doors, asked, reply):
-    """Reads as many bytes as a request has, and writes a reply, on each connection in turn."""
+def keep(handle, place, record):
+    """Writes a record and syncs, then one byte before it and syncs."""
+    os.pwrite(handle, record, place + 1)
+    os.fsync(handle)
+    os.pwrite(handle, b"\xa5", place)
+    os.fdatasync(handle)
+
+
+def plain_server(doors, asked, reply, turn=None, handle=None, record=b""):
+    """Reads as many bytes as a request has, and writes a reply, on each connection in turn. With a handle it keeps a record before each reply, when it is
+    its turn."""
+    place = 0
     while True:
         peer, _ = doors.accept()
         peer.setsockopt(socket.IPPROTO_TCP, socket.TCP_NODELAY, 1)
@@ -112,16 +123,20 @@ def plain_server(doors, asked, reply):
                 left -= len(piece)
             if left:
                 break
+            if handle is not None:
+                with turn:
+                    keep(handle, place, record)
+                place += len(record)
             peer.sendall(reply)
         peer.close()
 
 
-def plain_loop(clients):
+def plain_loop(clients, *kept):
     reply = b"HTTP/1.1 200 OK\r\nContent-Length: 14\r\nContent-Type: application/json\r\n\r\n{\"alive\":true}"
     with socket.socket() as doors:
         doors.bind(("127.0.0.1", 0))
         doors.listen()
-        servers = [multiprocessing.Process(target=plain_server, args=(doors, len(peers.PING), reply), daemon=True) for _ in range(clients)]
+        servers = [multiprocessing.Process(target=plain_server, args=(doors, len(peers.PING), reply, *kept), daemon=True) for _ in range(clients)]
         for server in servers:
             server.start()
         times = measure(pings, doors.getsockname(), clients)
@@ -132,19 +147,24 @@ def plain_loop(clients):
 
 
 def disk_alone(folder, size):
-    """Writes a record of this size and syncs, then one byte before it and syncs, again and again."""
+    """Keeps a record of this size, again and again."""
     handle = os.open(os.path.join(folder, "alone.disk"), os.O_RDWR | os.O_CREAT)
     place, record, times, until = 0, b"\0" * size, [], time.perf_counter() + SECONDS
     while time.perf_counter() < until:
         begin = time.perf_counter()
-        os.pwrite(handle, record, place + 1)
-        os.fsync(handle)
-        os.pwrite(handle, b"\xa5", place)
-        os.fdatasync(handle)
+        keep(handle, place, record)
         times.append(time.perf_counter() - begin)
         place += size
     os.close(handle)
     return sorted(times)
+
+
+def disk_and_loop(folder, size, clients):
+    """The plain loop, which keeps a record of this size before each reply."""
+    handle = os.open(os.path.join(folder, "loop.disk"), os.O_RDWR | os.O_CREAT)
+    times = plain_loop(clients, multiprocessing.Lock(), handle, b"\0" * size)
+    os.close(handle)
+    return times
 
 
 def main():
@@ -164,6 +184,8 @@ def main():
                 row("create, claim, complete: a change each", clients, times)
             size = max(2, (os.path.getsize(disk) - before) // made)
         row("a record of %d bytes and its gate on the disk alone" % size, 1, disk_alone(folder, size))
+        for clients in (1, 4):
+            row("the plain loop, with such a record before each reply", clients, disk_and_loop(folder, size, clients))
 
 
 if __name__ == "__main__":
