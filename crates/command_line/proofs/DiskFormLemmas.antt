@@ -14,7 +14,8 @@ use Rattle.clap.specs.Simple.{built_leaf, filled, help_rule, inherited, with_ind
 use Rattle.clap.specs.Walk.{Held, Waiting, Walk, finished, idle, is_empty, option, reacted, settled, settled_rows, walked}
 use Rattle.clap.proofs.OnLiterals.{clap_on_literals}
 use Rattle.command_line.proofs.FlagLemmas.{IsFlag, value_cases, word_kind}
-use Rattle.command_line.specs.Forms.{EndsOptions, Gives, GivesBoth, GivesDisk, GivesValue, IsValue}
+use Rattle.command_line.specs.Forms.{Gives, GivesBoth, GivesDisk, GivesValue}
+use Rattle.command_line.specs.Options.{EndsOptions, IsValue}
 use Rattle.command_line.specs.Words.{disk_option, farm_app, farm_argument, with_disk, work_in, work_named}
 use Rattle.command_line.specs.declared.command.Command.{Command}
 use Rattle.command_line.specs.declared.command.Command.TheVariants.{OverFarm, Sign, Bulk, Render}
@@ -143,7 +144,7 @@ back_longer x xs e =
     ap (λ (n : ℕ). drop (n + 1) (x ∷ xs)) (longer x xs e) ∙ (ap (λ (n : ℕ). drop n (x ∷ xs)) (add-one (suc m)) ∙ sym (ap (λ (n : ℕ). drop n xs) (add-one m)))
 
 -- a text is what stands before its first `=`, and that, and what stands behind it; or it has none
-cut_once : (text : Text) → has_byte 61 text ≡ true → text ≡ before_first (λ x. x == 61) text ++ 61 ∷ after_first (λ x. x == 61) text
+pub cut_once : (text : Text) → has_byte 61 text ≡ true → text ≡ before_first (λ x. x == 61) text ++ 61 ∷ after_first (λ x. x == 61) text
 cut_once [] has = cc
 cut_once (x ∷ xs) has = go (x == 61) refl (cut_once xs)
   where
@@ -153,7 +154,7 @@ cut_once (x ∷ xs) has = go (x == 61) refl (cut_once xs)
     go false e rest =
         ap (λ (ys : Text). x ∷ ys) (rest (simp e at has)) ∙ sym (ap₂ (λ (a b : Text). a ++ 61 ∷ b) (front_longer x xs e) (back_longer x xs e))
 
-uncut : (text : Text) → has_byte 61 text ≡ false → before_first (λ x. x == 61) text ≡ text
+pub uncut : (text : Text) → has_byte 61 text ≡ false → before_first (λ x. x == 61) text ≡ text
 uncut [] none = refl
 uncut (x ∷ xs) none = go (x == 61) refl (uncut xs)
   where

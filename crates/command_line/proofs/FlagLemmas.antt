@@ -6,7 +6,7 @@ use Rattle.std.proofs.lemmas.Bool.Decides.{Decides-eqb}
 use Rattle.std.proofs.lemmas.Str.{encodes-chars}
 use Rattle.clap.proofs.OnLiterals.{clap_on_literals}
 use Rattle.clap.specs.Words.{Text}
-use Rattle.command_line.specs.Forms.{IsValue}
+use Rattle.command_line.specs.Options.{IsValue}
 
 -- the word is `--` and something, or `-` and a character other than `-`
 abbrev pub IsFlag : Text → Type 0

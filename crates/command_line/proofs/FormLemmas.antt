@@ -1,31 +1,30 @@
 -- Which words are read as a command.
-use Rattle.std.proofs.Common.{◌≡◌, ◌⊎◌, ◌∙◌, ◌++◌, Bool, append-nil, append_assoc, fold, is_some, true, false, suc, cond, refl, sym, ap, subst, arith, inl, inr, List, [], ◌∷◌, Option, Some, None, codes, length, option_map, option_and_then}
+use Rattle.std.proofs.Common.{◌≡◌, ◌⊎◌, ◌∙◌, Bool, true, false, suc, cond, refl, sym, ap, subst, arith, inl, inr, List, [], ◌∷◌, Option, Some, None, codes, length, option_map, option_and_then}
 use Rattle.std.specs.Prelude.{◌==◌, ◌||◌, IsUtf8, drop, encode_utf8}
 use Rattle.std.specs.List.{All}
-use Rattle.std.proofs.lemmas.Bool.{ne_eqb}
 use Rattle.std.proofs.lemmas.Slice.Eq.{bytes_eq-Decides}
 use Rattle.std.specs.Str.{bytes_eq}
-use Rattle.clap.specs.Words.{App, Kinds, Row, Rule, Shape, Text, built, fault_of, subcommand_of}
-use Rattle.clap.specs.Faults.{bundle_step_fault, check_fault, defaults_fault, entered_fault, flags_fault, level_fault, long_fault, react_fault, settle_fault, short_fault, turn_fault, use_fault, walk_fault, word_fault}
+use Rattle.clap.specs.Words.{App, Kinds, Shape, Text, built, fault_of, subcommand_of}
+use Rattle.clap.specs.Faults.{bundle_step_fault, entered_fault, flags_fault, level_fault, walk_fault, word_fault}
 use Rattle.clap.specs.Lexer.{name_and_value}
-use Rattle.clap.specs.Kinds.{or_else}
-use Rattle.clap.specs.Simple.{argument_words, built_leaf, entered, filled, help_rule, inherited, names_of}
-use Rattle.clap.specs.Walk.{Held, Names, Walk, finished, idle, is_empty, nothing_held, reacted, settled, stop_after, walk_from, walked, walked_from}
+use Rattle.clap.specs.Simple.{argument_words, built_leaf, entered, inherited, names_of}
+use Rattle.clap.specs.Walk.{Walk, finished, idle, is_empty, nothing_held, walk_from, walked}
 use Rattle.clap.proofs.OnLiterals.{clap_on_literals}
 use Rattle.clap.specs.declared.error.ErrorKind.TheVariants.{UnknownArgument, InvalidSubcommand}
-use Rattle.command_line.proofs.DiskFormLemmas.{Says, args, both_read, end_of, faults, found, reads, start, start_said}
-use Rattle.command_line.proofs.FaultLemmas.{first_fails, held, help, level_fails, long_flag, none_some, or_left, rest_fails, short_flag}
+use Rattle.command_line.proofs.CommandLemmas.{command_goes, top, top_names}
+use Rattle.command_line.proofs.DiskFormLemmas.{Says, args, both_read, end_of, faults, reads, start, start_said}
+use Rattle.command_line.proofs.FaultLemmas.{first_fails, held, level_fails, long_flag, none_some, or_left, rest_fails, short_flag}
 use Rattle.command_line.proofs.FlagLemmas.{IsFlag, value_cases, word_kind}
 use Rattle.command_line.proofs.LawLemmas.{answer_stops, bulk_stops, check_stops, empty_read, expand_stops, fails_below, help_first, no_reading, other_first, sign_stops}
 use Rattle.command_line.proofs.RenderLemmas.{render_ends, render_read}
-use Rattle.command_line.specs.Forms.{EndsOptions, Gives, GivesValue, IsValue, SaysRender, SaysWork}
+use Rattle.command_line.proofs.ServeFormLemmas.{service_read, service_said}
+use Rattle.command_line.specs.Forms.{Gives, GivesValue, SaysRender, SaysWork}
+use Rattle.command_line.specs.Options.{EndsOptions, IsValue}
 use Rattle.command_line.specs.Words.{IsPlain, command_in, farm_app, reading, with_farm}
-use Rattle.command_line.specs.Load.{load_in}
-use Rattle.command_line.specs.Signing.{signing_in}
 use Rattle.command_line.specs.declared.command.Command.{Command}
 use Rattle.command_line.specs.declared.command.Command.TheVariants.{OverFarm, Sign, Bulk, Render}
 use Rattle.command_line.specs.declared.command.Work.{Work}
-use Rattle.command_line.specs.declared.command.Work.TheVariants.{Answer, Expand, Check}
+use Rattle.command_line.specs.declared.command.Work.TheVariants.{Answer, Expand, Check, Serve}
 use Rattle.command_line.specs.declared.load.Load.{Load}
 use Rattle.command_line.specs.declared.signing.Signing.{Signing}
 
@@ -105,12 +104,6 @@ flag_second name f w more v flag =
 
 -- ---- the first word
 
-abbrev top : Shape
-top = (built farm_app).top
-
-abbrev top_names : Names
-top_names = names_of (built farm_app)
-
 top_flag : (w : Text) → IsFlag w → is_empty (word_fault top top_names false idle w (held None)) ≡ false
 unfolding clap_on_literals
 top_flag w (inl p) =
@@ -145,26 +138,27 @@ dash_unread rest = refl
 abbrev IsName : Text → Type 0
 IsName w =
     (bytes_eq (codes "answer") w ≡ true) ⊎ ((bytes_eq (codes "expand") w ≡ true) ⊎ ((bytes_eq (codes "check") w ≡ true) ⊎ ((bytes_eq (codes "sign") w ≡ true)
-    ⊎ ((bytes_eq (codes "bulk") w ≡ true) ⊎ (bytes_eq (codes "render") w ≡ true)))))
+    ⊎ ((bytes_eq (codes "bulk") w ≡ true) ⊎ ((bytes_eq (codes "render") w ≡ true) ⊎ (bytes_eq (codes "serve") w ≡ true))))))
 
-value_named : (w : Text) (rest : List Text) (command : Command) → IsPlain w → reading (w ∷ rest) ≡ Some command → (a e c s b r h : Bool) → bytes_eq (codes "answer") w ≡ a
+value_named : (w : Text) (rest : List Text) (command : Command) → IsPlain w → reading (w ∷ rest) ≡ Some command → (a e c s b r v h : Bool) → bytes_eq (codes "answer") w ≡ a
     → bytes_eq (codes "expand") w ≡ e → bytes_eq (codes "check") w ≡ c → bytes_eq (codes "sign") w ≡ s → bytes_eq (codes "bulk") w ≡ b → bytes_eq (codes "render") w ≡ r
-    → bytes_eq (codes "help") w ≡ h → IsName w
-value_named w rest command plain read true e c s b r h is_a is_e is_c is_s is_b is_r is_h = inl is_a
-value_named w rest command plain read false true c s b r h is_a is_e is_c is_s is_b is_r is_h = inr (inl is_e)
-value_named w rest command plain read false false true s b r h is_a is_e is_c is_s is_b is_r is_h = inr (inr (inl is_c))
-value_named w rest command plain read false false false true b r h is_a is_e is_c is_s is_b is_r is_h = inr (inr (inr (inl is_s)))
-value_named w rest command plain read false false false false true r h is_a is_e is_c is_s is_b is_r is_h = inr (inr (inr (inr (inl is_b))))
-value_named w rest command plain read false false false false false true h is_a is_e is_c is_s is_b is_r is_h = inr (inr (inr (inr (inr is_r))))
-value_named w rest command plain read false false false false false false true is_a is_e is_c is_s is_b is_r is_h =
+    → bytes_eq (codes "serve") w ≡ v → bytes_eq (codes "help") w ≡ h → IsName w
+value_named w rest command plain read true e c s b r v h is_a is_e is_c is_s is_b is_r is_v is_h = inl is_a
+value_named w rest command plain read false true c s b r v h is_a is_e is_c is_s is_b is_r is_v is_h = inr (inl is_e)
+value_named w rest command plain read false false true s b r v h is_a is_e is_c is_s is_b is_r is_v is_h = inr (inr (inl is_c))
+value_named w rest command plain read false false false true b r v h is_a is_e is_c is_s is_b is_r is_v is_h = inr (inr (inr (inl is_s)))
+value_named w rest command plain read false false false false true r v h is_a is_e is_c is_s is_b is_r is_v is_h = inr (inr (inr (inr (inl is_b))))
+value_named w rest command plain read false false false false false true v h is_a is_e is_c is_s is_b is_r is_v is_h = inr (inr (inr (inr (inr (inl is_r)))))
+value_named w rest command plain read false false false false false false true h is_a is_e is_c is_s is_b is_r is_v is_h = inr (inr (inr (inr (inr (inr is_v)))))
+value_named w rest command plain read false false false false false false false true is_a is_e is_c is_s is_b is_r is_v is_h =
     let none = help_first w rest is_h in absurd (none_some command (sym none ∙ read))
-value_named w rest command plain read false false false false false false false is_a is_e is_c is_s is_b is_r is_h =
-    let none = other_first w rest plain is_a is_e is_c is_s is_b is_r is_h in absurd (none_some command (sym none ∙ read))
+value_named w rest command plain read false false false false false false false false is_a is_e is_c is_s is_b is_r is_v is_h =
+    let none = other_first w rest plain is_a is_e is_c is_s is_b is_r is_v is_h in absurd (none_some command (sym none ∙ read))
 
 first_named : (w : Text) (rest : List Text) (command : Command) → IsUtf8 w → reading (w ∷ rest) ≡ Some command → IsName w
 first_named w rest command utf8 read = elim (word_kind w utf8) [
   | inl v ↦ elim v [
-    | inl plain ↦ value_named w rest command plain read _ _ _ _ _ _ _ refl refl refl refl refl refl refl
+    | inl plain ↦ value_named w rest command plain read _ _ _ _ _ _ _ _ refl refl refl refl refl refl refl refl
     | inr dash ↦ let none = no_reading ((45 ∷ []) ∷ rest) (ap is_empty (dash_unread rest)) in
         absurd (none_some command (sym none ∙ subst (λ a. reading (a ∷ rest) ≡ Some command) dash read))
   ]
@@ -275,89 +269,25 @@ check_before f v = value_cases (λ a. reading (codes "check" ∷ a ∷ codes "--
 
 -- ---- commands that take a disk
 
--- the walk stands still once a subcommand was met
-stopped_walk : (c : List Rule) (names : Names) (w : Walk) (name : Text) (before rest : List Text) → w.stopped ≡ Some (name, before)
-    → fold (walked c names) w rest ≡ record w { stopped = Some (name, before ++ rest) }
-unfolding walked
-stopped_walk c names w name before [] e = ap (λ (s : Option (Text × List Text)). record w { stopped = s }) (e ∙ ap (λ (words : List Text). Some (name, words)) (sym (append-nil before)))
-stopped_walk c names w name before (word ∷ rest) e =
-    let next : walked c names w word ≡ record w { stopped = Some (name, before ++ word ∷ []) } = ap (λ (s : Option (Text × List Text)). walked_from c names s w word) e in
-    ap (λ (v : Walk). fold (walked c names) v rest) next
-    ∙ (stopped_walk c names (record w { stopped = Some (name, before ++ word ∷ []) }) name (before ++ word ∷ []) rest refl
-    ∙ ap (λ (words : List Text). record w { stopped = Some (name, words) }) (append_assoc before (word ∷ []) rest))
-
--- and finds no fault
-stopped_fault : (s : Shape) (names : Names) (w : Walk) (name : Text) (before rest : List Text) → w.stopped ≡ Some (name, before) → walk_fault s names w rest ≡ []
-unfolding walk_fault walked
-stopped_fault s names w name before [] e = refl
-stopped_fault s names w name before (word ∷ rest) e =
-    let next : walked s.rules names w word ≡ record w { stopped = Some (name, before ++ word ∷ []) } = ap (λ (o : Option (Text × List Text)). walked_from s.rules names o w word) e in
-    let here : turn_fault s names w word ≡ [] = simp e in
-    ap (λ (k : Kinds). or_else k (walk_fault s names (walked s.rules names w word) rest)) here
-    ∙ (ap (λ (v : Walk). walk_fault s names v rest) next ∙ stopped_fault s names (record w { stopped = Some (name, before ++ word ∷ []) }) name (before ++ word ∷ []) rest refl)
-
-abbrev top_end : Held → Kinds
-top_end h = or_else (settle_fault top.rules false h) (or_else (defaults_fault (settled top.rules h).rows top.rules) (check_fault top (finished top.rules h) true))
-
--- a level whose words end at a subcommand has the faults of that
-level_below : (w : Walk) (name : Text) (rest : List Text) (below : Kinds) → w.stopped ≡ Some (name, []) → w.held ≡ nothing_held → turn_fault top top_names (walk_from nothing_held) name ≡ []
-    → walked top.rules top_names (walk_from nothing_held) name ≡ w → level_fault top top_names nothing_held (name ∷ rest) true below ≡ or_else below []
-unfolding clap_on_literals
-level_below w name rest below stops bare none goes =
-    let first : walk_fault top top_names (walk_from nothing_held) (name ∷ rest) ≡ [] =
-    ap (λ (k : Kinds). or_else k (walk_fault top top_names (walked top.rules top_names (walk_from nothing_held) name) rest)) none
-    ∙ (ap (λ (v : Walk). walk_fault top top_names v rest) goes ∙ stopped_fault top top_names w name [] rest stops) in
-    let end : (fold (walked top.rules top_names) (walk_from nothing_held) (name ∷ rest)).held ≡ nothing_held =
-    ap (λ (v : Walk). (fold (walked top.rules top_names) v rest).held) goes ∙ (ap (λ (v : Walk). v.held) (stopped_walk top.rules top_names w name [] rest stops) ∙ bare) in
-    ap (λ (k : Kinds). or_else k (or_else below (top_end (fold (walked top.rules top_names) (walk_from nothing_held) (name ∷ rest)).held))) first
-    ∙ ap (λ (h : Held). or_else below (top_end h)) end
-
-or_none : (k : Kinds) → or_else k [] ≡ k
-or_none [] = refl
-or_none (x ∷ xs) = refl
-
-abbrev met_at : Text → Walk
-met_at name = record { held = nothing_held; waiting = idle; position = 1; is_trailing = false; stopped = Some (name, []) }
-
--- the words of a command that takes a disk are read from its own words
-command_goes : (name : Text) (rest : List Text) → stop_after top.rules top_names (name ∷ rest) ≡ Some (name, rest) → turn_fault top top_names (walk_from nothing_held) name ≡ []
-    → walked top.rules top_names (walk_from nothing_held) name ≡ met_at name → entered_fault (built farm_app) (Some (name, rest)) ≡ faults name start rest
-    → entered (built farm_app) (Some (name, rest)) ≡ Some (name, finished (args name) (end_of name start rest)) → bytes_eq name (codes "sign") ≡ false → bytes_eq name (codes "bulk") ≡ false
-    → bytes_eq name (codes "render") ≡ false → reading (name ∷ rest) ≡ reads name start rest
-command_goes name rest stops none goes below met other another third =
-    let app : App = built farm_app in
-    let words : List Text = name ∷ rest in
-    let rows : List Row = finished (args name) (end_of name start rest) in
-    let fault : fault_of farm_app words ≡ faults name start rest =
-    ap (λ (stop : Option (Text × List Text)). level_fault top top_names nothing_held words (is_some (entered app stop)) (entered_fault app stop)) stops
-    ∙ (ap (λ (o : Option (Text × List Row)). level_fault top top_names nothing_held words (is_some o) (entered_fault app (Some (name, rest)))) met
-    ∙ (level_below (met_at name) name rest (entered_fault app (Some (name, rest))) refl refl none goes ∙ (or_none _ ∙ below))) in
-    let read : option_and_then command_in (subcommand_of farm_app words) ≡ found name start rest =
-    ap (λ (stop : Option (Text × List Text)). option_and_then command_in (entered app stop)) stops
-    ∙ (ap (option_and_then command_in) met
-    ∙ (ap (λ (b : Bool). cond b (option_map (λ signing. Sign signing) (signing_in rows)) (cond (bytes_eq name (codes "bulk")) (option_map (λ load. Bulk load) (load_in rows)) (cond (bytes_eq name (codes "render")) (Some Render) (found name start rest)))) other
-    ∙ (ap (λ (b : Bool). cond b (option_map (λ load. Bulk load) (load_in rows)) (cond (bytes_eq name (codes "render")) (Some Render) (found name start rest))) another
-    ∙ ap (λ (b : Bool). cond b (Some Render) (found name start rest)) third))) in
-    ap (λ (k : Kinds). cond (is_empty k) (option_and_then command_in (subcommand_of farm_app words)) None) fault
-    ∙ ap (λ (o : Option Command). cond (is_empty (faults name start rest)) o None) read
-
 answer_goes : (rest : List Text) → reading (codes "answer" ∷ rest) ≡ reads (codes "answer") start rest
 unfolding clap_on_literals
-answer_goes rest = command_goes (codes "answer") rest (answer_stops rest) refl refl refl refl refl refl refl
+answer_goes rest = command_goes (codes "answer") rest (faults (codes "answer") start rest) (finished (args (codes "answer")) (end_of (codes "answer") start rest)) (answer_stops rest) refl refl refl refl
 
 check_goes : (rest : List Text) → reading (codes "check" ∷ rest) ≡ reads (codes "check") start rest
 unfolding clap_on_literals
-check_goes rest = command_goes (codes "check") rest (check_stops rest) refl refl refl refl refl refl refl
+check_goes rest = command_goes (codes "check") rest (faults (codes "check") start rest) (finished (args (codes "check")) (end_of (codes "check") start rest)) (check_stops rest) refl refl refl refl
 
 answer_says : (rest : List Text) (command : Command) → Says (codes "answer") command rest → SaysCommand command (codes "answer" ∷ rest)
 answer_says rest (OverFarm farm (Answer disk)) says = let is : says.0 ≡ disk = cc in (refl, subst (λ (d : Option Text). Gives farm d rest) is says.2)
 answer_says rest (OverFarm farm Expand) says = cc
 answer_says rest (OverFarm farm (Check disk)) says = cc
+answer_says rest (OverFarm farm (Serve service)) says = cc
 answer_says rest (Sign signing) says = tt
 answer_says rest (Bulk load) says = tt
 answer_says rest Render says = absurd says
 
 check_says : (rest : List Text) (command : Command) → Says (codes "check") command rest → SaysCommand command (codes "check" ∷ rest)
+check_says rest (OverFarm farm (Serve service)) says = cc
 check_says rest (OverFarm farm (Answer disk)) says = cc
 check_says rest (OverFarm farm Expand) says = cc
 check_says rest (OverFarm farm (Check disk)) says = let is : says.0 ≡ disk = cc in (refl, subst (λ (d : Option Text). Gives farm d rest) is says.2)
@@ -377,9 +307,12 @@ taken : (b : Bool) (o : Option Command) (command : Command) → cond b o None �
 taken true o command e = e
 taken false o command e = absurd (none_some command e)
 
+other_command : {s : Signing} (farm : Text) (work : Work) → Some (Sign s) ≡ Some (OverFarm farm work) → ⊥
+other_command farm work e = cc
+
 sign_command : (o : Option Signing) (words : List Text) (command : Command) → option_map (λ s. Sign s) o ≡ Some command → SaysCommand command words
 sign_command None words command e = absurd (none_some command e)
-sign_command (Some s) words (OverFarm farm work) e = cc
+sign_command (Some s) words (OverFarm farm work) e = absurd (other_command farm work e)
 sign_command (Some s) words (Sign signing) e = tt
 sign_command (Some s) words (Bulk load) e = tt
 sign_command (Some s) words Render e = cc
@@ -392,9 +325,12 @@ sign_said rest command read =
 
 -- ---- bulk
 
+load_command : (l : Load) (farm : Text) (work : Work) → Some (Bulk l) ≡ Some (OverFarm farm work) → ⊥
+load_command l farm work e = cc
+
 bulk_command : (o : Option Load) (words : List Text) (command : Command) → option_map (λ l. Bulk l) o ≡ Some command → SaysCommand command words
 bulk_command None words command e = absurd (none_some command e)
-bulk_command (Some l) words (OverFarm farm work) e = cc
+bulk_command (Some l) words (OverFarm farm work) e = absurd (load_command l farm work e)
 bulk_command (Some l) words (Sign signing) e = tt
 bulk_command (Some l) words (Bulk load) e = tt
 bulk_command (Some l) words Render e = cc
@@ -407,8 +343,11 @@ bulk_said rest command read =
 
 -- ---- render
 
+render_only : (farm : Text) (work : Work) → Some Render ≡ Some (OverFarm farm work) → ⊥
+render_only farm work e = cc
+
 render_command : (rest : List Text) (command : Command) → EndsOptions rest → reading (codes "render" ∷ rest) ≡ Some command → SaysCommand command (codes "render" ∷ rest)
-render_command rest (OverFarm farm work) ends read = let is = render_read rest ends in cc
+render_command rest (OverFarm farm work) ends read = absurd (render_only farm work (sym (render_read rest ends) ∙ read))
 render_command rest (Sign signing) ends read = tt
 render_command rest (Bulk load) ends read = tt
 render_command rest Render ends read = (refl, ends)
@@ -420,6 +359,13 @@ pub says_render_read : (words : List Text) → SaysRender words → reading word
 says_render_read [] says = absurd says
 says_render_read (w ∷ rest) says = subst (λ a. reading (a ∷ rest) ≡ Some Render) (sym says.0) (render_read rest says.1)
 
+-- ---- serve
+
+serve_said : (rest : List Text) (command : Command) → All IsUtf8 rest → reading (codes "serve" ∷ rest) ≡ Some command → SaysCommand command (codes "serve" ∷ rest)
+serve_said rest command utf8 read =
+    let says = service_said rest command utf8 read in
+    subst (λ (k : Command). SaysCommand k (codes "serve" ∷ rest)) (sym says.2) (refl, says.3)
+
 -- ---- both ways
 
 pub reading_says : (words : List Text) (command : Command) → All IsUtf8 words → reading words ≡ Some command → SaysCommand command words
@@ -430,7 +376,8 @@ reading_says (w ∷ rest) command utf8 read = elim (first_named w rest command (
   | inr (inr (inl c)) ↦ named (codes "check") c (check_said rest command others)
   | inr (inr (inr (inl s))) ↦ named (codes "sign") s (sign_said rest command)
   | inr (inr (inr (inr (inl b)))) ↦ named (codes "bulk") b (bulk_said rest command)
-  | inr (inr (inr (inr (inr r)))) ↦ named (codes "render") r (render_said rest command others)
+  | inr (inr (inr (inr (inr (inl r))))) ↦ named (codes "render") r (render_said rest command others)
+  | inr (inr (inr (inr (inr (inr v))))) ↦ named (codes "serve") v (serve_said rest command others)
 ]
   where
     others : All IsUtf8 rest
@@ -457,5 +404,7 @@ said_read (w ∷ rest) f Expand says =
 said_read (w ∷ rest) f (Check None) says =
     subst (λ a. reading (a ∷ rest) ≡ Some (OverFarm f (Check None))) (sym says.0)
     (given_read (codes "check") (λ f. OverFarm f (Check None)) f rest (check_alone f) (check_after f) (check_before f) says.1)
+said_read (w ∷ rest) f (Serve service) says =
+    subst (λ a. reading (a ∷ rest) ≡ Some (OverFarm f (Serve service))) (sym says.0) (service_read rest f service says.1)
 said_read (w ∷ rest) f (Check (Some d)) says =
     subst (λ a. reading (a ∷ rest) ≡ Some (OverFarm f (Check (Some d)))) (sym says.0) (check_goes rest ∙ both_read (codes "check") f d rest says.1)

@@ -14,7 +14,7 @@ use Rattle.clap.specs.declared.error.ErrorKind.TheVariants.{UnknownArgument, Inv
 use Rattle.command_line.specs.Words.{IsPlain, command_in, disk_of, farm_app, name_of, reading}
 use Rattle.command_line.specs.declared.command.Command.TheVariants.{OverFarm}
 use Rattle.command_line.specs.declared.command.Work.{Work}
-use Rattle.command_line.specs.declared.command.Work.TheVariants.{Answer, Expand, Check}
+use Rattle.command_line.specs.declared.command.Work.TheVariants.{Answer, Expand, Check, Serve}
 
 not_minus : (x : ℕ) (xs : List ℕ) → IsPlain (x ∷ xs) → (x == 45) ≡ false
 not_minus x xs plain = ne_eqb x 45 (λ same. plain (ap Some same))
@@ -41,6 +41,7 @@ plain_read farm (Answer (Some disk)) plain none = cc
 plain_read farm Expand plain none = expand_read farm plain
 plain_read farm (Check None) plain none = check_read farm plain
 plain_read farm (Check (Some disk)) plain none = cc
+plain_read farm (Serve service) plain none = cc
 
 -- words with a fault have no reading
 pub no_reading : (words : List (List ℕ)) → is_empty (fault_of farm_app words) ≡ false → reading words ≡ None
@@ -50,9 +51,9 @@ no_reading words fails = ap (λ (b : Bool). cond b (option_and_then command_in (
 
 first_fault : (x : ℕ) (xs : List ℕ) (rest : List Text) → IsPlain (x ∷ xs) → bytes_eq (codes "answer") (x ∷ xs) ≡ false → bytes_eq (codes "expand") (x ∷ xs) ≡ false
     → bytes_eq (codes "check") (x ∷ xs) ≡ false → bytes_eq (codes "sign") (x ∷ xs) ≡ false → bytes_eq (codes "bulk") (x ∷ xs) ≡ false → bytes_eq (codes "render") (x ∷ xs) ≡ false
-    → bytes_eq (codes "help") (x ∷ xs) ≡ false → fault_of farm_app ((x ∷ xs) ∷ rest) ≡ UnknownArgument ∷ InvalidSubcommand ∷ []
+    → bytes_eq (codes "serve") (x ∷ xs) ≡ false → bytes_eq (codes "help") (x ∷ xs) ≡ false → fault_of farm_app ((x ∷ xs) ∷ rest) ≡ UnknownArgument ∷ InvalidSubcommand ∷ []
 unfolding clap_on_literals
-first_fault x xs rest plain answer expand check sign bulk render help = simp (answer, expand, check, sign, bulk, render, help, not_minus x xs plain)
+first_fault x xs rest plain answer expand check sign bulk render serve help = simp (answer, expand, check, sign, bulk, render, serve, help, not_minus x xs plain)
 
 pub empty_fault : (rest : List Text) → fault_of farm_app ([] ∷ rest) ≡ UnknownArgument ∷ InvalidSubcommand ∷ []
 unfolding clap_on_literals
@@ -119,13 +120,19 @@ render_stops rest =
     let app = built farm_app in
     stopped_on app.top.rules (names_of app) (walked app.top.rules (names_of app) (walk_from nothing_held) (codes "render")) (codes "render") [] rest refl
 
+pub serve_stops : (rest : List Text) → stop_after (built farm_app).top.rules (names_of (built farm_app)) (argument_words farm_app (codes "serve" ∷ rest)) ≡ Some (codes "serve", rest)
+unfolding clap_on_literals
+serve_stops rest =
+    let app = built farm_app in
+    stopped_on app.top.rules (names_of app) (walked app.top.rules (names_of app) (walk_from nothing_held) (codes "serve")) (codes "serve") [] rest refl
+
 -- ---- every first word
 
 pub other_first : (w : Text) (rest : List Text) → IsPlain w → bytes_eq (codes "answer") w ≡ false → bytes_eq (codes "expand") w ≡ false
     → bytes_eq (codes "check") w ≡ false → bytes_eq (codes "sign") w ≡ false → bytes_eq (codes "bulk") w ≡ false → bytes_eq (codes "render") w ≡ false
-    → bytes_eq (codes "help") w ≡ false → reading (w ∷ rest) ≡ None
-other_first [] rest plain a e c s b r h = no_reading ([] ∷ rest) (ap is_empty (empty_fault rest))
-other_first (x ∷ xs) rest plain a e c s b r h = no_reading ((x ∷ xs) ∷ rest) (ap is_empty (first_fault x xs rest plain a e c s b r h))
+    → bytes_eq (codes "serve") w ≡ false → bytes_eq (codes "help") w ≡ false → reading (w ∷ rest) ≡ None
+other_first [] rest plain a e c s b r v h = no_reading ([] ∷ rest) (ap is_empty (empty_fault rest))
+other_first (x ∷ xs) rest plain a e c s b r v h = no_reading ((x ∷ xs) ∷ rest) (ap is_empty (first_fault x xs rest plain a e c s b r v h))
 
 pub help_first : (w : Text) (rest : List Text) → bytes_eq (codes "help") w ≡ true → reading (w ∷ rest) ≡ None
 help_first w rest same =

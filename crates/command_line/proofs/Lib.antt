@@ -1,3 +1,4 @@
+mod CommandLemmas
 mod FaultLemmas
 mod FlagLemmas
 mod FormLemmas
@@ -5,8 +6,13 @@ mod LawLemmas
 mod LoadLemmas
 mod MatchLemmas
 mod OptionLemmas
+mod RangeLemmas
 mod ReadingLemmas
 mod RenderLemmas
+mod ServeFormLemmas
+mod ServeOptionLemmas
+mod ServeWalkLemmas
+mod ServiceLemmas
 mod SigningLemmas
 mod ValueLemmas
 pub mod DiskFormLemmas

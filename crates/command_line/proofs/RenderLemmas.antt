@@ -1,5 +1,5 @@
 -- Which words are read as `render`.
-use Rattle.std.proofs.Common.{◌≡◌, ◌∙◌, Bool, false, suc, refl, sym, ap, subst, arith, inl, inr, List, [], ◌∷◌, Option, Some, None, codes, length}
+use Rattle.std.proofs.Common.{◌≡◌, ◌∙◌, false, refl, sym, ap, subst, arith, inl, inr, List, [], ◌∷◌, Some, None, codes, length}
 use Rattle.std.specs.Prelude.{◌==◌, ◌||◌, IsUtf8, drop, encode_utf8}
 use Rattle.std.specs.List.{All}
 use Rattle.std.specs.Str.{bytes_eq}
@@ -13,7 +13,7 @@ use Rattle.clap.specs.declared.error.ErrorKind.TheVariants.{UnknownArgument}
 use Rattle.command_line.proofs.FaultLemmas.{first_fails, held, level_fails, long_flag, none_some, short_flag}
 use Rattle.command_line.proofs.FlagLemmas.{IsFlag, value_cases, word_kind}
 use Rattle.command_line.proofs.LawLemmas.{fails_below, no_reading, render_stops}
-use Rattle.command_line.specs.Forms.{EndsOptions, IsValue}
+use Rattle.command_line.specs.Options.{EndsOptions, IsValue}
 use Rattle.command_line.specs.Words.{farm_app, reading, render_app}
 use Rattle.command_line.specs.declared.command.Command.{Command}
 use Rattle.command_line.specs.declared.command.Command.TheVariants.{Render}

@@ -14,7 +14,7 @@ same_test true c P bp pb cp pc = sym (pc (bp refl))
 same_test false true P bp pb cp pc = pb (cp refl)
 same_test false false P bp pb cp pc = refl
 
-between_to : (least most n : ℕ) → is_between least most n ≡ true → (least ≤ n) × (n ≤ most)
+pub between_to : (least most n : ℕ) → is_between least most n ≡ true → (least ≤ n) × (n ≤ most)
 between_to least most n e = let p = and_parts _ _ e in (leb-true least n p.0, leb-true n most p.1)
 
 between_from : (least most n : ℕ) → least ≤ n → n ≤ most → is_between least most n ≡ true

@@ -1,7 +1,10 @@
 pub mod Forms
 pub mod Load
+pub mod Options
 pub mod Parts
 pub mod Refusal
+pub mod ServeForms
+pub mod Service
 pub mod Signing
 pub mod Values
 pub mod Words

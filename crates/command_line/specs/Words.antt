@@ -1,14 +1,15 @@
 -- The command line of the farm program, over what the crate clap (https://docs.rs/clap) is stated to read of words.
-use Rattle.std.specs.Prelude.{◌≢◌, ℕ, Bool, true, false, List, Option, Some, None, codes, if◌then◌else◌, option_map, option_and_then, slice_get}
+use Rattle.std.specs.Prelude.{◌≢◌, ℕ, Bool, true, false, List, Option, Some, None, codes, if◌then◌else◌, option_map, option_and_then, slice_get, fold}
 use Rattle.std.specs.Str.{bytes_eq}
 use Rattle.clap.specs.Words.{App, Row, Rule, first_of, new_app, new_rule, subcommand_of, with_rule, with_subcommand, fault_of}
 use Rattle.clap.specs.Walk.{is_empty}
 use Rattle.command_line.specs.Load.{bulk_app, load_in}
+use Rattle.command_line.specs.Service.{service_in, service_options}
 use Rattle.command_line.specs.Signing.{option_rule, sign_app, signing_in}
 use Rattle.command_line.specs.declared.command.Command.{Command}
 use Rattle.command_line.specs.declared.command.Command.TheVariants.{OverFarm, Sign, Bulk, Render}
 use Rattle.command_line.specs.declared.command.Work.{Work}
-use Rattle.command_line.specs.declared.command.Work.TheVariants.{Answer, Expand, Check}
+use Rattle.command_line.specs.declared.command.Work.TheVariants.{Answer, Expand, Check, Serve}
 
 -- FARM: a required word in its place
 abbrev pub farm_argument : Rule
@@ -36,11 +37,15 @@ bare_app =
 abbrev pub render_app : App
 render_app = new_app (codes "render")
 
--- the program with its six commands
+-- the command `serve`, which takes FARM and its options, and nothing else
+abbrev pub serve_app : App
+serve_app = fold with_rule (with_farm (codes "serve")) service_options
+
+-- the program with its seven commands
 abbrev pub farm_app : App
 farm_app =
-    with_subcommand (with_subcommand (with_subcommand (with_subcommand (with_subcommand (with_subcommand bare_app (with_disk (codes "answer")).top) (with_farm (codes "expand")).top)
-    (with_disk (codes "check")).top) sign_app.top) bulk_app.top) render_app.top
+    with_subcommand (with_subcommand (with_subcommand (with_subcommand (with_subcommand (with_subcommand (with_subcommand bare_app (with_disk (codes "answer")).top) (with_farm (codes "expand")).top)
+    (with_disk (codes "check")).top) sign_app.top) bulk_app.top) render_app.top) serve_app.top
 
 -- the work of a name, with this disk
 abbrev pub work_named : List ℕ → Option (List ℕ) → Option Work
@@ -55,12 +60,17 @@ abbrev pub work_in : List ℕ → List Row → Option Command
 work_in name rows =
     option_and_then (λ farm. option_map (λ work. OverFarm farm work) (work_named name (first_of (codes "disk") rows))) (first_of (codes "FARM") rows)
 
+-- the service over the farm file that is given, where there is one
+abbrev pub serve_in : List Row → Option Command
+serve_in rows = option_and_then (λ farm. option_map (λ service. OverFarm farm (Serve service)) (service_in rows)) (first_of (codes "FARM") rows)
+
 -- the command of a subcommand's name and matches
 abbrev pub command_in : List ℕ × List Row → Option Command
 command_in met =
     if bytes_eq met.0 (codes "sign") then option_map (λ signing. Sign signing) (signing_in met.1)
     else if bytes_eq met.0 (codes "bulk") then option_map (λ load. Bulk load) (load_in met.1)
     else if bytes_eq met.0 (codes "render") then Some Render
+    else if bytes_eq met.0 (codes "serve") then serve_in met.1
     else work_in met.0 met.1
 
 -- clap finds no fault in the words, and no request for help
@@ -76,12 +86,14 @@ abbrev pub name_of : Work → List ℕ
 name_of (Answer disk) = codes "answer"
 name_of Expand = codes "expand"
 name_of (Check disk) = codes "check"
+name_of (Serve service) = codes "serve"
 
 -- the disk that it has
 abbrev pub disk_of : Work → Option (List ℕ)
 disk_of (Answer disk) = disk
 disk_of Expand = None
 disk_of (Check disk) = disk
+disk_of (Serve service) = Some service.disk
 
 -- the word does not begin with `-` (45)
 abbrev pub IsPlain : List ℕ → Type 0

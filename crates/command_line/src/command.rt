@@ -1,4 +1,5 @@
 use crate::load::Load;
+use crate::service::Service;
 use crate::signing::Signing;
 use farm_text::Text;
 
@@ -24,4 +25,6 @@ pub enum Work {
     Expand,
     /// The farm file is checked, and then the disk.
     Check { disk: Option<Text> },
+    /// Many connections are served, which come to an address.
+    Serve(Service),
 }

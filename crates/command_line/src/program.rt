@@ -4,7 +4,7 @@ ghost use Rattle.clap.specs.Words.{app_of, new_app, rule_of};
 ghost use Rattle.command_line.specs.Load.{bulk_app};
 ghost use Rattle.command_line.specs.Parts.{IsDiskLeaf, IsLeaf, IsPlainLeaf};
 ghost use Rattle.command_line.specs.Signing.{option_rule, request_fields, sign_app, with_fields};
-ghost use Rattle.command_line.specs.Words.{bare_app, disk_option, farm_app, farm_argument, render_app};
+ghost use Rattle.command_line.specs.Words.{bare_app, farm_app, farm_argument, render_app, serve_app};
 
 use clap::{Arg, Command};
 use std::alloc::{AllocError, Global};
@@ -21,14 +21,14 @@ fn farm_file<'a>(alloc: Global) -> Arg<'a>
 }
 
 /// `--disk`, the file that keeps the farm.
-fn disk<'a>(alloc: Global) -> Arg<'a>
-    ensures rule { rule_of result ≡ disk_option }
+fn disk<'a>(alloc: Global, required: bool) -> Arg<'a>
+    ensures rule { rule_of result ≡ option_rule (codes "disk") required }
     ensures local { result.global ≡ false }
 {
     option(
         alloc,
         "disk",
-        false,
+        required,
         "The file that keeps the farm's records. It is made where it is not there.",
     )
 }
@@ -39,7 +39,7 @@ fn answer<'a>(alloc: Global) -> Result<Command<'a>, AllocError>
     Command::new(alloc, "answer")
         .about("Serves one connection: requests on standard input, replies on standard output.")
         .arg(farm_file(alloc))?
-        .arg(disk(alloc))
+        .arg(disk(alloc, false))
 }
 
 fn expand<'a>(alloc: Global) -> Result<Command<'a>, AllocError>
@@ -56,7 +56,7 @@ fn check<'a>(alloc: Global) -> Result<Command<'a>, AllocError>
     Command::new(alloc, "check")
         .about("Checks the farm file and the disk, and counts what they have.")
         .arg(farm_file(alloc))?
-        .arg(disk(alloc))
+        .arg(disk(alloc, false))
 }
 
 /// `--name`, with one value.
@@ -125,6 +125,33 @@ fn render<'a>(alloc: Global) -> Command<'a>
     Command::new(alloc, "render").about("Renders the template of an input with its context.")
 }
 
+fn serve<'a>(alloc: Global) -> Result<Command<'a>, AllocError>
+    ensures { IfOk result (IsPlainLeaf serve_app) }
+{
+    Command::new(alloc, "serve")
+        .about("Serves connections that come to an address, over a farm that a disk keeps.")
+        .arg(farm_file(alloc))?
+        .arg(disk(alloc, true))?
+        .arg(option(
+            alloc,
+            "listen",
+            true,
+            "The address and the port that are listened at, as 127.0.0.1:8080.",
+        ))?
+        .arg(option(
+            alloc,
+            "workers",
+            false,
+            "How many workers serve side by side: 1 to 64, or else 4.",
+        ))?
+        .arg(option(
+            alloc,
+            "connections",
+            false,
+            "How many connections each worker serves: 1 to 1000000, or else as many.",
+        ))
+}
+
 /// The program without its commands. Its words come without its name.
 fn without_commands<'a>(alloc: Global) -> Result<Command<'a>, AllocError>
     ensures { IfOk result (λ program. app_of program ≡ bare_app) }
@@ -149,5 +176,6 @@ pub(crate) fn farm<'a>(alloc: Global) -> Result<Command<'a>, AllocError>
         .subcommand(check(alloc)?)?
         .subcommand(sign(alloc)?)?
         .subcommand(bulk(alloc)?)?
-        .subcommand(render(alloc))
+        .subcommand(render(alloc))?
+        .subcommand(serve(alloc)?)
 }

@@ -3,11 +3,12 @@ ghost use Rattle.std.specs.Prelude.{◌≡◌, Some, IfOk, MatchResult, Option, 
 ghost use Rattle.clap.specs.Words.{found_of, kind_of, rows_of, subcommand_rows_of};
 ghost use Rattle.command_line.specs.Parts.{TellsOf};
 ghost use Rattle.command_line.specs.Refusal.{Refuses, RefusesWords};
-ghost use Rattle.command_line.specs.Words.{command_in, work_in, work_named, reading};
+ghost use Rattle.command_line.specs.Words.{command_in, serve_in, work_in, work_named, reading};
 
 use crate::command::{Command, Work};
 use crate::load::read_load;
 use crate::program;
+use crate::service::read_service;
 use crate::signing::read_signing;
 use clap::ArgMatches;
 use clap::error::{Error, ErrorKind};
@@ -83,7 +84,32 @@ fn command_of(alloc: Global, matches: &ArgMatches<'_>) -> Result<Command, WordsF
     if name == "render" {
         return Ok(Command::Render);
     }
+    if name == "serve" {
+        return read_serve(alloc, inner);
+    }
     read_work(alloc, name, inner)
+}
+
+/// The service over the farm file that the matches of `serve` give.
+fn read_serve(alloc: Global, matches: &ArgMatches<'_>) -> Result<Command, WordsFault>
+    ensures { MatchResult result
+        (λ command. serve_in (rows_of (found_of matches.now)) ≡ Some command)
+        (Refuses (serve_in (rows_of (found_of matches.now)))) }
+{
+    let Some(farm) = matches.get_str("FARM") else {
+        return Err(WordsFault::usage(alloc, "error: the words name no farm file\n"));
+    };
+    let farm = match Text::from_str(alloc, farm) {
+        Ok(farm) => farm,
+        Err(AllocError) => return Err(WordsFault::NoMemory),
+    };
+    match read_service(alloc, matches) {
+        Ok(service) => Ok(Command::OverFarm {
+            farm,
+            work: Work::Serve(service),
+        }),
+        Err(fault) => Err(fault),
+    }
 }
 
 /// The work of this name, over the farm file and the disk that the matches give.

@@ -134,7 +134,7 @@ pub(crate) fn value<'a>(matches: &ArgMatches<'a>, name: &str) -> &'a str
 }
 
 /// A copy of the value of an option.
-fn text(alloc: Global, matches: &ArgMatches<'_>, name: &str) -> Result<Text, AllocError>
+pub(crate) fn text(alloc: Global, matches: &ArgMatches<'_>, name: &str) -> Result<Text, AllocError>
     ensures { IfOk result (λ text. text ≡ value_in (rows_of (found_of matches.now)) name.now) }
 {
     Text::from_str(alloc, value(matches, name))

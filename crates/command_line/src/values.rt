@@ -124,6 +124,34 @@ pub(crate) fn tasks_of(text: &str) -> Option<u32>
     }
 }
 
+/// The number of workers that a text of 1 to 19 digits says, from 1 to 64.
+pub(crate) fn workers_of(text: &str) -> Option<u8>
+    ensures { MatchOption result (forms.is_number 1 64 text.now ≡ false)
+        (λ workers. (forms.is_number 1 64 text.now ≡ true) × (workers ≡ digits_value 10 text.now)) }
+{
+    if !has_length(text, 1, 19) || !are_digits(text) {
+        return None;
+    }
+    match text.parse::<u8>() {
+        Ok(workers) if 1 <= workers && workers <= 64 => Some(workers),
+        _ => None,
+    }
+}
+
+/// The number of connections that a text of 1 to 19 digits says, from 1 to 1,000,000.
+pub(crate) fn connections_of(text: &str) -> Option<u32>
+    ensures { MatchOption result (forms.is_number 1 1000000 text.now ≡ false)
+        (λ connections. (forms.is_number 1 1000000 text.now ≡ true) × (connections ≡ digits_value 10 text.now)) }
+{
+    if !has_length(text, 1, 19) || !are_digits(text) {
+        return None;
+    }
+    match text.parse::<u32>() {
+        Ok(connections) if 1 <= connections && connections <= 1_000_000 => Some(connections),
+        _ => None,
+    }
+}
+
 /// The port that a text of 1 to 19 digits says, from 1 to 65,535.
 pub(crate) fn port_of(text: &str) -> Option<u16>
     ensures { MatchOption result (forms.is_number 1 65535 text.now ≡ false)

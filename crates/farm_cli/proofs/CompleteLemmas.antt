@@ -6,8 +6,9 @@ use Rattle.causes.specs.Causes.{Rose}
 use Rattle.command_line.specs.declared.command.Command.{Command}
 use Rattle.command_line.specs.declared.command.Command.TheVariants.{OverFarm, Sign, Bulk, Render}
 use Rattle.command_line.specs.declared.command.Work.{Work}
-use Rattle.command_line.specs.declared.command.Work.TheVariants.{Answer, Expand, Check}
+use Rattle.command_line.specs.declared.command.Work.TheVariants.{Answer, Expand, Check, Serve}
 use Rattle.command_line.specs.declared.load.Load.{Load}
+use Rattle.command_line.specs.declared.service.Service.{Service}
 use Rattle.command_line.specs.declared.signing.Signing.{Signing}
 use Rattle.command_line.specs.Words.{disk_of}
 use Rattle.disk_journal.specs.Records.{Opens}
@@ -39,16 +40,24 @@ use Rattle.farm_server.specs.declared.served.Served.TheVariants as served
 use Rattle.farm_server.specs.declared.served.TheConstants.{REQUESTS}
 use Rattle.farm_cli.specs.declared.lending.Lending.TheVariants.{Ready, Back}
 use Rattle.farm_cli.specs.declared.status.Status.{Status}
-use Rattle.farm_cli.specs.declared.status.Status.TheVariants.{Done, Usage, FarmFile, Input, Opening, Disk, Read, Write, NoMemory, Wire, Damaged}
+use Rattle.farm_cli.specs.declared.status.Status.TheVariants.{Done, Usage, FarmFile, Input, Opening, Disk, Door, Read, Write, NoMemory, Wire, Damaged}
 use Rattle.farm_cli.specs.Checking.{CheckedOver, Checks, check_text, disk_text}
-use Rattle.farm_cli.specs.Disks.{BeginsFrom, IsRefusedFor, status_of_fault}
-use Rattle.farm_cli.specs.Complete.{stop_status, status_for, own_text, HasFile, NoFileFault, HasDisk, NoDiskFault, HasSoundDisk, NoConsoleFault, AnswersAll, Answers, WritesAll, Finishes, FinishesSigning, Completes, CompletesLoad, CompletesRendering, CompletesSigning, RefusesFile, RefusesDisk, MissesFile, MissesDisk, TellsUsage}
+use Rattle.farm_cli.specs.Disks.{BeginsFrom, IsRefusedFor, over_disk, status_of_fault}
+use Rattle.farm_cli.specs.Heard.{IsUnheard, IsHeard, ServedOver}
+use Rattle.farm_cli.specs.Serves.{IsStatusOf, NeverServed}
+use Rattle.http_wire.specs.Calls.{LinkState}
+use Rattle.farm_machine.specs.Entry.{Entry}
+use Rattle.farm_serving.specs.Connections.{Station}
+use Rattle.farm_serving.specs.declared.ended.Ended.{Ended}
+use Rattle.farm_cli.proofs.FaultLemmas.{called}
+use Rattle.farm_cli.specs.Complete.{stop_status, status_for, own_text, HasFile, NoFileFault, HasDisk, NoDiskFault, HasSoundDisk, NoConsoleFault, AnswersAll, Answers, ServesSoundly, WritesAll, Finishes, FinishesSigning, Completes, CompletesLoad, CompletesRendering, CompletesSigning, RefusesFile, RefusesDisk, MissesFile, MissesDisk, TellsUsage}
 use Rattle.farm_cli.specs.Expanding.{IsExpansion, IsBadInput, Expands}
 use Rattle.farm_cli.specs.FarmFile.{SetsUp, HasFault, FileRefused}
 use Rattle.farm_cli.specs.House.{Files, Held, holds, refuses, unopened, back, WasLent, WasOpened, Lendings}
 use Rattle.farm_cli.specs.Inputs.{Tells, Turns}
 use Rattle.farm_cli.specs.Run.{DidOver, Obeyed, RanOverFile, RanOver, RanCommand, Ran}
-use Rattle.farm_cli.specs.Serving.{status_of, status_over, IsHistoryOf, ConversedOver}
+use Rattle.farm_cli.specs.Ends.{status_of}
+use Rattle.farm_cli.specs.Serving.{status_over, IsHistoryOf, ConversedOver}
 use Rattle.farm_cli.specs.Loading.{IsLoadLine, Loads}
 use Rattle.farm_cli.specs.Rendering.{IsRendering, IsUnrendered, Renders}
 use Rattle.farm_cli.specs.Signing.{IsSigned, IsTooLong, Signs, SignsAs, signed_line}
@@ -119,7 +128,7 @@ finished bytes asks replies messages ending before after served.NoMemory list li
 
 -- ---- a command over a console that is there, and does not fail
 
-answers_all : {F S C N T I : Type 0} (views : Views F S C N T I) (old new : Lendings F S C N T I) (start : State) (status : Status) (console given console' : C) (clock clock' : T) (draws draws' : I) (asks : List Ask) (replies : List Reply) (served : Served)
+answers_all : {F S C N T I D : Type 0} (views : Views F S C N T I D) (old new : Lendings F S C N T I D) (start : State) (status : Status) (console given console' : C) (clock clock' : T) (draws draws' : I) (asks : List Ask) (replies : List Reply) (served : Served)
     (bytes : List ℕ) (messages : List Message) (ending : Ending)
     → WasLent old.console new.console given console' → Spoke (outside_of views given clock draws) (outside_of views console' clock' draws') asks replies served → (history : IsHistoryOf start asks replies) → HaveNoDisk history.history → status ≡ status_of served
     → old.console ≡ Ready console → views.console_left console ≡ Some bytes → Messages REQUESTS bytes messages ending → NoConsoleFault views new console
@@ -146,7 +155,7 @@ answers_all {C} views old new start status console given console' clock clock' d
     ]
 
 -- what a known input gives was written, or it was refused
-turns_all : {F S C N T I : Type 0} (views : Views F S C N T I) (new : Lendings F S C N T I) (Gives : List ℕ → List ℕ → Type 0) (IsBad : List ℕ → Type 0) (status : Status) (console console' : C) (input : List ℕ)
+turns_all : {F S C N T I D : Type 0} (views : Views F S C N T I D) (new : Lendings F S C N T I D) (Gives : List ℕ → List ℕ → Type 0) (IsBad : List ℕ → Type 0) (status : Status) (console console' : C) (input : List ℕ)
     → status ≢ NoMemory → new.console ≡ Back console' → views.console_left console ≡ Some input
     → ¬ (Rose (views.console_read_faults console) (views.console_read_faults console')) → ¬ (Rose (views.console_write_faults console) (views.console_write_faults console'))
     → Turns Gives IsBad (talk_of views console) (talk_of views console') status
@@ -158,6 +167,7 @@ turns_all views new Gives IsBad FarmFile console console' input some came_back k
 turns_all views new Gives IsBad Input console console' input some came_back known reads_well writes_well did = inr (rw known at did.0, refl)
 turns_all views new Gives IsBad Opening console console' input some came_back known reads_well writes_well did = absurd did.4
 turns_all views new Gives IsBad Disk console console' input some came_back known reads_well writes_well did = absurd did.4
+turns_all views new Gives IsBad Door console console' input some came_back known reads_well writes_well did = absurd did.4
 turns_all views new Gives IsBad Damaged console console' input some came_back known reads_well writes_well did = absurd did.4
 turns_all views new Gives IsBad Read console console' input some came_back known reads_well writes_well did = absurd (reads_well did.0)
 turns_all views new Gives IsBad Write console console' input some came_back known reads_well writes_well did = absurd (writes_well did.4.1)
@@ -165,7 +175,7 @@ turns_all views new Gives IsBad NoMemory console console' input some came_back k
 turns_all views new Gives IsBad Wire console console' input some came_back known reads_well writes_well did = absurd did.4
 
 -- a text was written
-tells_all : {F S C N T I : Type 0} (views : Views F S C N T I) (new : Lendings F S C N T I) (text : List ℕ) (status : Status) (console console' : C)
+tells_all : {F S C N T I D : Type 0} (views : Views F S C N T I D) (new : Lendings F S C N T I D) (text : List ℕ) (status : Status) (console console' : C)
     → status ≢ NoMemory → new.console ≡ Back console' → ¬ (Rose (views.console_write_faults console) (views.console_write_faults console'))
     → Tells text (talk_of views console) (talk_of views console') status → WritesAll views new console text status
 tells_all views new text Done console console' some came_back writes_well did = record { done = refl; console' = console'; came_back = came_back; written = did.1.0 }
@@ -174,6 +184,7 @@ tells_all views new text FarmFile console console' some came_back writes_well di
 tells_all views new text Input console console' some came_back writes_well did = absurd did.1
 tells_all views new text Opening console console' some came_back writes_well did = absurd did.1
 tells_all views new text Disk console console' some came_back writes_well did = absurd did.1
+tells_all views new text Door console console' some came_back writes_well did = absurd did.1
 tells_all views new text Damaged console console' some came_back writes_well did = absurd did.1
 tells_all views new text Read console console' some came_back writes_well did = absurd did.1
 tells_all views new text Write console console' some came_back writes_well did = absurd (writes_well did.1.1)
@@ -187,7 +198,7 @@ given_is : {S : Type 0} (old new : Files S) (name : List ℕ) (at : List ℕ →
 given_is old new name at disk given back' files there opened = (rw (files, there) at opened.could, rw files at opened.returned)
 
 -- it has a farm, or memory ran out
-opens_soundly : {F S C N T I : Type 0} (views : Views F S C N T I) (old new : Lendings F S C N T I) (before now : ℕ) (name : List ℕ) (disk : S) (status : Status) (Did : Type 0)
+opens_soundly : {F S C N T I D : Type 0} (views : Views F S C N T I D) (old new : Lendings F S C N T I D) (before now : ℕ) (name : List ℕ) (disk : S) (status : Status) (Did : Type 0)
     → HasSoundDisk views old new name disk → DidOver views old new before now name status Did → (status ≡ NoMemory) ⊎ Did
 opens_soundly views old new before now name disk status Did sound (inl did) = inr did
 opens_soundly {S} views old new before now name disk status Did sound (inr (inl ran)) = inl (by ran.fault ran.why ran.status_is)
@@ -205,12 +216,12 @@ not_true : (b : Bool) → (b ≡ true → ⊥) → b ≡ false
 not_true true no_ = absurd (no_ refl)
 not_true false no_ = refl
 
-finishes_answer : {F S C N T I : Type 0} (views : Views F S C N T I) (old new : Lendings F S C N T I) (before now : ℕ) (config : Config) (name : List ℕ) (status : Status) (console : C) (disk : S)
+finishes_answer : {F S C N T I D : Type 0} (views : Views F S C N T I D) (old new : Lendings F S C N T I D) (before now : ℕ) (config : Config) (name : List ℕ) (status : Status) (console : C) (disk : S)
     → status ≢ NoMemory → HasSoundDisk views old new name disk → ConversedOver views old new before now config name status → old.console ≡ Ready console → NoConsoleFault views new console
     → (opening : History) × BeginsFrom views disk config opening × Answers views new console opening.state status
 finishes_answer {F} {S} views old new before now config name status console disk some sound ran ready well = (
   ran.opening,
-  subst (λ (d : S). BeginsFrom views d config ran.opening) met.0 ran.begins,
+  subst (λ (d : S). BeginsFrom views d config ran.opening) met.0 ran.led.begins,
   λ bytes messages ending known list. elim (answers_all views old new ran.opening.state status console ran.console_given ran.console_back ran.clock_given ran.clock_back ran.draws_given ran.draws_back ran.asks ran.replies ran.served bytes messages ending
       ran.console ran.spoke ran.history (HaveNoDisk-at_work ran.opening.state ran.history.history ran.history.legal at_work) (ran.status_is ∙ ap (λ (b : Bool). status_over b ran.served) at_work) ready known list well) [
         | inl none ↦ absurd (some none)
@@ -218,16 +229,58 @@ finishes_answer {F} {S} views old new before now config name status console disk
       ],
 )
   where
-    met : (ran.disk_given ≡ disk) × (new.disk ≡ back ran.disk_back)
-    met = given_is old.disk new.disk name sound.has.at disk ran.disk_given ran.disk_back sound.has.disks sound.has.there ran.disk
+    met : (ran.led.disk_given ≡ disk) × (new.disk ≡ back ran.led.disk_back)
+    met = given_is old.disk new.disk name sound.has.at disk ran.led.disk_given ran.led.disk_back sound.has.disks sound.has.there ran.led.disk
 
-    rose_by : (end_state farm_rules ran.opening.state ran.history.history).halted ≡ true → Rose (views.disk_faults disk) (views.disk_faults ran.disk_back)
-    rose_by fell = subst (λ (n : ℕ). Rose n (views.disk_faults ran.disk_back)) (ran.begins.faults ∙ ap views.disk_faults met.0) (ran.holds.holds.counts.rose fell)
+    rose_by : (end_state farm_rules ran.opening.state ran.history.history).halted ≡ true → Rose (views.disk_faults disk) (views.disk_faults ran.led.disk_back)
+    rose_by fell = subst (λ (n : ℕ). Rose n (views.disk_faults ran.led.disk_back)) (ran.led.begins.faults ∙ ap views.disk_faults met.0) (ran.led.holds.holds.counts.rose fell)
 
     at_work : (end_state farm_rules ran.opening.state ran.history.history).halted ≡ false
-    at_work = not_true (end_state farm_rules ran.opening.state ran.history.history).halted (λ fell. sound.well ran.disk_back met.1 (rose_by fell))
+    at_work = not_true (end_state farm_rules ran.opening.state ran.history.history).halted (λ fell. sound.well ran.led.disk_back met.1 (rose_by fell))
 
-finishes_check : {F S C N T I : Type 0} (views : Views F S C N T I) (old new : Lendings F S C N T I) (before now : ℕ) (config : Config) (name : List ℕ) (status : Status) (console : C) (disk : S)
+-- what serving calls for is no fault of the disk
+not_of_disk : (ended : Ended) (last status : Status) → IsStatusOf ended last status → ¬ (status ≡ Disk) × ¬ (status ≡ Damaged)
+not_of_disk ended last status is = (λ disk. called ended last Disk (rw disk at is), λ damaged. called ended last Damaged (rw damaged at is))
+
+never_of_disk : (before after : LinkState) (lent : Station) (crew : List Station) (status : Status) → NeverServed before after lent crew status → ¬ (status ≡ Disk) × ¬ (status ≡ Damaged)
+never_of_disk before after lent crew status never = (λ disk. rw disk at never, λ damaged. rw damaged at never)
+
+heard_soundly : {F S C N T I D : Type 0} (views : Views F S C N T I D) (old new : Lendings F S C N T I D) (before now : ℕ) (service : Service) (start : State) (history : List Entry) (calls : List ℕ) (status : Status)
+    → IsUnheard old new before now service.listen history status ⊎ IsHeard views old new before now service start history calls status → ¬ (status ≡ Disk) × ¬ (status ≡ Damaged)
+heard_soundly views old new before now service start history calls status (inl unheard) = elim unheard.why [
+  | inl none ↦ (λ disk. let e : NoMemory ≡ Disk = sym none.0 ∙ disk in cc, λ damaged. let e : NoMemory ≡ Damaged = sym none.0 ∙ damaged in cc)
+  | inr refused ↦ (λ disk. let e : Door ≡ Disk = sym refused.0 ∙ disk in cc, λ damaged. let e : Door ≡ Damaged = sym refused.0 ∙ damaged in cc)
+]
+heard_soundly views old new before now service start history calls status (inr heard) = elim heard.lent.did [
+  | inl served ↦ not_of_disk served.served.ended served.served.last status served.served.status_is
+  | inr never ↦ never_of_disk _ _ _ _ status never.1
+]
+
+finishes_serving : {F S C N T I D : Type 0} (views : Views F S C N T I D) (old new : Lendings F S C N T I D) (before now : ℕ) (config : Config) (service : Service) (status : Status) (disk : S)
+    → HasSoundDisk views old new service.disk disk → ServedOver views old new before now config service status → ServesSoundly views disk config status
+finishes_serving {F} {S} views old new before now config service status disk sound ran = (
+  ran.opening,
+  subst (λ (d : S). BeginsFrom views d config ran.opening) met.0 ran.led.begins,
+  λ is. soundly.0 (sym status_is ∙ is),
+  λ is. soundly.1 (sym status_is ∙ is),
+)
+  where
+    met : (ran.led.disk_given ≡ disk) × (new.disk ≡ back ran.led.disk_back)
+    met = given_is old.disk new.disk service.disk sound.has.at disk ran.led.disk_given ran.led.disk_back sound.has.disks sound.has.there ran.led.disk
+
+    rose_by : (end_state farm_rules ran.opening.state ran.history).halted ≡ true → Rose (views.disk_faults disk) (views.disk_faults ran.led.disk_back)
+    rose_by fell = subst (λ (n : ℕ). Rose n (views.disk_faults ran.led.disk_back)) (ran.led.begins.faults ∙ ap views.disk_faults met.0) (ran.led.holds.holds.counts.rose fell)
+
+    at_work : (end_state farm_rules ran.opening.state ran.history).halted ≡ false
+    at_work = not_true (end_state farm_rules ran.opening.state ran.history).halted (λ fell. sound.well ran.led.disk_back met.1 (rose_by fell))
+
+    status_is : status ≡ ran.calls_for
+    status_is = ran.status_is ∙ ap (λ (b : Bool). over_disk b ran.calls_for) at_work
+
+    soundly : ¬ (ran.calls_for ≡ Disk) × ¬ (ran.calls_for ≡ Damaged)
+    soundly = heard_soundly views old new before now service ran.opening.state ran.history ran.calls ran.calls_for ran.did
+
+finishes_check : {F S C N T I D : Type 0} (views : Views F S C N T I D) (old new : Lendings F S C N T I D) (before now : ℕ) (config : Config) (name : List ℕ) (status : Status) (console : C) (disk : S)
     → status ≢ NoMemory → HasSoundDisk views old new name disk → CheckedOver views old new before now config name status → old.console ≡ Ready console → NoConsoleFault views new console
     → (opening : History) × BeginsFrom views disk config opening × WritesAll views new console (disk_text config (length opening.records) (length opening.state.contents.rows)) status
 finishes_check {F} {S} {C} views old new before now config name status console disk some sound ran ready well =
@@ -240,7 +293,7 @@ finishes_check {F} {S} {C} views old new before now config name status console d
       tells_all views new text status console ran.back some came_back (well.writes ran.back came_back) (subst (λ (x : C). Tells text (talk_of views x) (talk_of views ran.back) status) given ran.did),
     )
 
-finishes : {F S C N T I : Type 0} (views : Views F S C N T I) (old new : Lendings F S C N T I) (before now : ℕ) (config : Config) (work : Work) (status : Status) (console : C)
+finishes : {F S C N T I D : Type 0} (views : Views F S C N T I D) (old new : Lendings F S C N T I D) (before now : ℕ) (config : Config) (work : Work) (status : Status) (console : C)
     → status ≢ NoMemory → Obeyed views old new before now config work status → old.console ≡ Ready console → NoConsoleFault views new console
     → Finishes views old new console config work status
 finishes views old new before now config (Answer None) status console some ran ready well = λ bytes messages ending known list.
@@ -254,6 +307,11 @@ finishes views old new before now config (Answer (Some name)) status console som
     elim (opens_soundly views old new before now name disk status _ sound ran) [
       | inl none ↦ absurd (some none)
       | inr did ↦ finishes_answer views old new before now config name status console disk some sound did ready well
+    ]
+finishes views old new before now config (Serve service) status console some ran ready well = λ disk sound.
+    elim (opens_soundly views old new before now service.disk disk status _ sound ran) [
+      | inl none ↦ absurd (some none)
+      | inr did ↦ finishes_serving views old new before now config service status disk sound did
     ]
 finishes {C} views old new before now config Expand status console some ran ready well = λ input known.
     let used = ran.1 in
@@ -273,7 +331,7 @@ finishes views old new before now config (Check (Some name)) status console some
       | inr did ↦ finishes_check views old new before now config name status console disk some sound did ready well
     ]
 
-finishes_signing : {F S C N T I : Type 0} (views : Views F S C N T I) (new : Lendings F S C N T I) (signing : Signing) (kind : Option (List ℕ)) (status : Status) (console console' : C)
+finishes_signing : {F S C N T I D : Type 0} (views : Views F S C N T I D) (new : Lendings F S C N T I D) (signing : Signing) (kind : Option (List ℕ)) (status : Status) (console console' : C)
     → status ≢ NoMemory → new.console ≡ Back console' → NoConsoleFault views new console → SignsAs signing kind (talk_of views console) (talk_of views console') status
     → FinishesSigning views new console signing kind status
 finishes_signing views new signing None status console console' some came_back well did =
@@ -281,7 +339,7 @@ finishes_signing views new signing None status console console' some came_back w
 finishes_signing views new signing (Some content_type) status console console' some came_back well did = λ body known.
     turns_all views new (IsSigned signing content_type) IsTooLong status console console' body some came_back known (well.reads console' came_back) (well.writes console' came_back) did
 
-finishes_load : {F S C N T I : Type 0} (views : Views F S C N T I) (new : Lendings F S C N T I) (load : Load) (status : Status) (console console' : C)
+finishes_load : {F S C N T I D : Type 0} (views : Views F S C N T I D) (new : Lendings F S C N T I D) (load : Load) (status : Status) (console console' : C)
     → status ≢ NoMemory → new.console ≡ Back console' → NoConsoleFault views new console → Loads load (talk_of views console) (talk_of views console') status
     → (text : List ℕ) × IsLoadLine load text × WritesAll views new console text status
 finishes_load views new load NoMemory console console' some came_back well did = absurd (some refl)
@@ -297,6 +355,8 @@ finishes_load views new load Opening console console' some came_back well did =
     (did.0, did.1, tells_all views new did.0 Opening console console' some came_back (well.writes console' came_back) did.2)
 finishes_load views new load Disk console console' some came_back well did =
     (did.0, did.1, tells_all views new did.0 Disk console console' some came_back (well.writes console' came_back) did.2)
+finishes_load views new load Door console console' some came_back well did =
+    (did.0, did.1, tells_all views new did.0 Door console console' some came_back (well.writes console' came_back) did.2)
 finishes_load views new load Damaged console console' some came_back well did =
     (did.0, did.1, tells_all views new did.0 Damaged console console' some came_back (well.writes console' came_back) did.2)
 finishes_load views new load Read console console' some came_back well did =
@@ -315,6 +375,7 @@ is_memory FarmFile = inr (λ e. cc)
 is_memory Input = inr (λ e. cc)
 is_memory Opening = inr (λ e. cc)
 is_memory Disk = inr (λ e. cc)
+is_memory Door = inr (λ e. cc)
 is_memory Damaged = inr (λ e. cc)
 is_memory Read = inr (λ e. cc)
 is_memory Write = inr (λ e. cc)
@@ -334,12 +395,12 @@ words_taken said command status asked (inl none) = none
 words_taken said command status asked (inr usage) = absurd (no_command said command asked usage.1)
 
 -- a command was run over the file that the house has
-record Opened {F S C N T I : Type 0} (views : Views F S C N T I) (old new : Lendings F S C N T I) (before now : ℕ) (work : Work) (file : F) (status : Status) : Type 0 where
+record Opened {F S C N T I D : Type 0} (views : Views F S C N T I D) (old new : Lendings F S C N T I D) (before now : ℕ) (work : Work) (file : F) (status : Status) : Type 0 where
   closed : F
   came_back : new.file ≡ back closed
   ran : RanOverFile views old new before now work file closed status
 
-opened_over : {F S C N T I : Type 0} (views : Views F S C N T I) (old new : Lendings F S C N T I) (before now : ℕ) (said : Option Command) (work : Work) (file : F) (status : Status) (has : HasFile old said work (holds file))
+opened_over : {F S C N T I D : Type 0} (views : Views F S C N T I D) (old new : Lendings F S C N T I D) (before now : ℕ) (said : Option Command) (work : Work) (file : F) (status : Status) (has : HasFile old said work (holds file))
     → RanOver views old new before now has.farm work status → Opened views old new before now work file status
 opened_over {F} views old new before now said work file status has over =
     let is = rw (has.files, has.there) at over.file.could in
@@ -350,14 +411,14 @@ opened_over {F} views old new before now said work file status has over =
     }
 
 -- the run of the command that the words ask for
-run_of : {F S C N T I : Type 0} (views : Views F S C N T I) (old new : Lendings F S C N T I) (before now : ℕ) (said : Option Command) (command : Command) (status : Status)
+run_of : {F S C N T I D : Type 0} (views : Views F S C N T I D) (old new : Lendings F S C N T I D) (before now : ℕ) (said : Option Command) (command : Command) (status : Status)
     → said ≡ Some command → Ran views old new before now said status → (status ≡ NoMemory) ⊎ RanCommand views old new before now command status
 run_of views old new before now said command status asked (inl refused) = inl (words_taken said command status asked refused.why)
 run_of views old new before now said command status asked (inr ran) =
     let same : ran.0 ≡ command = same_command said ran.0 command ran.1 asked in
     inr (subst (λ c. RanCommand views old new before now c status) same ran.2)
 
-over_file : {F S C N T I : Type 0} (views : Views F S C N T I) (old new : Lendings F S C N T I) (before now : ℕ) (said : Option Command) (work : Work) (file : F) (status : Status)
+over_file : {F S C N T I D : Type 0} (views : Views F S C N T I D) (old new : Lendings F S C N T I D) (before now : ℕ) (said : Option Command) (work : Work) (file : F) (status : Status)
     → HasFile old said work (holds file) → ¬ (Rose before now) → Ran views old new before now said status
     → (status ≡ NoMemory) ⊎ Opened views old new before now work file status
 over_file views old new before now said work file status has well ran =
@@ -378,11 +439,12 @@ refused_by left before now Usage why well = absurd why
 refused_by left before now Input why well = absurd why
 refused_by left before now Opening why well = absurd why
 refused_by left before now Disk why well = absurd why
+refused_by left before now Door why well = absurd why
 refused_by left before now Damaged why well = absurd why
 refused_by left before now Write why well = absurd why
 refused_by left before now Wire why well = absurd why
 
-completes_over : {F S C N T I : Type 0} (views : Views F S C N T I) (old new : Lendings F S C N T I) (before now : ℕ) (work : Work) (file : F) (bytes : List ℕ) (console : C) (status : Status)
+completes_over : {F S C N T I D : Type 0} (views : Views F S C N T I D) (old new : Lendings F S C N T I D) (before now : ℕ) (work : Work) (file : F) (bytes : List ℕ) (console : C) (status : Status)
     → Opened views old new before now work file status → views.file_left file ≡ Some bytes → ¬ HasFault bytes → NoFileFault views new before now file
     → old.console ≡ Ready console → NoConsoleFault views new console
     → (status ≡ NoMemory) ⊎ ((config : Config) × SetsUp bytes config × Finishes views old new console config work status)
@@ -398,7 +460,7 @@ completes_over views old new before now work file bytes console status opened le
       ]
     ]
 
-refuses_over : {F S C N T I : Type 0} (views : Views F S C N T I) (old new : Lendings F S C N T I) (before now : ℕ) (work : Work) (file : F) (bytes : List ℕ) (status : Status)
+refuses_over : {F S C N T I D : Type 0} (views : Views F S C N T I D) (old new : Lendings F S C N T I D) (before now : ℕ) (work : Work) (file : F) (bytes : List ℕ) (status : Status)
     → Opened views old new before now work file status → views.file_left file ≡ Some bytes → HasFault bytes → NoFileFault views new before now file
     → (status ≡ NoMemory) ⊎ (status ≡ FarmFile)
 refuses_over views old new before now work file bytes status opened left fault well =
@@ -411,7 +473,7 @@ refuses_over views old new before now work file bytes status opened left fault w
     ]
 
 -- a file that breaks no rule and could be read was taken, or memory ran out
-taken_over : {F S C N T I : Type 0} (views : Views F S C N T I) (old new : Lendings F S C N T I) (before now : ℕ) (work : Work) (file : F) (bytes : List ℕ) (status : Status)
+taken_over : {F S C N T I D : Type 0} (views : Views F S C N T I D) (old new : Lendings F S C N T I D) (before now : ℕ) (work : Work) (file : F) (bytes : List ℕ) (status : Status)
     → Opened views old new before now work file status → views.file_left file ≡ Some bytes → ¬ HasFault bytes → ((file' : F) → new.file ≡ back file' → ¬ (Rose (views.file_faults file) (views.file_faults file')))
     → (status ≡ NoMemory) ⊎ ((config : Config) × Obeyed views old new before now config work status)
 taken_over views old new before now work file bytes status opened left sound well =
@@ -430,7 +492,7 @@ begun_undamaged one file changes bodies contents place recorded leaves opens dam
     image-sound one file bodies [] contents place (subst (λ (l : List (List ℕ)). Replays l contents) (sym (append-nil bodies)) whole) opens damaged
 
 -- work over a damaged disk ends so
-refuses_disk : {F S C N T I : Type 0} (views : Views F S C N T I) (old new : Lendings F S C N T I) (before now : ℕ) (config : Config) (name : List ℕ) (disk : S) (place : ℕ) (status : Status) (Did : Type 0)
+refuses_disk : {F S C N T I D : Type 0} (views : Views F S C N T I D) (old new : Lendings F S C N T I D) (before now : ℕ) (config : Config) (name : List ℕ) (disk : S) (place : ℕ) (status : Status) (Did : Type 0)
     → HasDisk old name (holds disk) → views.disk_tells → IsFarmDamaged (views.disk_contents disk).bytes place → NoDiskFault views new disk → ¬ (Rose before now)
     → (Did → (given : S) × (back' : S) × (opening : History) × WasOpened old.disk new.disk name given back' × BeginsFrom views given config opening) → OneChange
     → DidOver views old new before now name status Did → (status ≡ NoMemory) ⊎ (status ≡ Damaged)
@@ -450,7 +512,7 @@ refuses_disk {F} {S} views old new before now config name disk place status Did 
     by faults.NoMemory why is = inl is
 refuses_disk views old new before now config name disk place status Did has tells damaged well openings begins one (inr (inr ran)) = absurd (openings ran.rose)
 
-pub RefusesDisk-from_run : {F S C N T I : Type 0} (views : Views F S C N T I) (old new : Lendings F S C N T I) (before now : ℕ) (said : Option Command) (status : Status) → OneChange
+pub RefusesDisk-from_run : {F S C N T I D : Type 0} (views : Views F S C N T I D) (old new : Lendings F S C N T I D) (before now : ℕ) (said : Option Command) (status : Status) → OneChange
     → Ran views old new before now said status → RefusesDisk views old new before now said status
 RefusesDisk-from_run {F} {S} views old new before now said status one ran = λ work file bytes name disk place has left sound well asked has_disk tells damaged disk_well.
     elim (over_file views old new before now said work file status has well.openings ran) [
@@ -467,7 +529,11 @@ RefusesDisk-from_run {F} {S} views old new before now said status one ran = λ w
     refuses_by (Answer (Some other)) config name disk place asked has_disk tells damaged well openings did =
         let same : other ≡ name = cc in
         refuses_disk views old new before now config other disk place status _ (subst (λ n. HasDisk old n (holds disk)) (sym same) has_disk) tells damaged well openings
-        (λ d. (d.disk_given, d.disk_back, d.opening, d.disk, d.begins)) one did
+        (λ d. (d.led.disk_given, d.led.disk_back, d.opening, d.led.disk, d.led.begins)) one did
+    refuses_by (Serve service) config name disk place asked has_disk tells damaged well openings did =
+        let same : service.disk ≡ name = cc in
+        refuses_disk views old new before now config service.disk disk place status _ (subst (λ n. HasDisk old n (holds disk)) (sym same) has_disk) tells damaged well openings
+        (λ d. (d.led.disk_given, d.led.disk_back, d.opening, d.led.disk, d.led.begins)) one did
     refuses_by Expand config name disk place asked has_disk tells damaged well openings did = cc
     refuses_by (Check None) config name disk place asked has_disk tells damaged well openings did = cc
     refuses_by (Check (Some other)) config name disk place asked has_disk tells damaged well openings did =
@@ -476,13 +542,13 @@ RefusesDisk-from_run {F} {S} views old new before now said status one ran = λ w
         (λ d. (d.disk_given, d.disk_back, d.opening, d.disk, d.begins)) one did
 
 -- a disk that is not there
-misses_disk : {F S C N T I : Type 0} (views : Views F S C N T I) (old new : Lendings F S C N T I) (before now : ℕ) (name : List ℕ) (status : Status) (Did : Type 0)
+misses_disk : {F S C N T I D : Type 0} (views : Views F S C N T I D) (old new : Lendings F S C N T I D) (before now : ℕ) (name : List ℕ) (status : Status) (Did : Type 0)
     → HasDisk old name refuses → (Did → (given : S) × (back' : S) × WasOpened old.disk new.disk name given back') → DidOver views old new before now name status Did → status ≡ Disk
 misses_disk views old new before now name status Did has opened (inl did) = let (given, back', met) = opened did in absurd (rw (has.disks, has.there) at met.could)
 misses_disk views old new before now name status Did has opened (inr (inl ran)) = absurd (rw (has.disks, has.there) at ran.disk.could)
 misses_disk views old new before now name status Did has opened (inr (inr ran)) = ran.status_is
 
-pub Completes-from_run : {F S C N T I : Type 0} (views : Views F S C N T I) (old new : Lendings F S C N T I) (before now : ℕ) (said : Option Command) (status : Status)
+pub Completes-from_run : {F S C N T I D : Type 0} (views : Views F S C N T I D) (old new : Lendings F S C N T I D) (before now : ℕ) (said : Option Command) (status : Status)
     → Ran views old new before now said status → Completes views old new before now said status
 Completes-from_run views old new before now said status ran = λ work file bytes console has left sound well ready console_well.
     elim (over_file views old new before now said work file status has well.openings ran) [
@@ -490,7 +556,7 @@ Completes-from_run views old new before now said status ran = λ work file bytes
       | inr opened ↦ completes_over views old new before now work file bytes console status opened left sound well ready console_well
     ]
 
-pub RefusesFile-from_run : {F S C N T I : Type 0} (views : Views F S C N T I) (old new : Lendings F S C N T I) (before now : ℕ) (said : Option Command) (status : Status)
+pub RefusesFile-from_run : {F S C N T I D : Type 0} (views : Views F S C N T I D) (old new : Lendings F S C N T I D) (before now : ℕ) (said : Option Command) (status : Status)
     → Ran views old new before now said status → RefusesFile views old new before now said status
 RefusesFile-from_run views old new before now said status ran = λ work file bytes has left fault well.
     elim (over_file views old new before now said work file status has well.openings ran) [
@@ -498,7 +564,7 @@ RefusesFile-from_run views old new before now said status ran = λ work file byt
       | inr opened ↦ refuses_over views old new before now work file bytes status opened left fault well
     ]
 
-pub MissesFile-from_run : {F S C N T I : Type 0} (views : Views F S C N T I) (old new : Lendings F S C N T I) (before now : ℕ) (said : Option Command) (status : Status)
+pub MissesFile-from_run : {F S C N T I D : Type 0} (views : Views F S C N T I D) (old new : Lendings F S C N T I D) (before now : ℕ) (said : Option Command) (status : Status)
     → Ran views old new before now said status → MissesFile old said status
 MissesFile-from_run views old new before now said status ran = λ work has.
     elim (run_of views old new before now said (OverFarm has.farm work) status has.asked ran) [
@@ -507,7 +573,7 @@ MissesFile-from_run views old new before now said status ran = λ work has.
       | inr (inr over) ↦ absurd (rw (has.files, has.there) at over.file.could)
     ]
 
-pub CompletesSigning-from_run : {F S C N T I : Type 0} (views : Views F S C N T I) (old new : Lendings F S C N T I) (before now : ℕ) (said : Option Command) (status : Status)
+pub CompletesSigning-from_run : {F S C N T I D : Type 0} (views : Views F S C N T I D) (old new : Lendings F S C N T I D) (before now : ℕ) (said : Option Command) (status : Status)
     → Ran views old new before now said status → CompletesSigning views old new said status
 CompletesSigning-from_run {F} {C} views old new before now said status ran = λ signing console asked ready well.
     elim (run_of views old new before now said (Sign signing) status asked ran) [
@@ -524,7 +590,7 @@ CompletesSigning-from_run {F} {C} views old new before now said status ran = λ 
       ]
     ]
 
-pub CompletesLoad-from_run : {F S C N T I : Type 0} (views : Views F S C N T I) (old new : Lendings F S C N T I) (before now : ℕ) (said : Option Command) (status : Status)
+pub CompletesLoad-from_run : {F S C N T I D : Type 0} (views : Views F S C N T I D) (old new : Lendings F S C N T I D) (before now : ℕ) (said : Option Command) (status : Status)
     → Ran views old new before now said status → CompletesLoad views old new said status
 CompletesLoad-from_run {F} {C} views old new before now said status ran = λ load console asked ready well.
     elim (run_of views old new before now said (Bulk load) status asked ran) [
@@ -541,7 +607,7 @@ CompletesLoad-from_run {F} {C} views old new before now said status ran = λ loa
       ]
     ]
 
-pub CompletesRendering-from_run : {F S C N T I : Type 0} (views : Views F S C N T I) (old new : Lendings F S C N T I) (before now : ℕ) (said : Option Command) (status : Status)
+pub CompletesRendering-from_run : {F S C N T I D : Type 0} (views : Views F S C N T I D) (old new : Lendings F S C N T I D) (before now : ℕ) (said : Option Command) (status : Status)
     → Ran views old new before now said status → CompletesRendering views old new said status
 CompletesRendering-from_run {F} {C} views old new before now said status ran = λ input console asked ready known well.
     elim (run_of views old new before now said Render status asked ran) [
@@ -559,7 +625,7 @@ CompletesRendering-from_run {F} {C} views old new before now said status ran = �
     ]
 
 -- words without a reading
-pub TellsUsage-from_run : {F S C N T I : Type 0} (views : Views F S C N T I) (old new : Lendings F S C N T I) (before now : ℕ) (said : Option Command) (status : Status)
+pub TellsUsage-from_run : {F S C N T I D : Type 0} (views : Views F S C N T I D) (old new : Lendings F S C N T I D) (before now : ℕ) (said : Option Command) (status : Status)
     → Ran views old new before now said status → TellsUsage said status
 TellsUsage-from_run views old new before now said status (inl refused) = λ unread. elim refused.why [
   | inl none ↦ inl none
@@ -567,7 +633,7 @@ TellsUsage-from_run views old new before now said status (inl refused) = λ unre
 ]
 TellsUsage-from_run views old new before now said status (inr ran) = λ unread. absurd (no_command said ran.0 ran.1 unread)
 
-pub MissesDisk-from_run : {F S C N T I : Type 0} (views : Views F S C N T I) (old new : Lendings F S C N T I) (before now : ℕ) (said : Option Command) (status : Status)
+pub MissesDisk-from_run : {F S C N T I D : Type 0} (views : Views F S C N T I D) (old new : Lendings F S C N T I D) (before now : ℕ) (said : Option Command) (status : Status)
     → Ran views old new before now said status → MissesDisk views old new said status
 MissesDisk-from_run {F} {S} views old new before now said status ran = λ work file bytes name has left sound well asked has_disk.
     elim (run_of views old new before now said (OverFarm has.farm work) status has.asked ran) [
@@ -583,7 +649,10 @@ MissesDisk-from_run {F} {S} views old new before now said status ran = λ work f
     misses_by (Answer None) config name asked has_disk did = cc
     misses_by (Answer (Some other)) config name asked has_disk did =
         let same : other ≡ name = cc in
-        misses_disk views old new before now other status _ (subst (λ n. HasDisk old n refuses) (sym same) has_disk) (λ d. (d.disk_given, d.disk_back, d.disk)) did
+        misses_disk views old new before now other status _ (subst (λ n. HasDisk old n refuses) (sym same) has_disk) (λ d. (d.led.disk_given, d.led.disk_back, d.led.disk)) did
+    misses_by (Serve service) config name asked has_disk did =
+        let same : service.disk ≡ name = cc in
+        misses_disk views old new before now service.disk status _ (subst (λ n. HasDisk old n refuses) (sym same) has_disk) (λ d. (d.led.disk_given, d.led.disk_back, d.led.disk)) did
     misses_by Expand config name asked has_disk did = cc
     misses_by (Check None) config name asked has_disk did = cc
     misses_by (Check (Some other)) config name asked has_disk did =

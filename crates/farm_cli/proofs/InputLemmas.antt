@@ -6,7 +6,7 @@ use Rattle.http_wire.specs.Calls.{LinkState}
 use Rattle.farm_cli.specs.Inputs.{Turns}
 use Rattle.farm_cli.specs.Writing.{SameReads, SameWrites, WritesText}
 use Rattle.farm_cli.specs.declared.status.Status.{Status}
-use Rattle.farm_cli.specs.declared.status.Status.TheVariants.{Done, Usage, FarmFile, Input, Opening, Disk, Read, Write, NoMemory, Wire, Damaged}
+use Rattle.farm_cli.specs.declared.status.Status.TheVariants.{Done, Usage, FarmFile, Input, Opening, Disk, Door, Read, Write, NoMemory, Wire, Damaged}
 
 -- all that was left was read, and this is so of it
 held : (left : Option (List ℕ)) (input : List ℕ) (IsSo : List ℕ → Type 0) → IfSome left (λ all. input ≡ all) → IsSo input → IfSome left IsSo
@@ -31,4 +31,5 @@ module _ (Gives : List ℕ → List ℕ → Type 0) (IsBad : List ℕ → Type 0
   Turns-written before between after input text Read all is end reads same kept writes = absurd writes
   Turns-written before between after input text NoMemory all is end reads same kept writes = absurd writes
   Turns-written before between after input text Wire all is end reads same kept writes = absurd writes
+  Turns-written before between after input text Door all is end reads same kept writes = absurd writes
   Turns-written before between after input text Damaged all is end reads same kept writes = absurd writes

@@ -6,7 +6,7 @@ use Rattle.plain_text.specs.Plain.{IsPlain}
 use Rattle.farm_cli.specs.Notes.{IsLineOf, IsOneLine}
 use Rattle.farm_cli.specs.Status.{front_of, line_of}
 use Rattle.farm_cli.specs.declared.status.Status.{Status}
-use Rattle.farm_cli.specs.declared.status.Status.TheVariants.{Done, Usage, FarmFile, Input, Opening, Disk, Read, Write, NoMemory, Wire, Damaged}
+use Rattle.farm_cli.specs.declared.status.Status.TheVariants.{Done, Usage, FarmFile, Input, Opening, Disk, Door, Read, Write, NoMemory, Wire, Damaged}
 
 -- a line of printable words alone is plain
 All-plain-line : (line : List ℕ) → IsOneLine [] line → All IsPlain line
@@ -24,6 +24,7 @@ IsLineOf-one Read line one = inr one
 IsLineOf-one Write line one = inr one
 IsLineOf-one NoMemory line one = inr one
 IsLineOf-one Wire line one = inr one
+IsLineOf-one Door line one = inr one
 IsLineOf-one Damaged line one = inr one
 
 -- the line of a status may be told
@@ -38,4 +39,5 @@ IsLineOf-own Read = inl refl
 IsLineOf-own Write = inl refl
 IsLineOf-own NoMemory = inl refl
 IsLineOf-own Wire = inl refl
+IsLineOf-own Door = inl refl
 IsLineOf-own Damaged = inl refl

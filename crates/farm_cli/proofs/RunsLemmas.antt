@@ -10,7 +10,7 @@ use Rattle.farm_cli.specs.Views.{Views}
 use Rattle.farm_cli.proofs.CompleteLemmas.{Completes-from_run, CompletesLoad-from_run, CompletesRendering-from_run, CompletesSigning-from_run, RefusesFile-from_run, RefusesDisk-from_run, MissesFile-from_run, MissesDisk-from_run, TellsUsage-from_run}
 use Rattle.farm_cli.proofs.ReasonLemmas.{HasReason-from_run}
 
-pub Runs-from_run : {F S C N T I : Type 0} (views : Views F S C N T I) (old new : Lendings F S C N T I) (before now : ℕ) (said : Option Command) (status : Status) → OneChange
+pub Runs-from_run : {F S C N T I D : Type 0} (views : Views F S C N T I D) (old new : Lendings F S C N T I D) (before now : ℕ) (said : Option Command) (status : Status) → OneChange
     → Ran views old new before now said status → Runs views old new before now said status
 Runs-from_run views old new before now said status one ran = record {
   ran = ran;

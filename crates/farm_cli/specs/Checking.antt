@@ -36,7 +36,7 @@ Checks config before after status = Tells (check_text config) before after statu
 
 -- The disk of this name was opened, and the line of the configuration and of the farm that it keeps was written to the console. No call of the
 -- disk failed, and at the end it holds what it held.
-pub record CheckedOver {F S C N T I : Type 0} (views : Views F S C N T I) (old new : Lendings F S C N T I) (before now : ℕ) (config : Config) (name : List ℕ) (status : Status) : Type 0 where
+pub record CheckedOver {F S C N T I D : Type 0} (views : Views F S C N T I D) (old new : Lendings F S C N T I D) (before now : ℕ) (config : Config) (name : List ℕ) (status : Status) : Type 0 where
   pub openings : now ≡ before
   pub disk_given : S
   pub disk_back : S
@@ -46,6 +46,7 @@ pub record CheckedOver {F S C N T I : Type 0} (views : Views F S C N T I) (old n
   pub console : WasLent old.console new.console given back
   pub clock : new.clock ≡ old.clock
   pub draws : new.draws ≡ old.draws
+  pub doors : new.doors ≡ old.doors
   pub opening : Opening
   pub begins : BeginsFrom views disk_given config opening
   pub kept : views.disk_faults disk_back ≡ views.disk_faults disk_given

@@ -5,7 +5,7 @@ use Rattle.causes.specs.Causes.{Rose}
 use Rattle.command_line.specs.declared.command.Command.{Command}
 use Rattle.command_line.specs.declared.command.Command.TheVariants.{OverFarm, Sign, Bulk, Render}
 use Rattle.command_line.specs.declared.command.Work.{Work}
-use Rattle.command_line.specs.declared.command.Work.TheVariants.{Answer, Expand, Check}
+use Rattle.command_line.specs.declared.command.Work.TheVariants.{Answer, Expand, Check, Serve}
 use Rattle.command_line.specs.declared.load.Load.{Load}
 use Rattle.command_line.specs.declared.signing.Signing.{Signing}
 use Rattle.command_line.specs.Words.{disk_of}
@@ -54,7 +54,7 @@ own_text closed = []
 own_text full = []
 
 -- the words ask for this work over a farm, and the house has this of its farm file, which was not opened yet
-pub record HasFile {F S C N T I : Type 0} (old : Lendings F S C N T I) (said : Option Command) (work : Work) (held : Held F) : Type 0 where
+pub record HasFile {F S C N T I D : Type 0} (old : Lendings F S C N T I D) (said : Option Command) (work : Work) (held : Held F) : Type 0 where
   pub farm : List ℕ
   pub asked : said ≡ Some (OverFarm farm work)
   pub at : List ℕ → Held F
@@ -62,34 +62,34 @@ pub record HasFile {F S C N T I : Type 0} (old : Lendings F S C N T I) (said : O
   pub there : at farm ≡ held
 
 -- the count of refused openings did not rise, nor that of the farm file's reads
-pub record NoFileFault {F S C N T I : Type 0} (views : Views F S C N T I) (new : Lendings F S C N T I) (before now : ℕ) (file : F) : Type 0 where
+pub record NoFileFault {F S C N T I D : Type 0} (views : Views F S C N T I D) (new : Lendings F S C N T I D) (before now : ℕ) (file : F) : Type 0 where
   pub openings : ¬ (Rose before now)
   pub reads : (file' : F) → new.file ≡ back file' → ¬ (Rose (views.file_faults file) (views.file_faults file'))
 
 -- the house has this of the disk of this name, which was not opened yet
-pub record HasDisk {F S C N T I : Type 0} (old : Lendings F S C N T I) (name : List ℕ) (held : Held S) : Type 0 where
+pub record HasDisk {F S C N T I D : Type 0} (old : Lendings F S C N T I D) (name : List ℕ) (held : Held S) : Type 0 where
   pub at : List ℕ → Held S
   pub disks : old.disk ≡ unopened at
   pub there : at name ≡ held
 
 -- the count of the disk's calls that failed did not rise
-abbrev pub NoDiskFault : {F S C N T I : Type 0} → Views F S C N T I → Lendings F S C N T I → S → Type 0
+abbrev pub NoDiskFault : {F S C N T I D : Type 0} → Views F S C N T I D → Lendings F S C N T I D → S → Type 0
 NoDiskFault {F} {S} views new disk = (disk' : S) → new.disk ≡ back disk' → ¬ (Rose (views.disk_faults disk) (views.disk_faults disk'))
 
 -- the disk is there, tells what it holds, which is not damaged, and does not fail
-pub record HasSoundDisk {F S C N T I : Type 0} (views : Views F S C N T I) (old new : Lendings F S C N T I) (name : List ℕ) (disk : S) : Type 0 where
+pub record HasSoundDisk {F S C N T I D : Type 0} (views : Views F S C N T I D) (old new : Lendings F S C N T I D) (name : List ℕ) (disk : S) : Type 0 where
   pub has : HasDisk old name (holds disk)
   pub tells : views.disk_tells
   pub sound : (place : ℕ) → ¬ IsFarmDamaged (views.disk_contents disk).bytes place
   pub well : NoDiskFault views new disk
 
 -- the counts of the console's reads and writes did not rise
-pub record NoConsoleFault {F S C N T I : Type 0} (views : Views F S C N T I) (new : Lendings F S C N T I) (console : C) : Type 0 where
+pub record NoConsoleFault {F S C N T I D : Type 0} (views : Views F S C N T I D) (new : Lendings F S C N T I D) (console : C) : Type 0 where
   pub reads : (console' : C) → new.console ≡ Back console' → ¬ (Rose (views.console_read_faults console) (views.console_read_faults console'))
   pub writes : (console' : C) → new.console ≡ Back console' → ¬ (Rose (views.console_write_faults console) (views.console_write_faults console'))
 
 -- Each message of the list was answered, in one history of the farm, and then the wire replied where it refuses what came.
-pub record AnswersAll {F S C N T I : Type 0} (views : Views F S C N T I) (new : Lendings F S C N T I) (console : C) (start : State) (messages : List Message) (ending : Ending) (status : Status) : Type 0 where
+pub record AnswersAll {F S C N T I D : Type 0} (views : Views F S C N T I D) (new : Lendings F S C N T I D) (console : C) (start : State) (messages : List Message) (ending : Ending) (status : Status) : Type 0 where
   pub status_is : status ≡ status_for ending
   pub console' : C
   pub came_back : new.console ≡ Back console'
@@ -101,24 +101,29 @@ pub record AnswersAll {F S C N T I : Type 0} (views : Views F S C N T I) (new : 
   pub written : Appends (views.console_written console) (views.console_written console') (reply_texts REQUESTS asks replies ++ own_text ending)
 
 -- the console came back, this text was written there, and the run is done
-pub record WritesAll {F S C N T I : Type 0} (views : Views F S C N T I) (new : Lendings F S C N T I) (console : C) (text : List ℕ) (status : Status) : Type 0 where
+pub record WritesAll {F S C N T I D : Type 0} (views : Views F S C N T I D) (new : Lendings F S C N T I D) (console : C) (text : List ℕ) (status : Status) : Type 0 where
   pub done : status ≡ Done
   pub console' : C
   pub came_back : new.console ≡ Back console'
   pub written : Appends (views.console_written console) (views.console_written console') text
 
 -- What `answer` has to do over a farm that begins so, where the console is known and does not fail: it answers each message.
-abbrev pub Answers : {F S C N T I : Type 0} → Views F S C N T I → Lendings F S C N T I → C → State → Status → Type 0
+abbrev pub Answers : {F S C N T I D : Type 0} → Views F S C N T I D → Lendings F S C N T I D → C → State → Status → Type 0
 Answers views new console start status =
     (bytes : List ℕ) (messages : List Message) (ending : Ending)
     → views.console_left console ≡ Some bytes → Messages REQUESTS bytes messages ending → AnswersAll views new console start messages ending status
 
+-- What `serve` has to do over a sound disk: its history begins from what the disk held, and it ends by none of the disk's faults.
+abbrev pub ServesSoundly : {F S C N T I D : Type 0} → Views F S C N T I D → S → Config → Status → Type 0
+ServesSoundly views disk config status = (opening : History) × BeginsFrom views disk config opening × ¬ (status ≡ Disk) × ¬ (status ≡ Damaged)
+
 -- What work has to do over a farm that is set up so, where the console is known and does not fail: `answer` answers each message, `expand`
 -- writes the expansion of its input or refuses it, `check` writes its line. Over a sound disk the farm is what the disk held.
-abbrev pub Finishes : {F S C N T I : Type 0} → Views F S C N T I → Lendings F S C N T I → Lendings F S C N T I → C → Config → Work → Status → Type 0
+abbrev pub Finishes : {F S C N T I D : Type 0} → Views F S C N T I D → Lendings F S C N T I D → Lendings F S C N T I D → C → Config → Work → Status → Type 0
 Finishes views old new console config (Answer None) status = Answers views new console (empty_state config) status
 Finishes {F} {S} views old new console config (Answer (Some name)) status =
     (disk : S) → HasSoundDisk views old new name disk → (opening : History) × BeginsFrom views disk config opening × Answers views new console opening.state status
+Finishes {F} {S} views old new console config (Serve service) status = (disk : S) → HasSoundDisk views old new service.disk disk → ServesSoundly views disk config status
 Finishes views old new console config Expand status =
     (input : List ℕ) → views.console_left console ≡ Some input
     → ((text : List ℕ) × IsExpansion config.roles input text × WritesAll views new console text status)
@@ -130,7 +135,7 @@ Finishes {F} {S} views old new console config (Check (Some name)) status =
     × WritesAll views new console (disk_text config (length opening.records) (length opening.state.contents.rows)) status
 
 -- What `sign` has to do, by the content type, where the console is known and does not fail: it writes its line, or refuses a body that is too long.
-abbrev pub FinishesSigning : {F S C N T I : Type 0} → Views F S C N T I → Lendings F S C N T I → C → Signing → Option (List ℕ) → Status → Type 0
+abbrev pub FinishesSigning : {F S C N T I D : Type 0} → Views F S C N T I D → Lendings F S C N T I D → C → Signing → Option (List ℕ) → Status → Type 0
 FinishesSigning views new console signing None status = WritesAll views new console (signed_line signing None) status
 FinishesSigning views new console signing (Some content_type) status =
     (body : List ℕ) → views.console_left console ≡ Some body
@@ -138,25 +143,25 @@ FinishesSigning views new console signing (Some content_type) status =
     ⊎ (IsTooLong body × (status ≡ Input))
 
 -- Over a console that does not fail a run signs what its words ask for, or memory runs out.
-abbrev pub CompletesSigning : {F S C N T I : Type 0} → Views F S C N T I → Lendings F S C N T I → Lendings F S C N T I → Option Command → Status → Type 0
+abbrev pub CompletesSigning : {F S C N T I D : Type 0} → Views F S C N T I D → Lendings F S C N T I D → Lendings F S C N T I D → Option Command → Status → Type 0
 CompletesSigning {F} {C} views old new said status =
     (signing : Signing) (console : C) → said ≡ Some (Sign signing) → old.console ≡ Ready console → NoConsoleFault views new console
     → (status ≡ NoMemory) ⊎ FinishesSigning views new console signing signing.content_type status
 
 -- Over a console that does not fail a run writes the line of the load that its words ask for, or memory runs out.
-abbrev pub CompletesLoad : {F S C N T I : Type 0} → Views F S C N T I → Lendings F S C N T I → Lendings F S C N T I → Option Command → Status → Type 0
+abbrev pub CompletesLoad : {F S C N T I D : Type 0} → Views F S C N T I D → Lendings F S C N T I D → Lendings F S C N T I D → Option Command → Status → Type 0
 CompletesLoad {F} {C} views old new said status =
     (load : Load) (console : C) → said ≡ Some (Bulk load) → old.console ≡ Ready console → NoConsoleFault views new console
     → (status ≡ NoMemory) ⊎ ((text : List ℕ) × IsLoadLine load text × WritesAll views new console text status)
 
 -- Over a console that does not fail a run writes the rendering of its input or refuses the input, or memory runs out.
-abbrev pub CompletesRendering : {F S C N T I : Type 0} → Views F S C N T I → Lendings F S C N T I → Lendings F S C N T I → Option Command → Status → Type 0
+abbrev pub CompletesRendering : {F S C N T I D : Type 0} → Views F S C N T I D → Lendings F S C N T I D → Lendings F S C N T I D → Option Command → Status → Type 0
 CompletesRendering {F} {C} views old new said status =
     (input : List ℕ) (console : C) → said ≡ Some Render → old.console ≡ Ready console → views.console_left console ≡ Some input → NoConsoleFault views new console
     → (status ≡ NoMemory) ⊎ (((text : List ℕ) × IsRendering input text × WritesAll views new console text status) ⊎ (IsUnrendered input × (status ≡ Input)))
 
 -- Over a farm file that breaks no rule and a console that does not fail, a run finishes its work, or memory runs out.
-abbrev pub Completes : {F S C N T I : Type 0} → Views F S C N T I → Lendings F S C N T I → Lendings F S C N T I → ℕ → ℕ → Option Command → Status → Type 0
+abbrev pub Completes : {F S C N T I D : Type 0} → Views F S C N T I D → Lendings F S C N T I D → Lendings F S C N T I D → ℕ → ℕ → Option Command → Status → Type 0
 Completes {F} {C} views old new before now said status =
     (work : Work) (file : F) (bytes : List ℕ) (console : C)
     → HasFile old said work (holds file) → views.file_left file ≡ Some bytes → ¬ HasFault bytes → NoFileFault views new before now file
@@ -164,18 +169,18 @@ Completes {F} {C} views old new before now said status =
     → (status ≡ NoMemory) ⊎ ((config : Config) × SetsUp bytes config × Finishes views old new console config work status)
 
 -- a farm file that breaks a rule is refused
-abbrev pub RefusesFile : {F S C N T I : Type 0} → Views F S C N T I → Lendings F S C N T I → Lendings F S C N T I → ℕ → ℕ → Option Command → Status → Type 0
+abbrev pub RefusesFile : {F S C N T I D : Type 0} → Views F S C N T I D → Lendings F S C N T I D → Lendings F S C N T I D → ℕ → ℕ → Option Command → Status → Type 0
 RefusesFile {F} views old new before now said status =
     (work : Work) (file : F) (bytes : List ℕ)
     → HasFile old said work (holds file) → views.file_left file ≡ Some bytes → HasFault bytes → NoFileFault views new before now file
     → (status ≡ NoMemory) ⊎ (status ≡ FarmFile)
 
 -- a farm file that is not there cannot be opened
-abbrev pub MissesFile : {F S C N T I : Type 0} → Lendings F S C N T I → Option Command → Status → Type 0
+abbrev pub MissesFile : {F S C N T I D : Type 0} → Lendings F S C N T I D → Option Command → Status → Type 0
 MissesFile old said status = (work : Work) → HasFile old said work refuses → (status ≡ NoMemory) ⊎ (status ≡ Opening)
 
 -- a disk that is damaged is told so, where the farm file breaks no rule
-abbrev pub RefusesDisk : {F S C N T I : Type 0} → Views F S C N T I → Lendings F S C N T I → Lendings F S C N T I → ℕ → ℕ → Option Command → Status → Type 0
+abbrev pub RefusesDisk : {F S C N T I D : Type 0} → Views F S C N T I D → Lendings F S C N T I D → Lendings F S C N T I D → ℕ → ℕ → Option Command → Status → Type 0
 RefusesDisk {F} {S} views old new before now said status =
     (work : Work) (file : F) (bytes name : List ℕ) (disk : S) (place : ℕ)
     → HasFile old said work (holds file) → views.file_left file ≡ Some bytes → ¬ HasFault bytes → NoFileFault views new before now file
@@ -183,7 +188,7 @@ RefusesDisk {F} {S} views old new before now said status =
     → (status ≡ NoMemory) ⊎ (status ≡ Damaged)
 
 -- a disk that the house refuses to open cannot be used, where the farm file breaks no rule and can be read
-abbrev pub MissesDisk : {F S C N T I : Type 0} → Views F S C N T I → Lendings F S C N T I → Lendings F S C N T I → Option Command → Status → Type 0
+abbrev pub MissesDisk : {F S C N T I D : Type 0} → Views F S C N T I D → Lendings F S C N T I D → Lendings F S C N T I D → Option Command → Status → Type 0
 MissesDisk {F} {S} views old new said status =
     (work : Work) (file : F) (bytes name : List ℕ)
     → HasFile old said work (holds file) → views.file_left file ≡ Some bytes → ¬ HasFault bytes

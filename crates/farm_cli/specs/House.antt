@@ -1,5 +1,5 @@
 -- What a house lends: each object once, and what came back of it.
-use Rattle.std.specs.Prelude.{◌≡◌, ℕ, List, Option, Some, None, Result, Ok, Err}
+use Rattle.std.specs.Prelude.{◌≡◌, ℕ, List, [], ◌∷◌, ◌++◌, length, nat_lt, if◌then◌else◌, Option, Some, None, Result, Ok, Err}
 use Rattle.causes.specs.declared.Failed.{Failed}
 use Rattle.farm_cli.specs.declared.lending.Lending.{Lending}
 use Rattle.farm_cli.specs.declared.lending.Lending.TheVariants.{Ready, Out, Back, Untold}
@@ -103,11 +103,58 @@ pub record WasOpened {T : Type 0} (old new : Files T) (name : List ℕ) (opened 
   pub could : CanOpenAmong old name (Ok opened)
   pub returned : new ≡ after_closing (after_opened old) closed
 
--- all that a house lends: farm files, disks, console, notes, clock and draws
-pub record Lendings (F S C N T I : Type 0) : Type 0 where
+-- What a house says of its doors: none was opened yet, and there is room for so many that come back; one was, and these came back, in order; or
+-- the house does not tell.
+pub data Doors (D : Type 0) : Type 0 where
+  shut : ℕ → (List ℕ → Held D) → Doors D
+  ajar : ℕ → List D → Doors D
+  silent : Doors D
+
+-- the opening of a door at this address may be answered so
+abbrev pub CanListen : {D : Type 0} → Doors D → List ℕ → Result D Failed → Type 0
+CanListen (shut room at) address answer = CanOpen (at address) answer
+CanListen (ajar room doors) address answer = Unit {0}
+CanListen silent address answer = Unit {0}
+
+-- what is told of the doors once one was opened
+abbrev pub after_listened : {D : Type 0} → Doors D → Doors D
+after_listened (shut room at) = ajar room []
+after_listened (ajar room doors) = silent
+after_listened silent = silent
+
+-- what is told of the doors after an opening; one that was refused changes nothing
+abbrev pub after_listening : {D : Type 0} → Doors D → Result D Failed → Doors D
+after_listening doors (Ok door) = after_listened doors
+after_listening doors (Err failed) = doors
+
+-- what is told of the doors after one came back: as many are kept as there is room for
+abbrev pub after_leaving : {D : Type 0} → Doors D → D → Doors D
+after_leaving (ajar room doors) door = if nat_lt (length doors) room then ajar room (doors ++ door ∷ []) else silent
+after_leaving (shut room at) door = silent
+after_leaving silent door = silent
+
+-- the same after these came back, in order
+abbrev pub all_left : {D : Type 0} → Doors D → List D → Doors D
+all_left doors [] = doors
+all_left doors (door ∷ more) = all_left (after_leaving doors door) more
+
+-- the doors that came back, where the house tells
+abbrev pub left_of : {D : Type 0} → Doors D → Option (List D)
+left_of (shut room at) = None
+left_of (ajar room doors) = Some doors
+left_of silent = None
+
+-- a door was opened at this address, and these came back, in order: itself first, and then its twins
+pub record WasListening {D : Type 0} (old new : Doors D) (address : List ℕ) (door : D) (back : List D) : Type 0 where
+  pub could : CanListen old address (Ok door)
+  pub returned : new ≡ all_left (after_listened old) back
+
+-- all that a house lends: farm files, disks, console, notes, clock, draws and doors
+pub record Lendings (F S C N T I D : Type 0) : Type 0 where
   pub file : Files F
   pub disk : Files S
   pub console : Lending C
   pub notes : Lending N
   pub clock : Lending T
   pub draws : Lending I
+  pub doors : Doors D

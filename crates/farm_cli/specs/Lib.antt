@@ -1,8 +1,12 @@
 pub mod Checking
 pub mod Complete
+pub mod Crew
 pub mod Disks
+pub mod Ends
 pub mod Expanding
 pub mod FarmFile
+pub mod Faults
+pub mod Heard
 pub mod Home
 pub mod House
 pub mod Inputs
@@ -13,6 +17,7 @@ pub mod Reasons
 pub mod Rendering
 pub mod Run
 pub mod Runs
+pub mod Serves
 pub mod Serving
 pub mod Signing
 pub mod Status

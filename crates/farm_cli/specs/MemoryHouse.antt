@@ -1,8 +1,11 @@
 -- What a house in memory holds.
-use Rattle.std.specs.Prelude.{ℕ, List, bytes_eq, Bool, true, false, Option, Some, None}
+use Rattle.std.specs.Prelude.{ℕ, List, bytes_eq, string_bytes, vec_capacity, Bool, true, false, Option, Some, None}
 use Rattle.farm_cli.specs.declared.lending.Lending.{Lending}
 use Rattle.farm_cli.specs.declared.lending.Lending.TheVariants.{Ready, Out, Back, Untold}
-use Rattle.farm_cli.specs.House.{Held, holds, refuses, Files, unopened, out, back, untold}
+use Rattle.farm_serving.specs.declared.memory.MemoryListener.{MemoryListener}
+use Rattle.farm_cli.specs.declared.memory_doors.MemoryDoors.{MemoryDoors}
+use Rattle.farm_cli.specs.declared.memory_doors.MemoryDoors.TheVariants.{Shut, Opened, Silent}
+use Rattle.farm_cli.specs.House.{Held, holds, refuses, Files, unopened, out, back, untold, Doors, shut, ajar, silent}
 
 -- the file, where it is asked for by its name
 abbrev pub held_if : {T : Type 0} → Bool → T → Held T
@@ -24,3 +27,10 @@ files_of name Untold = untold
 abbrev pub disks_of : {T : Type 0} → Option (List ℕ × Lending T) → Files T
 disks_of None = unopened (λ name. refuses)
 disks_of (Some (name, disk)) = files_of name disk
+
+-- what it tells of its doors, of which it has this one, or none
+abbrev pub doors_of : MemoryDoors → Doors MemoryListener
+doors_of (Shut None kept) = shut (vec_capacity kept) (λ address. refuses)
+doors_of (Shut (Some named) kept) = shut (vec_capacity kept) (only_file (string_bytes named.address) named.door)
+doors_of (Opened kept) = ajar (vec_capacity kept) kept.items
+doors_of Silent = silent

@@ -11,7 +11,7 @@ use Rattle.farm_cli.specs.Views.{Views}
 -- What a run did with the objects that were lent, the reason of its status, and what its status has to be where the words have no reading,
 -- where the farm file or the disk is missing, where one is refused, and where all is there and nothing fails, over a farm, for `sign`, `bulk` and
 -- `render`.
-pub record Runs {F S C N T I : Type 0} (views : Views F S C N T I) (old new : Lendings F S C N T I) (before now : ℕ) (said : Option Command) (status : Status) : Type 0 where
+pub record Runs {F S C N T I D : Type 0} (views : Views F S C N T I D) (old new : Lendings F S C N T I D) (before now : ℕ) (said : Option Command) (status : Status) : Type 0 where
   pub ran : Ran views old new before now said status
   pub reason : HasReason views old new before now said status
   pub usage : TellsUsage said status

@@ -1,5 +1,5 @@
 -- What `answer` does: it serves one connection on the console.
-use Rattle.std.specs.Prelude.{◌≡◌, ℕ, Bool, true, false, List, map, Some}
+use Rattle.std.specs.Prelude.{◌≡◌, ℕ, Bool, List, map, Some}
 use Rattle.history.specs.Asks.{AreEntries}
 use Rattle.history.specs.Histories.{IsLegal, end_state, reply_at, asked_at, calls_of}
 use Rattle.farm_machine.specs.declared.config.Config.{Config}
@@ -12,11 +12,10 @@ use Rattle.farm_machine.specs.declared.reply.Reply.{Reply}
 use Rattle.farm_core.specs.Diskless.{HaveNoDisk}
 use Rattle.farm_server.specs.Served.{Ask, questions_of, Spoke}
 use Rattle.farm_server.specs.declared.served.Served.{Served}
-use Rattle.farm_server.specs.declared.served.Served.TheVariants as served
 use Rattle.farm_cli.specs.declared.status.Status.{Status}
-use Rattle.farm_cli.specs.declared.status.Status.TheVariants.{Done, Disk, Read, Write, NoMemory, Wire}
-use Rattle.farm_cli.specs.Disks.{BeginsFrom, DiskHolds}
-use Rattle.farm_cli.specs.House.{WasLent, WasOpened, Lendings}
+use Rattle.farm_cli.specs.Disks.{LedOver, over_disk}
+use Rattle.farm_cli.specs.Ends.{status_of}
+use Rattle.farm_cli.specs.House.{WasLent, Lendings}
 use Rattle.farm_cli.specs.Views.{Views, outside_of}
 
 -- One history from this state: it is legal, it has the entries of asks in turn and no others, its calls are these asks in order, and these are their replies.
@@ -27,18 +26,8 @@ pub record IsHistoryOf (start : State) (asks : List Ask) (replies : List Reply) 
   pub asked : map (asked_at farm_rules history) (calls_of farm_rules 0 history) ≡ map Some (questions_of asks)
   pub replied : map (reply_at farm_rules start history) (calls_of farm_rules 0 history) ≡ map Some replies
 
--- the status that a connection ends a run with
-abbrev pub status_of : Served → Status
-status_of served.Closed = Done
-status_of served.Full = Done
-status_of served.EndedInside = Wire
-status_of (served.WireFault reason) = Wire
-status_of served.ReadFault = Read
-status_of served.WriteFault = Write
-status_of served.NoMemory = NoMemory
-
 -- The console was served over a farm that was set up so, and began without tasks, and in no call of which a disk had a part.
-pub record Conversed {F S C N T I : Type 0} (views : Views F S C N T I) (old new : Lendings F S C N T I) (config : Config) (status : Status) : Type 0 where
+pub record Conversed {F S C N T I D : Type 0} (views : Views F S C N T I D) (old new : Lendings F S C N T I D) (config : Config) (status : Status) : Type 0 where
   pub disk : new.disk ≡ old.disk
   pub console_given : C
   pub console_back : C
@@ -49,6 +38,7 @@ pub record Conversed {F S C N T I : Type 0} (views : Views F S C N T I) (old new
   pub draws_given : I
   pub draws_back : I
   pub draws : WasLent old.draws new.draws draws_given draws_back
+  pub doors : new.doors ≡ old.doors
   pub asks : List Ask
   pub replies : List Reply
   pub served : Served
@@ -57,17 +47,13 @@ pub record Conversed {F S C N T I : Type 0} (views : Views F S C N T I) (old new
   pub no_disk : HaveNoDisk history.history
   pub status_is : status ≡ status_of served
 
--- over a disk that failed the disk is the first cause
+-- the status that a connection over a disk ends a run with
 abbrev pub status_over : Bool → Served → Status
-status_over true end = Disk
-status_over false end = status_of end
+status_over halted end = over_disk halted (status_of end)
 
 -- The disk of this name was opened, and the console was served over the farm that it keeps; at the end it holds the history that was led through.
-pub record ConversedOver {F S C N T I : Type 0} (views : Views F S C N T I) (old new : Lendings F S C N T I) (before now : ℕ) (config : Config) (name : List ℕ) (status : Status) : Type 0 where
+pub record ConversedOver {F S C N T I D : Type 0} (views : Views F S C N T I D) (old new : Lendings F S C N T I D) (before now : ℕ) (config : Config) (name : List ℕ) (status : Status) : Type 0 where
   pub openings : now ≡ before
-  pub disk_given : S
-  pub disk_back : S
-  pub disk : WasOpened old.disk new.disk name disk_given disk_back
   pub console_given : C
   pub console_back : C
   pub console : WasLent old.console new.console console_given console_back
@@ -77,12 +63,12 @@ pub record ConversedOver {F S C N T I : Type 0} (views : Views F S C N T I) (old
   pub draws_given : I
   pub draws_back : I
   pub draws : WasLent old.draws new.draws draws_given draws_back
+  pub doors : new.doors ≡ old.doors
   pub opening : Opening
-  pub begins : BeginsFrom views disk_given config opening
   pub asks : List Ask
   pub replies : List Reply
   pub served : Served
   pub spoke : Spoke (outside_of views console_given clock_given draws_given) (outside_of views console_back clock_back draws_back) asks replies served
   pub history : IsHistoryOf opening.state asks replies
-  pub holds : DiskHolds views disk_back (end_state farm_rules opening.state history.history) opening history.history
+  pub led : LedOver views old new config name opening history.history
   pub status_is : status ≡ status_over (end_state farm_rules opening.state history.history).halted served

@@ -1,7 +1,7 @@
 -- The numbers of the statuses.
 use Rattle.std.specs.Prelude.{ℕ, List, [], codes}
 use Rattle.farm_cli.specs.declared.status.Status.{Status}
-use Rattle.farm_cli.specs.declared.status.Status.TheVariants.{Done, Usage, FarmFile, Input, Opening, Disk, Read, Write, NoMemory, Wire, Damaged}
+use Rattle.farm_cli.specs.declared.status.Status.TheVariants.{Done, Usage, FarmFile, Input, Opening, Disk, Door, Read, Write, NoMemory, Wire, Damaged}
 
 -- the status by which a process ends
 abbrev pub code_of : Status → ℕ
@@ -11,6 +11,7 @@ code_of FarmFile = 3
 code_of Input = 3
 code_of Opening = 4
 code_of Disk = 4
+code_of Door = 4
 code_of Read = 5
 code_of Write = 6
 code_of NoMemory = 7
@@ -25,6 +26,7 @@ front_of FarmFile = codes "the farm file is refused"
 front_of Input = codes "the input is refused"
 front_of Opening = codes "the farm file cannot be opened"
 front_of Disk = codes "the disk failed"
+front_of Door = codes "the listener failed"
 front_of Read = codes "a read failed"
 front_of Write = codes "a write failed"
 front_of NoMemory = codes "memory ran out"
@@ -39,6 +41,7 @@ line_of FarmFile = codes "the farm file is refused\n"
 line_of Input = codes "the input is refused\n"
 line_of Opening = codes "the farm file cannot be opened\n"
 line_of Disk = codes "the disk failed\n"
+line_of Door = codes "the listener failed\n"
 line_of Read = codes "a read failed\n"
 line_of Write = codes "a write failed\n"
 line_of NoMemory = codes "memory ran out\n"

@@ -8,12 +8,14 @@ use Rattle.http_wire.specs.declared.link.Link as links
 use Rattle.http_wire.specs.declared.link.Sink as sinks
 use Rattle.farm_text.specs.declared.clock.Clock as clocks
 use Rattle.farm_text.specs.declared.draws.Draws as draws
+use Rattle.farm_serving.specs.declared.door.Listener as doors
 use Rattle.farm_server.specs.Served.{Outside}
 
 -- what is left of the farm file, and how many of its reads failed; whether the disk tells what it holds, what it holds, and how many of its
 -- calls failed; the same of the console, and what was written there; what notes
--- were told; which moments and ids were told
-pub record Views (F S C N T I : Type 0) : Type 1 where
+-- were told; which moments and ids were told; of a door its links as they were given and as
+-- they were taken back, how many are out, how many accepts were made, and how many of them failed
+pub record Views (F S C N T I D : Type 0) : Type 1 where
   pub file_left : F → Option (List ℕ)
   pub file_faults : F → ℕ
   pub disk_tells : Type 0
@@ -27,10 +29,15 @@ pub record Views (F S C N T I : Type 0) : Type 1 where
   pub notes_faults : N → ℕ
   pub clock_told : T → Option (List ℕ)
   pub draws_told : I → Option (List (List ℕ))
+  pub door_given : D → Option (List LinkState)
+  pub door_taken : D → Option (List (LinkState × ℕ))
+  pub door_out : D → ℕ
+  pub door_accepts : D → ℕ
+  pub door_faults : D → ℕ
 
 -- the same, as the traits of these objects have it
-abbrev pub views_of : {F S C N T I : Type 0} → sources.Ghosts F → disks.Ghosts S → links.Ghosts C → sinks.Ghosts N → clocks.Ghosts T → draws.Ghosts I → Views F S C N T I
-views_of file disk console notes clock ids =
+abbrev pub views_of : {F S C N T I D P : Type 0} → sources.Ghosts F → disks.Ghosts S → links.Ghosts C → sinks.Ghosts N → clocks.Ghosts T → draws.Ghosts I → doors.Ghosts D P → Views F S C N T I D
+views_of file disk console notes clock ids door =
     record {
       file_left = file.left;
       file_faults = file.faults;
@@ -45,10 +52,15 @@ views_of file disk console notes clock ids =
       notes_faults = notes.faults;
       clock_told = clock.told;
       draws_told = ids.told;
+      door_given = door.given;
+      door_taken = door.taken;
+      door_out = door.out;
+      door_accepts = door.accepts;
+      door_faults = door.faults;
     }
 
 -- what console, clock and draws tell at one moment; the program's gate keeps nothing
-abbrev pub outside_of : {F S C N T I : Type 0} → Views F S C N T I → C → T → I → Outside
+abbrev pub outside_of : {F S C N T I D : Type 0} → Views F S C N T I D → C → T → I → Outside
 outside_of views console clock draws =
     record {
       left = views.console_left console;
@@ -61,7 +73,7 @@ outside_of views console clock draws =
     }
 
 -- what a console of a house tells at one moment
-abbrev pub talk_of : {F S C N T I : Type 0} → Views F S C N T I → C → LinkState
+abbrev pub talk_of : {F S C N T I D : Type 0} → Views F S C N T I D → C → LinkState
 talk_of views console =
     record {
       left = views.console_left console;

@@ -17,17 +17,29 @@ use crate::expanding::expand;
 use crate::house::House;
 use crate::loading::run_load;
 use crate::rendering::render;
+use crate::serve::serve_over;
 use crate::signing::sign;
 use command_line::{Load, Signing, Work};
 use farm_core::Bare;
 use farm_desk::Solo;
 use farm_machine::config::Config;
 use farm_server::{NoGate, serve_connection};
+use farm_serving::Listener;
 use std::alloc::Global;
+use std::sync::Wait;
+use std::thread::Threads;
 
 /// Does work over a farm that is set up so.
-pub(crate) fn obey<H: House>(alloc: Global, work: &Work, config: Config, house: &mut H) -> Ended
-    ensures obeyed { let views = views_of H.File.Source H.Store.Disk H.Console.Link H.Notes.Sink H.Time.Clock H.Ids.Draws in
+pub(crate) fn obey<R: Threads + Wait + Sync, H: House>(
+    rt: &R,
+    alloc: Global,
+    work: &Work,
+    config: Config,
+    house: &mut H,
+) -> Ended
+where
+    <H::Door as Listener>::Peer: Send,
+    ensures obeyed { let views = views_of H.File.Source H.Store.Disk H.Console.Link H.Notes.Sink H.Time.Clock H.Ids.Draws H.Door.Listener in
         Obeyed views (H.lends house.old) (H.lends house.new) (H.refusals house.old) (H.refusals house.new) config work.now result.status }
     ensures file { (H.lends house.new).file ≡ (H.lends house.old).file }
     ensures notes { (H.lends house.new).notes ≡ (H.lends house.old).notes }
@@ -39,12 +51,13 @@ pub(crate) fn obey<H: House>(alloc: Global, work: &Work, config: Config, house: 
         Work::Expand => expand_over(alloc, &config, house),
         Work::Check { disk: None } => check_over(alloc, &config, house),
         Work::Check { disk: Some(disk) } => check_disk(alloc, disk.as_str(), config, house),
+        Work::Serve(service) => serve_over(rt, alloc, service, config, house),
     }
 }
 
 /// Serves the console over a farm that begins without tasks.
 fn converse<H: House>(alloc: Global, config: Config, house: &mut H) -> Ended
-    ensures conversed { let views = views_of H.File.Source H.Store.Disk H.Console.Link H.Notes.Sink H.Time.Clock H.Ids.Draws in
+    ensures conversed { let views = views_of H.File.Source H.Store.Disk H.Console.Link H.Notes.Sink H.Time.Clock H.Ids.Draws H.Door.Listener in
         Conversed views (H.lends house.old) (H.lends house.new) config result.status }
     ensures file { (H.lends house.new).file ≡ (H.lends house.old).file }
     ensures notes { (H.lends house.new).notes ≡ (H.lends house.old).notes }
@@ -71,7 +84,7 @@ fn converse<H: House>(alloc: Global, config: Config, house: &mut H) -> Ended
 
 /// Expands the console's scopes over the roles of a farm.
 fn expand_over<H: House>(alloc: Global, config: &Config, house: &mut H) -> Ended
-    ensures used { let views = views_of H.File.Source H.Store.Disk H.Console.Link H.Notes.Sink H.Time.Clock H.Ids.Draws in
+    ensures used { let views = views_of H.File.Source H.Store.Disk H.Console.Link H.Notes.Sink H.Time.Clock H.Ids.Draws H.Door.Listener in
         UsedConsole views (H.lends house.old) (H.lends house.new) (λ before after. Expands config.now.roles before after result.status) }
     ensures file { (H.lends house.new).file ≡ (H.lends house.old).file }
     ensures notes { (H.lends house.new).notes ≡ (H.lends house.old).notes }
@@ -85,7 +98,7 @@ fn expand_over<H: House>(alloc: Global, config: &Config, house: &mut H) -> Ended
 
 /// Counts what a farm has, on the console.
 fn check_over<H: House>(alloc: Global, config: &Config, house: &mut H) -> Ended
-    ensures used { let views = views_of H.File.Source H.Store.Disk H.Console.Link H.Notes.Sink H.Time.Clock H.Ids.Draws in
+    ensures used { let views = views_of H.File.Source H.Store.Disk H.Console.Link H.Notes.Sink H.Time.Clock H.Ids.Draws H.Door.Listener in
         UsedConsole views (H.lends house.old) (H.lends house.new) (λ before after. Checks config.now before after result.status) }
     ensures file { (H.lends house.new).file ≡ (H.lends house.old).file }
     ensures notes { (H.lends house.new).notes ≡ (H.lends house.old).notes }
@@ -99,7 +112,7 @@ fn check_over<H: House>(alloc: Global, config: &Config, house: &mut H) -> Ended
 
 /// Signs a request, over the console.
 pub(crate) fn sign_over<H: House>(alloc: Global, signing: &Signing, house: &mut H) -> Ended
-    ensures used { let views = views_of H.File.Source H.Store.Disk H.Console.Link H.Notes.Sink H.Time.Clock H.Ids.Draws in
+    ensures used { let views = views_of H.File.Source H.Store.Disk H.Console.Link H.Notes.Sink H.Time.Clock H.Ids.Draws H.Door.Listener in
         UsedConsole views (H.lends house.old) (H.lends house.new) (λ before after. Signs signing.now before after result.status) }
     ensures file { (H.lends house.new).file ≡ (H.lends house.old).file }
     ensures notes { (H.lends house.new).notes ≡ (H.lends house.old).notes }
@@ -113,7 +126,7 @@ pub(crate) fn sign_over<H: House>(alloc: Global, signing: &Signing, house: &mut 
 
 /// Runs a generated load, over the console.
 pub(crate) fn load_over<H: House>(alloc: Global, load: Load, house: &mut H) -> Ended
-    ensures used { let views = views_of H.File.Source H.Store.Disk H.Console.Link H.Notes.Sink H.Time.Clock H.Ids.Draws in
+    ensures used { let views = views_of H.File.Source H.Store.Disk H.Console.Link H.Notes.Sink H.Time.Clock H.Ids.Draws H.Door.Listener in
         UsedConsole views (H.lends house.old) (H.lends house.new) (λ before after. Loads load before after result.status) }
     ensures file { (H.lends house.new).file ≡ (H.lends house.old).file }
     ensures notes { (H.lends house.new).notes ≡ (H.lends house.old).notes }
@@ -127,7 +140,7 @@ pub(crate) fn load_over<H: House>(alloc: Global, load: Load, house: &mut H) -> E
 
 /// Renders a template, over the console.
 pub(crate) fn render_over<H: House>(alloc: Global, house: &mut H) -> Ended
-    ensures used { let views = views_of H.File.Source H.Store.Disk H.Console.Link H.Notes.Sink H.Time.Clock H.Ids.Draws in
+    ensures used { let views = views_of H.File.Source H.Store.Disk H.Console.Link H.Notes.Sink H.Time.Clock H.Ids.Draws H.Door.Listener in
         UsedConsole views (H.lends house.old) (H.lends house.new) (λ before after. Renders before after result.status) }
     ensures file { (H.lends house.new).file ≡ (H.lends house.old).file }
     ensures notes { (H.lends house.new).notes ≡ (H.lends house.old).notes }

@@ -5,16 +5,18 @@ use crate::status::Status;
 use crate::tests::{Case, Outcome, PING, house_of, outcome_in};
 use disk_base::MemoryDisk;
 use std::alloc::{AllocError, Global};
+use std::sync::Wait;
 use std::test::Fail;
+use std::thread::Threads;
 
 /// A farm that is open to all.
 pub(crate) const OPEN_TO_ALL: &[u8] = b"[[role]]\nid = \"anonymous\"\nscopes = [\"*\"]\n";
 
 /// No call has this number.
-const NONE: u64 = 1_000_000;
+pub(crate) const NONE: u64 = 1_000_000;
 
 /// These words over a farm that is open to all, and this input.
-fn case<'a>(words: &'a [&'a str], input: &'a [u8]) -> Case<'a> {
+pub(crate) fn case<'a>(words: &'a [&'a str], input: &'a [u8]) -> Case<'a> {
     Case {
         words,
         farm: OPEN_TO_ALL,
@@ -26,7 +28,7 @@ fn case<'a>(words: &'a [&'a str], input: &'a [u8]) -> Case<'a> {
 }
 
 /// A house with a disk `farm.disk` of these bytes, of which the call of this number fails.
-fn house_with(
+pub(crate) fn house_with(
     alloc: Global,
     case: &Case,
     bytes: &[u8],
@@ -44,23 +46,28 @@ fn house_with(
 
 /// How a run over such a disk ended.
 fn outcome_over(
+    rt: &(impl Threads + Wait + Sync),
     alloc: Global,
     case: &Case,
     bytes: &[u8],
     failing: u64,
 ) -> Result<Outcome, AllocError> {
     let mut house = house_with(alloc, case, bytes, failing)?;
-    outcome_in(alloc, case, &mut house)
+    outcome_in(rt, alloc, case, &mut house)
 }
 
 /// The line of `check` over a disk of these bytes.
-pub(crate) fn checked(alloc: Global, bytes: &[u8]) -> Result<Vec<u8>, AllocError> {
+pub(crate) fn checked(
+    rt: &(impl Threads + Wait + Sync),
+    alloc: Global,
+    bytes: &[u8],
+) -> Result<Vec<u8>, AllocError> {
     let words = &["check", "farm.toml", "--disk", "farm.disk"];
-    Ok(outcome_over(alloc, &case(words, &[]), bytes, NONE)?.output)
+    Ok(outcome_over(rt, alloc, &case(words, &[]), bytes, NONE)?.output)
 }
 
 /// What makes a task, with a deadline a day after the first moment that the clock tells.
-const CREATION: &[u8] =
+pub(crate) const CREATION: &[u8] =
     b"PUT /api/queue/v1/task/AAAAAAAAQACAAAAAAAAAAA HTTP/1.1\r\nContent-Length: 211\r\n\r\n{\"created\":\"1970-01-01T00:00:00.000Z\",\"deadline\":\"1970-01-02T00:00:00.000Z\",\"metadata\":{\"description\":\"d\",\"name\":\"n\",\"owner\":\"o@example.com\",\"source\":\"https://example.com/\"},\"payload\":{},\"taskQueueId\":\"prov/wt\"}";
 
 pub(crate) const ANSWER: &[&str] = &["answer", "farm.toml", "--disk", "farm.disk"];
@@ -69,11 +76,11 @@ pub(crate) const ANSWER: &[&str] = &["answer", "farm.toml", "--disk", "farm.disk
 fn a_disk_keeps_what_was_acknowledged(rt: HostRuntime) -> Result<(), Fail> {
     let alloc = rt.alloc();
     let empty: &[u8] = b"ok roles=1 clients=0 hooks=0 records=0 tasks=0\n";
-    assert_eq!(rt; checked(alloc, &[])?.as_slice(), empty);
+    assert_eq!(rt; checked(&rt, alloc, &[])?.as_slice(), empty);
 
     let case = case(ANSWER, CREATION);
     let mut house = house_with(alloc, &case, &[], NONE)?;
-    let done = outcome_in(alloc, &case, &mut house)?;
+    let done = outcome_in(&rt, alloc, &case, &mut house)?;
     assert_eq!(rt; done.status, Status::Done);
     assert!(rt; done.output.as_slice().starts_with(b"HTTP/1.1 200 OK\r\n"));
     let disk = house.returned_disk().ok_or("the disk")?;
@@ -81,7 +88,7 @@ fn a_disk_keeps_what_was_acknowledged(rt: HostRuntime) -> Result<(), Fail> {
     assert!(rt; !images.is_empty());
     let one: &[u8] = b"ok roles=1 clients=0 hooks=0 records=1 tasks=1\n";
     for image in &images {
-        assert_eq!(rt; checked(alloc, image)?.as_slice(), one);
+        assert_eq!(rt; checked(&rt, alloc, image)?.as_slice(), one);
     }
     Ok(())
 }
@@ -93,7 +100,7 @@ fn a_disk_that_fails_ends_with_4(rt: HostRuntime) -> Result<(), Fail> {
     let mut input = Vec::new(alloc);
     input.extend_from_slice(CREATION)?;
     input.extend_from_slice(PING)?;
-    let failed = outcome_over(alloc, &case(ANSWER, input.as_slice()), &[], 5)?;
+    let failed = outcome_over(&rt, alloc, &case(ANSWER, input.as_slice()), &[], 5)?;
     assert_eq!(rt; failed.status.code(), 4);
     let output: &[u8] =
         b"HTTP/1.1 500 Internal Server Error\r\nContent-Length: 61\r\nContent-Type: application/json\r\n\r\n{\"code\":\"DiskFault\",\"details\":{},\"message\":\"the disk failed\"}HTTP/1.1 500 Internal Server Error\r\nContent-Length: 66\r\nContent-Type: application/json\r\n\r\n{\"code\":\"Halted\",\"details\":{},\"message\":\"the disk failed earlier\"}";
@@ -101,12 +108,12 @@ fn a_disk_that_fails_ends_with_4(rt: HostRuntime) -> Result<(), Fail> {
     let note: &[u8] = b"the disk failed: farm.disk\n";
     assert_eq!(rt; failed.notes.as_slice(), note);
 
-    let unread = outcome_over(alloc, &case(ANSWER, PING), &[], 1)?;
+    let unread = outcome_over(&rt, alloc, &case(ANSWER, PING), &[], 1)?;
     assert_eq!(rt; unread.status.code(), 4);
     assert_eq!(rt; unread.output.len(), 0);
 
     let other = &["answer", "farm.toml", "--disk", "other.disk"];
-    let missing = outcome_over(alloc, &case(other, PING), &[], NONE)?;
+    let missing = outcome_over(&rt, alloc, &case(other, PING), &[], NONE)?;
     assert_eq!(rt; missing.status.code(), 4);
     assert_eq!(rt; missing.output.len(), 0);
     let reason: &[u8] = b"the disk failed: other.disk: entity not found\n";
@@ -119,13 +126,13 @@ fn a_disk_that_fails_ends_with_4(rt: HostRuntime) -> Result<(), Fail> {
 fn a_damaged_disk_ends_with_9(rt: HostRuntime) -> Result<(), Fail> {
     let alloc = rt.alloc();
     let bytes: &[u8] = &[0xa5, 0, 0, 0, 9, 1, 2, 3];
-    let answered = outcome_over(alloc, &case(ANSWER, PING), bytes, NONE)?;
+    let answered = outcome_over(&rt, alloc, &case(ANSWER, PING), bytes, NONE)?;
     assert_eq!(rt; answered.status.code(), 9);
     assert_eq!(rt; answered.output.len(), 0);
     let note: &[u8] = b"the disk is damaged: farm.disk: at byte 0\n";
     assert_eq!(rt; answered.notes.as_slice(), note);
     let check = &["check", "farm.toml", "--disk", "farm.disk"];
-    let checked = outcome_over(alloc, &case(check, &[]), bytes, NONE)?;
+    let checked = outcome_over(&rt, alloc, &case(check, &[]), bytes, NONE)?;
     assert_eq!(rt; checked.status.code(), 9);
     Ok(())
 }

@@ -20,13 +20,13 @@ use std::alloc::Global;
 use std::io::ErrorKind;
 
 /// Opens the farm that the disk of this name keeps, or says how the run ends; then the disk is given back.
-fn open_farm<H: House>(
+pub(crate) fn open_farm<H: House>(
     alloc: Global,
     name: &str,
     config: Config,
     house: &mut H,
 ) -> Result<Farm<H::Store>, Ended>
-    ensures opened { let views = views_of H.File.Source H.Store.Disk H.Console.Link H.Notes.Sink H.Time.Clock H.Ids.Draws in
+    ensures opened { let views = views_of H.File.Source H.Store.Disk H.Console.Link H.Notes.Sink H.Time.Clock H.Ids.Draws H.Door.Listener in
         MatchResult result
         (λ farm. HasFarm views (H.lends house.old) (H.lends house.new) (H.refusals house.old) (H.refusals house.new) name.now config farm.config farm.tables farm.records)
         (λ ended. IsMissing (H.lends house.old) (H.lends house.new) (H.refusals house.old) (H.refusals house.new) name.now ended.status
@@ -62,7 +62,7 @@ fn on_missing(alloc: Global, name: &str, reason: Option<ErrorKind>) -> Ended
 }
 
 /// So a run ended over the disk of this name, of which a call failed.
-fn on_disk(alloc: Global, name: &str) -> Ended
+pub(crate) fn on_disk(alloc: Global, name: &str) -> Ended
     ensures { result.status ≡ Status.Disk }
 {
     match format!(in alloc; ": {name}") {
@@ -99,7 +99,7 @@ pub(crate) fn converse_over<H: House>(
     config: Config,
     house: &mut H,
 ) -> Ended
-    ensures conversed { let views = views_of H.File.Source H.Store.Disk H.Console.Link H.Notes.Sink H.Time.Clock H.Ids.Draws in
+    ensures conversed { let views = views_of H.File.Source H.Store.Disk H.Console.Link H.Notes.Sink H.Time.Clock H.Ids.Draws H.Door.Listener in
         DidOver views (H.lends house.old) (H.lends house.new) (H.refusals house.old) (H.refusals house.new) name.now result.status
         (ConversedOver views (H.lends house.old) (H.lends house.new) (H.refusals house.old) (H.refusals house.new) config name.now result.status) }
     ensures file { (H.lends house.new).file ≡ (H.lends house.old).file }
@@ -141,7 +141,7 @@ pub(crate) fn check_disk<H: House>(
     config: Config,
     house: &mut H,
 ) -> Ended
-    ensures checked { let views = views_of H.File.Source H.Store.Disk H.Console.Link H.Notes.Sink H.Time.Clock H.Ids.Draws in
+    ensures checked { let views = views_of H.File.Source H.Store.Disk H.Console.Link H.Notes.Sink H.Time.Clock H.Ids.Draws H.Door.Listener in
         DidOver views (H.lends house.old) (H.lends house.new) (H.refusals house.old) (H.refusals house.new) name.now result.status
         (CheckedOver views (H.lends house.old) (H.lends house.new) (H.refusals house.old) (H.refusals house.new) config name.now result.status) }
     ensures file { (H.lends house.new).file ≡ (H.lends house.old).file }

@@ -1,7 +1,7 @@
 //! How a run ended, and what is told of it.
 ghost use Rattle.std.specs.Prelude.{◌≡◌, ◌++◌, IfSome, IfOk, codes, string_bytes};
 ghost use Rattle.farm_cli.specs.Notes.{IsLineOf, IsOneLine};
-ghost use Rattle.farm_cli.specs.Serving.{status_of};
+ghost use Rattle.farm_cli.specs.Ends.{status_of};
 
 use crate::status::Status;
 use farm_server::Served;

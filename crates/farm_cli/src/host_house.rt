@@ -1,12 +1,13 @@
-//! The house of the system: its files, its standard streams, its clock and its random numbers.
+//! The house of the system: its files, its standard streams, its clock, its random numbers and its sockets.
 ghost use Rattle.std.specs.Prelude.{◌≡◌, IfOk};
 ghost use Rattle.causes.specs.Causes.{HasCause};
-ghost use Rattle.farm_cli.specs.House.{untold};
+ghost use Rattle.farm_cli.specs.House.{silent, untold};
 ghost use Rattle.farm_cli.specs.declared.lending.Lending.TheVariants.{Untold};
 
 use crate::house::House;
 use causes::{Failed, FaultCount};
 use disk_base::FileDisk;
+use farm_serving::HostListener;
 use farm_text::{HostClock, HostDraws};
 use http_wire::{HostSink, HostSource, Joined};
 use std::fs;
@@ -65,7 +66,9 @@ impl House for HostHouse {
 
     type Ids = HostDraws;
 
-    ghost lends = { λ _. record { file = untold; disk = untold; console = Untold; notes = Untold; clock = Untold; draws = Untold } };
+    type Door = HostListener<HostRuntime>;
+
+    ghost lends = { λ _. record { file = untold; disk = untold; console = Untold; notes = Untold; clock = Untold; draws = Untold; doors = silent } };
 
     ghost refusals = { λ h. h.refusals };
 
@@ -130,6 +133,21 @@ impl House for HostHouse {
     }
 
     fn back_draws(&mut self, _draws: HostDraws) {}
+
+    fn listen(&mut self, address: &str) -> Result<HostListener<HostRuntime>, Failed> {
+        match HostListener::bind(self.rt, address) {
+            Ok(door) => Ok(door),
+            Err(error) => {
+                self.refusals.raise();
+                self.reason = Some(error.kind());
+                Err(Failed)
+            }
+        }
+    }
+
+    fn back_listen(&mut self, door: HostListener<HostRuntime>) {
+        self.note(door.why());
+    }
 }
 
 #[cfg(test)]

@@ -1,9 +1,10 @@
 ghost use Rattle.std.specs.Prelude.{◌≡◌, ℕ};
 ghost use Rattle.causes.specs.Causes.{HasCause};
-ghost use Rattle.farm_cli.specs.House.{Lendings, CanGive, after_giving, after_return, CanOpenAmong, after_opening, after_closing};
+ghost use Rattle.farm_cli.specs.House.{Lendings, CanGive, after_giving, after_return, CanOpenAmong, after_opening, after_closing, CanListen, after_listening, after_leaving};
 
 use causes::Failed;
 use disk_base::Disk;
+use farm_serving::Listener;
 use farm_text::{Clock, Draws};
 use http_wire::{Link, Sink, Source};
 use std::io::ErrorKind;
@@ -13,20 +14,23 @@ pub trait House {
     /// A file to read.
     type File: Source;
     /// What keeps a farm.
-    type Store: Disk;
+    type Store: Disk + Send;
     /// Where requests come from and replies go to.
     type Console: Link;
     /// Where a run tells why it failed.
     type Notes: Sink;
 
     /// Tells the moments of requests.
-    type Time: Clock;
+    type Time: Clock + Send + Drop;
 
     /// Draws an id for each request.
-    type Ids: Draws;
+    type Ids: Draws + Send + Drop;
+
+    /// Where links come from.
+    type Door: Listener + Send;
 
     /// What is there, what is out, and what came back, where the house tells.
-    ghost lends: { Self → Lendings Self.File Self.Store Self.Console Self.Notes Self.Time Self.Ids };
+    ghost lends: { Self → Lendings Self.File Self.Store Self.Console Self.Notes Self.Time Self.Ids Self.Door };
 
     /// How many openings were refused.
     ghost refusals: { Self → ℕ };
@@ -98,5 +102,16 @@ pub trait House {
     /// Takes the draws back.
     fn back_draws(&mut self, draws: Self::Ids)
         ensures lends { lends self.new ≡ record (lends self.old) { draws = after_return (lends self.old).draws draws } }
+        ensures refusals { refusals self.new ≡ refusals self.old };
+
+    /// Opens a door at this address. A refusal is counted, and changes nothing that the house lends.
+    fn listen(&mut self, address: &str) -> Result<Self::Door, Failed>
+        ensures opens { CanListen (lends self.old).doors address.now result }
+        ensures lends { lends self.new ≡ record (lends self.old) { doors = after_listening (lends self.old).doors result } }
+        ensures cause { HasCause (refusals self.old) (refusals self.new) result };
+
+    /// Takes a door back, or a twin of one.
+    fn back_listen(&mut self, door: Self::Door)
+        ensures lends { lends self.new ≡ record (lends self.old) { doors = after_leaving (lends self.old).doors door } }
         ensures refusals { refusals self.new ≡ refusals self.old };
 }

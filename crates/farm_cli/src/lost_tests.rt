@@ -60,7 +60,10 @@ fn a_lost_run_is_four_records(rt: HostRuntime) -> Result<(), Fail> {
         words.push(String::from_str(alloc, word)?)?;
     }
     let mut house = house(alloc)?;
-    assert_eq!(rt; run::run(alloc, words.as_slice(), &mut house), Status::Done);
+    assert_eq!(rt;
+        run::run(&rt, alloc, words.as_slice(), &mut house),
+        Status::Done
+    );
     let console = house.returned_console().ok_or("the console")?;
     let replies = str::from_utf8(console.sink.written())?;
     assert!(rt; replies.starts_with("HTTP/1.1 200 OK\r\n"));
@@ -70,7 +73,7 @@ fn a_lost_run_is_four_records(rt: HostRuntime) -> Result<(), Fail> {
     assert!(rt; !images.is_empty());
     let line: &[u8] = b"ok roles=1 clients=0 hooks=0 records=4 tasks=1\n";
     for image in &images {
-        assert_eq!(rt; checked(alloc, image)?.as_slice(), line);
+        assert_eq!(rt; checked(&rt, alloc, image)?.as_slice(), line);
     }
     Ok(())
 }

@@ -3,12 +3,14 @@
 
 mod checking;
 mod commands;
+mod crew;
 #[cfg(test)]
 mod disk_tests;
 mod disks;
 mod ended;
 mod expanding;
 mod farm_file;
+mod giving_back;
 mod host_house;
 mod house;
 mod inputs;
@@ -17,6 +19,7 @@ mod lending;
 mod loading;
 #[cfg(test)]
 mod lost_tests;
+mod memory_doors;
 mod memory_house;
 #[cfg(test)]
 mod note_tests;
@@ -24,6 +27,10 @@ mod rendering;
 #[cfg(test)]
 mod rendering_tests;
 mod run;
+mod serve;
+#[cfg(test)]
+mod serve_tests;
+mod serving;
 mod signing;
 mod status;
 #[cfg(test)]
@@ -39,7 +46,7 @@ use std::{env, io};
 
 fn main(rt: HostRuntime) -> ExitCode {
     let status = match begin(rt) {
-        Ok((words, mut house)) => run::run(rt.alloc(), words.as_slice(), &mut house),
+        Ok((words, mut house)) => run::run(&rt, rt.alloc(), words.as_slice(), &mut house),
         Err(ended) => {
             let note = ended.note(rt.alloc(), None);
             let _ = eprint!(rt; "{}", ended.line(&note));

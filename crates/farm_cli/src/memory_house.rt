@@ -1,20 +1,22 @@
 //! A house in memory, which tells all that it lends.
-ghost use Rattle.std.specs.Prelude.{◌≡◌, string_bytes, option_map};
+ghost use Rattle.std.specs.Prelude.{◌≡◌, string_bytes, option_map, IfOk};
 ghost use Rattle.std.specs.Option.{option_copied};
 ghost use Rattle.farm_cli.specs.declared.lending.Lending.TheVariants.{Ready};
-ghost use Rattle.farm_cli.specs.House.{after_opening, came_back, unopened, refuses, returned, CanOpenAmong};
-ghost use Rattle.farm_cli.specs.MemoryHouse.{disks_of, files_of, only_file};
+ghost use Rattle.farm_cli.specs.House.{after_opening, came_back, unopened, refuses, returned, CanOpenAmong, shut, left_of};
+ghost use Rattle.farm_cli.specs.MemoryHouse.{disks_of, doors_of, files_of, only_file};
 
 use crate::house::House;
 use crate::lending::Lending;
+use crate::memory_doors::MemoryDoors;
 use causes::{Failed, FaultCount};
 use disk_base::MemoryDisk;
+use farm_serving::MemoryListener;
 use farm_text::{ListClock, ListDraws};
 use http_wire::{Joined, MemoryLink, MemorySink, MemorySource};
-use std::alloc::Global;
+use std::alloc::{AllocError, Global};
 use std::io::ErrorKind;
 
-/// A house in memory. It has one farm file and one disk at most, and refuses to open one of another name.
+/// A house in memory. It has one farm file, one disk and one door at most, and refuses to open one of another name.
 ///
 /// An object that is asked for when it is out is given as an empty one.
 #[derive(Drop)]
@@ -27,6 +29,7 @@ pub struct MemoryHouse {
     notes: Lending<MemorySink>,
     clock: Lending<ListClock>,
     draws: Lending<ListDraws>,
+    doors: MemoryDoors,
     refusals: FaultCount,
 }
 
@@ -55,6 +58,7 @@ impl MemoryHouse {
           notes = Ready notes;
           clock = Ready clock;
           draws = Ready draws;
+          doors = shut 0 (λ address. refuses);
         } }
         ensures refusals { ⟦<MemoryHouse as House>⟧.refusals result ≡ 0 }
     {
@@ -67,6 +71,7 @@ impl MemoryHouse {
             notes: Lending::Ready(notes),
             clock: Lending::Ready(clock),
             draws: Lending::Ready(draws),
+            doors: MemoryDoors::none(alloc),
             refusals: FaultCount::new(),
         }
     }
@@ -81,6 +86,33 @@ impl MemoryHouse {
         let disk = Lending::Ready(disk);
         house.disk = Some(NamedDisk { name, disk });
         house
+    }
+
+    /// The house with this door at this address. It keeps as many doors that come back as there is room for.
+    ///
+    /// # Errors
+    ///
+    /// Want of memory for that room.
+    pub fn with_door(
+        self,
+        address: String,
+        door: MemoryListener,
+        room: usize,
+    ) -> Result<Self, AllocError>
+        ensures lends { IfOk result (λ house. ⟦<MemoryHouse as House>⟧.lends house
+            ≡ record (⟦<MemoryHouse as House>⟧.lends self) { doors = shut room (only_file (string_bytes address) door) }) }
+        ensures refusals { IfOk result (λ house. ⟦<MemoryHouse as House>⟧.refusals house ≡ ⟦<MemoryHouse as House>⟧.refusals self) }
+    {
+        let mut house = self;
+        house.doors = MemoryDoors::one(house.alloc, address, door, room)?;
+        Ok(house)
+    }
+
+    /// The doors that came back, in order, where that is told.
+    pub fn returned_doors(&self) -> Option<&[MemoryListener]>
+        ensures { option_map (λ doors. doors.now) result ≡ left_of (⟦<MemoryHouse as House>⟧.lends self.now).doors }
+    {
+        self.doors.returned()
     }
 
     /// The disk, if it came back.
@@ -128,7 +160,9 @@ impl House for MemoryHouse {
 
     type Ids = ListDraws;
 
-    ghost lends = { λ h. record { file = files_of (string_bytes h.farm_name) h.farm_file; disk = disks_of (option_map (λ d. (string_bytes d.name, d.disk)) h.disk); console = h.console; notes = h.notes; clock = h.clock; draws = h.draws } };
+    type Door = MemoryListener;
+
+    ghost lends = { λ h. record { file = files_of (string_bytes h.farm_name) h.farm_file; disk = disks_of (option_map (λ d. (string_bytes d.name, d.disk)) h.disk); console = h.console; notes = h.notes; clock = h.clock; draws = h.draws; doors = doors_of h.doors } };
 
     ghost refusals = { λ h. h.refusals };
 
@@ -226,6 +260,20 @@ impl House for MemoryHouse {
 
     fn back_draws(&mut self, draws: ListDraws) {
         self.draws.take_back(draws);
+    }
+
+    fn listen(&mut self, address: &str) -> Result<MemoryListener, Failed> {
+        match self.doors.open(address) {
+            Ok(door) => Ok(door),
+            Err(Failed) => {
+                self.refusals.raise();
+                Err(Failed)
+            }
+        }
+    }
+
+    fn back_listen(&mut self, door: MemoryListener) {
+        self.doors.take_back(door);
     }
 }
 

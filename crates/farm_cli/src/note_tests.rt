@@ -2,11 +2,17 @@
 
 use crate::tests::{CYCLE, Case, PING, numbered, outcome_of, signed};
 use std::alloc::{AllocError, Global};
+use std::sync::Wait;
 use std::test::Fail;
+use std::thread::Threads;
 
 /// Runs a case and gives what notes were told.
-fn notes_of(alloc: Global, case: &Case) -> Result<Vec<u8>, AllocError> {
-    let outcome = outcome_of(alloc, case)?;
+fn notes_of(
+    rt: &(impl Threads + Wait + Sync),
+    alloc: Global,
+    case: &Case,
+) -> Result<Vec<u8>, AllocError> {
+    let outcome = outcome_of(rt, alloc, case)?;
     Ok(outcome.notes)
 }
 
@@ -45,7 +51,7 @@ fn a_farm_file_is_named_in_notes(rt: HostRuntime) -> Result<(), Fail> {
         (unread, b"a read failed: the farm file farm.toml\n"),
     ];
     for (case, note) in rows {
-        assert_eq!(rt; notes_of(rt.alloc(), &case)?.as_slice(), note);
+        assert_eq!(rt; notes_of(&rt, rt.alloc(), &case)?.as_slice(), note);
     }
     Ok(())
 }
@@ -99,7 +105,7 @@ fn what_is_wrong_with_an_input_is_told(rt: HostRuntime) -> Result<(), Fail> {
             words: &[command, "farm.toml"],
             ..Case::over(input)
         };
-        assert_eq!(rt; notes_of(rt.alloc(), &case)?.as_slice(), note);
+        assert_eq!(rt; notes_of(&rt, rt.alloc(), &case)?.as_slice(), note);
     }
     Ok(())
 }
@@ -144,10 +150,11 @@ fn what_is_too_much_is_told_with_its_limit(rt: HostRuntime) -> Result<(), Fail> 
             words: &[command, "farm.toml"],
             ..Case::over(input)
         };
-        assert_eq!(rt; notes_of(alloc, &case)?.as_slice(), note);
+        assert_eq!(rt; notes_of(&rt, rt.alloc(), &case)?.as_slice(), note);
     }
     let refused = signed(
-        alloc,
+        &rt,
+        rt.alloc(),
         "POST",
         ["--type", "text/plain"].as_slice(),
         bytes.as_slice(),
@@ -168,7 +175,7 @@ fn the_console_is_named_in_notes(rt: HostRuntime) -> Result<(), Fail> {
             failing_reads: &[0],
             ..Case::over(PING)
         };
-        assert_eq!(rt; notes_of(rt.alloc(), &reading)?.as_slice(), unread);
+        assert_eq!(rt; notes_of(&rt, rt.alloc(), &reading)?.as_slice(), unread);
     }
     for command in ["answer", "check"] {
         let words = [command, "farm.toml"];
@@ -177,7 +184,7 @@ fn the_console_is_named_in_notes(rt: HostRuntime) -> Result<(), Fail> {
             failing_writes: &[0],
             ..Case::over(PING)
         };
-        assert_eq!(rt; notes_of(rt.alloc(), &writing)?.as_slice(), unwritten);
+        assert_eq!(rt; notes_of(&rt, rt.alloc(), &writing)?.as_slice(), unwritten);
     }
     Ok(())
 }
@@ -189,7 +196,7 @@ fn a_word_is_told_in_printable_ascii(rt: HostRuntime) -> Result<(), Fail> {
         words: &["\u{1b}[31mred\u{7f}\u{e9}"],
         ..Case::over(PING)
     };
-    let notes = notes_of(rt.alloc(), &case)?;
+    let notes = notes_of(&rt, rt.alloc(), &case)?;
     let text = str::from_utf8(notes.as_slice())?;
     assert!(rt; text.contains("\\x1b[31mred\\x7f\\xc3\\xa9"));
     assert!(rt;

@@ -15,6 +15,8 @@ pub enum Status {
     Opening,
     /// The disk cannot be opened, or a call of it failed.
     Disk,
+    /// No door can be opened, or one failed.
+    Door,
     /// A read failed.
     Read,
     /// A write failed.
@@ -38,7 +40,7 @@ impl Status {
             Status::Done => 0,
             Status::Usage => 2,
             Status::FarmFile | Status::Input => 3,
-            Status::Opening | Status::Disk => 4,
+            Status::Opening | Status::Disk | Status::Door => 4,
             Status::Read => 5,
             Status::Write => 6,
             Status::NoMemory => 7,
@@ -57,6 +59,7 @@ impl Status {
             Status::Input | Status::Wire => "the input is refused",
             Status::Opening => "the farm file cannot be opened",
             Status::Disk => "the disk failed",
+            Status::Door => "the listener failed",
             Status::Read => "a read failed",
             Status::Write => "a write failed",
             Status::NoMemory => "memory ran out",
@@ -75,6 +78,7 @@ impl Status {
             Status::Input => "the input is refused\n",
             Status::Opening => "the farm file cannot be opened\n",
             Status::Disk => "the disk failed\n",
+            Status::Door => "the listener failed\n",
             Status::Read => "a read failed\n",
             Status::Write => "a write failed\n",
             Status::NoMemory => "memory ran out\n",

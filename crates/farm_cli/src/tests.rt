@@ -6,7 +6,9 @@ use crate::status::Status;
 use farm_text::{ListClock, ListDraws};
 use http_wire::{Joined, MemorySink, MemorySource};
 use std::alloc::{AllocError, Global};
+use std::sync::Wait;
 use std::test::Fail;
+use std::thread::Threads;
 
 /// A command line, what a house has for it, and which reads and writes fail, by their numbers from 0 on.
 #[derive(Clone, Copy)]
@@ -64,13 +66,18 @@ pub(crate) fn house_of(alloc: Global, case: &Case) -> Result<MemoryHouse, AllocE
 }
 
 /// Runs a case.
-pub(crate) fn outcome_of(alloc: Global, case: &Case) -> Result<Outcome, AllocError> {
+pub(crate) fn outcome_of(
+    rt: &(impl Threads + Wait + Sync),
+    alloc: Global,
+    case: &Case,
+) -> Result<Outcome, AllocError> {
     let mut house = house_of(alloc, case)?;
-    outcome_in(alloc, case, &mut house)
+    outcome_in(rt, alloc, case, &mut house)
 }
 
 /// Runs a case over this house.
 pub(crate) fn outcome_in(
+    rt: &(impl Threads + Wait + Sync),
     alloc: Global,
     case: &Case,
     house: &mut MemoryHouse,
@@ -79,7 +86,7 @@ pub(crate) fn outcome_in(
     for word in case.words {
         words.push(String::from_str(alloc, word)?)?;
     }
-    let status = run::run(alloc, words.as_slice(), house);
+    let status = run::run(rt, alloc, words.as_slice(), house);
     let mut output = Vec::new(alloc);
     if let Some(console) = house.returned_console() {
         output.extend_from_slice(console.sink.written())?;
@@ -101,14 +108,14 @@ pub(crate) const PING: &[u8] = b"GET /api/queue/v1/ping HTTP/1.1\r\n\r\n";
 fn requests_are_answered(rt: HostRuntime) -> Result<(), Fail> {
     let input =
         b"GET /api/queue/v1/ping HTTP/1.1\r\n\r\nGET /api/queue/v1/task/AAAAAAAAQACAAAAAAAAAAA/status HTTP/1.1\r\n\r\n";
-    let done = outcome_of(rt.alloc(), &Case::over(input))?;
+    let done = outcome_of(&rt, rt.alloc(), &Case::over(input))?;
     assert_eq!(rt; done.status, Status::Done);
     let output: &[u8] =
         b"HTTP/1.1 200 OK\r\nContent-Length: 14\r\nContent-Type: application/json\r\n\r\n{\"alive\":true}HTTP/1.1 404 Not Found\r\nContent-Length: 119\r\nContent-Type: application/json\r\n\r\n{\"code\":\"ResourceNotFound\",\"details\":{\"kind\":\"task\",\"name\":\"AAAAAAAAQACAAAAAAAAAAA\"},\"message\":\"nothing has that name\"}";
     assert_eq!(rt; done.output.as_slice(), output);
     assert_eq!(rt; done.notes.len(), 0);
 
-    let empty = outcome_of(rt.alloc(), &Case::over(b"\r\n"))?;
+    let empty = outcome_of(&rt, rt.alloc(), &Case::over(b"\r\n"))?;
     assert_eq!(rt; empty.status, Status::Done);
     assert_eq!(rt; empty.output.len(), 0);
     Ok(())
@@ -116,14 +123,14 @@ fn requests_are_answered(rt: HostRuntime) -> Result<(), Fail> {
 
 #[test]
 fn input_that_is_no_request_ends_with_8(rt: HostRuntime) -> Result<(), Fail> {
-    let cut = outcome_of(rt.alloc(), &Case::over(b"GET /api/queue/v1/ping HT"))?;
+    let cut = outcome_of(&rt, rt.alloc(), &Case::over(b"GET /api/queue/v1/ping HT"))?;
     assert_eq!(rt; cut.status.code(), 8);
     assert_eq!(rt; cut.output.len(), 0);
     let note: &[u8] = b"the input is refused: it ends inside a request\n";
     assert_eq!(rt; cut.notes.as_slice(), note);
 
     let head = vec![in rt.alloc(); b'a'; 16_385]?;
-    let long = outcome_of(rt.alloc(), &Case::over(head.as_slice()))?;
+    let long = outcome_of(&rt, rt.alloc(), &Case::over(head.as_slice()))?;
     assert_eq!(rt; long.status.code(), 8);
     let output: &[u8] =
         b"HTTP/1.1 431 Request Header Fields Too Large\r\nConnection: close\r\nContent-Length: 69\r\nContent-Type: application/json\r\n\r\n{\"code\":\"HeadTooLarge\",\"details\":{},\"message\":\"the head is too long\"}";
@@ -157,7 +164,7 @@ fn scopes_are_expanded(rt: HostRuntime) -> Result<(), Fail> {
             farm,
             ..Case::over(input)
         };
-        let done = outcome_of(rt.alloc(), &case)?;
+        let done = outcome_of(&rt, rt.alloc(), &case)?;
         assert_eq!(rt; done.status.code(), 0);
         assert_eq!(rt; done.output.as_slice(), output);
     }
@@ -186,7 +193,7 @@ fn too_many_scopes_are_refused(rt: HostRuntime) -> Result<(), Fail> {
         words: &["expand", "farm.toml"],
         ..Case::over(lines.as_bytes())
     };
-    let refused = outcome_of(alloc, &expand)?;
+    let refused = outcome_of(&rt, rt.alloc(), &expand)?;
     assert_eq!(rt; refused.status.code(), 3);
     assert_eq!(rt; refused.output.len(), 0);
 
@@ -196,7 +203,7 @@ fn too_many_scopes_are_refused(rt: HostRuntime) -> Result<(), Fail> {
         farm: farm.as_bytes(),
         ..Case::over(PING)
     };
-    let answered = outcome_of(alloc, &answer)?;
+    let answered = outcome_of(&rt, rt.alloc(), &answer)?;
     assert_eq!(rt; answered.status.code(), 0);
     let output: &[u8] =
         b"HTTP/1.1 403 Forbidden\r\nContent-Length: 93\r\nContent-Type: application/json\r\n\r\n{\"code\":\"ExpansionLimit\",\"details\":{\"limit\":10000},\"message\":\"too many scopes are derivable\"}";
@@ -211,7 +218,7 @@ fn roles_are_counted(rt: HostRuntime) -> Result<(), Fail> {
         farm: THREE_ROLES,
         ..Case::over(b"")
     };
-    let done = outcome_of(rt.alloc(), &case)?;
+    let done = outcome_of(&rt, rt.alloc(), &case)?;
     assert_eq!(rt; done.status.code(), 0);
     let output: &[u8] = b"ok roles=3 clients=0 hooks=0\n";
     assert_eq!(rt; done.output.as_slice(), output);
@@ -225,7 +232,7 @@ fn a_load_is_run(rt: HostRuntime) -> Result<(), Fail> {
         words: &["bulk", "--seed", "0", "--tasks", "3"],
         ..Case::over(b"")
     };
-    let done = outcome_of(rt.alloc(), &case)?;
+    let done = outcome_of(&rt, rt.alloc(), &case)?;
     assert_eq!(rt; done.status.code(), 0);
     let output: &[u8] = b"tasks=3 completed=2 failed=1 exception=0 unscheduled=0 runs=4\n";
     assert_eq!(rt; done.output.as_slice(), output);
@@ -255,6 +262,7 @@ const SIGN: [&str; 17] = [
 
 /// What `sign` makes of this method, these words more and this input.
 pub(crate) fn signed(
+    rt: &(impl Threads + Wait + Sync),
     alloc: Global,
     method: &'static str,
     more: &[&str],
@@ -268,7 +276,7 @@ pub(crate) fn signed(
         words: words.as_slice(),
         ..Case::over(input)
     };
-    outcome_of(alloc, &case)
+    outcome_of(rt, alloc, &case)
 }
 
 /// The expected lines are of Hawk's documentation ("Protocol Example", "Payload Validation"), but for the last, which Python's hmac made.
@@ -295,7 +303,7 @@ fn requests_are_signed(rt: HostRuntime) -> Result<(), Fail> {
         ),
     ];
     for (method, more, input, output) in rows {
-        let done = signed(rt.alloc(), method, more, input)?;
+        let done = signed(&rt, rt.alloc(), method, more, input)?;
         assert_eq!(rt; done.status.code(), 0);
         assert_eq!(rt; done.output.as_slice(), output);
         assert_eq!(rt; done.notes.len(), 0);
@@ -308,13 +316,15 @@ fn a_body_that_is_too_long_is_not_signed(rt: HostRuntime) -> Result<(), Fail> {
     let alloc = rt.alloc();
     let body = vec![in alloc; b'a'; 1_048_577]?;
     let longest = signed(
-        alloc,
+        &rt,
+        rt.alloc(),
         "POST",
         ["--type", "text/plain"].as_slice(),
         &body[1..],
     )?;
     assert_eq!(rt; longest.status.code(), 0);
     let refused = signed(
+        &rt,
         alloc,
         "POST",
         ["--type", "text/plain"].as_slice(),
@@ -322,7 +332,7 @@ fn a_body_that_is_too_long_is_not_signed(rt: HostRuntime) -> Result<(), Fail> {
     )?;
     assert_eq!(rt; refused.status.code(), 3);
     assert_eq!(rt; refused.output.len(), 0);
-    let unread = signed(alloc, "GET", &[], body.as_slice())?;
+    let unread = signed(&rt, rt.alloc(), "GET", &[], body.as_slice())?;
     assert_eq!(rt; unread.status.code(), 0);
     Ok(())
 }
@@ -342,7 +352,7 @@ fn untaken_words(rt: HostRuntime) -> Result<(), Fail> {
             words,
             ..Case::over(PING)
         };
-        let refused = outcome_of(rt.alloc(), &case)?;
+        let refused = outcome_of(&rt, rt.alloc(), &case)?;
         assert_eq!(rt; refused.status.code(), 2);
         assert_eq!(rt; refused.output.len(), 0);
         assert!(rt; refused.notes.len() > 0);
@@ -400,7 +410,7 @@ fn what_fails_ends_with_its_status(rt: HostRuntime) -> Result<(), Fail> {
     ];
     let mut codes = Vec::new(rt.alloc());
     for case in &cases {
-        let outcome = outcome_of(rt.alloc(), case)?;
+        let outcome = outcome_of(&rt, rt.alloc(), case)?;
         assert_eq!(rt; outcome.output.len(), 0);
         codes.push(outcome.status.code())?;
     }

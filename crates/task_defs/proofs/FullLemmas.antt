@@ -1,5 +1,5 @@
 -- A full form says the definition that it is of, and keeps the rules that this keeps.
-use Rattle.std.proofs.Common.{◌≡◌, ◌⊎◌, ℕ, suc, max, pos, ◌+◌, ◌<◌, ◌≤◌, Bool, true, false, ◌&&◌, nat_le, List, [], ◌∷◌, length, map, All, codes, Option, Some, None, unwrap_or, IsSome, Ordering, Less, Equal, Greater, nat_cmp, refl, sym, ap, ◌∙◌, subst, inl, inr, arith}
+use Rattle.std.proofs.Common.{◌≡◌, ◌⊎◌, ℕ, suc, pos, ◌<◌, ◌≤◌, Bool, true, false, ◌&&◌, nat_le, List, [], ◌∷◌, map, codes, Option, Some, None, unwrap_or, Ordering, Less, Equal, Greater, nat_cmp, refl, sym, ap, ◌∙◌, subst, inl, inr, arith}
 use Rattle.std.proofs.lemmas.Bool.{false≢true, cases_lt}
 use Rattle.std.proofs.lemmas.List.Elements.{All-from_recursion, All-nil}
 use Rattle.std.specs.List.{AllByRecursion, IsDistinct, filter_map}
@@ -7,11 +7,8 @@ use Rattle.std.specs.Str.{bytes_eq}
 use Rattle.std.specs.Ordering.{match_ordering}
 use Rattle.std.specs.Cmp.Lexicographic.{slice_cmp}
 use Rattle.farm_text.specs.Slug.{IsUuid4, IsSlug, slug_text, slug_of}
-use Rattle.farm_text.specs.Moment.{IsMomentText}
-use Rattle.farm_text.specs.DateTime.{IsDateTime}
 use Rattle.serde_json.specs.Data.{items_depth}
 use Rattle.farm_text.specs.Document.{Document, null, boolean, whole, text, array, object, items_of, Members, no_members, member, member_at, get, items_data}
-use Rattle.farm_text.proofs.SlugLemmas.{slug_of_uuid}
 use Rattle.task_defs.specs.Forms.{IsIdentifier, IsIdentifierByte, IsProject, IsProjectByte}
 use Rattle.task_defs.specs.Choices.{priority_name, priority_of, requires_name, requires_of}
 use Rattle.task_defs.specs.Documents.{nesting}
@@ -25,7 +22,7 @@ use Rattle.task_defs.specs.declared.choices.Requires.{Requires}
 use Rattle.task_defs.specs.declared.choices.Requires.TheVariants.{AllCompleted, AllResolved}
 use Rattle.task_defs.proofs.KeyLemmas.{same_key, bytes_same, or_cases}
 use Rattle.task_defs.proofs.TextLemmas.{texts_in_list}
-use Rattle.task_defs.proofs.IdLemmas.{slug_back, uuid_of, slugs_back}
+use Rattle.task_defs.proofs.IdLemmas.{uuid_of, slugs_back}
 
 -- ---- what stands at a key of a full form is of its form
 

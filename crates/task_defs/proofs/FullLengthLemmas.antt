@@ -1,8 +1,8 @@
 -- How long a full form is, from its parts.
-use Rattle.std.proofs.Common.{◌≡◌, ℕ, ◌+◌, ◌*◌, ◌≤◌, List, [], ◌∷◌, length, length-append, map, codes, pos, ℤ, ap, subst, sum, arith}
+use Rattle.std.proofs.Common.{◌≡◌, ℕ, ◌+◌, ◌*◌, ◌≤◌, List, ◌∷◌, length, length-append, map, codes, pos, ap, subst, sum, arith}
 use Rattle.farm_text.specs.Slug.{slug_text}
 use Rattle.farm_text.specs.Moment.{IsMomentText}
-use Rattle.farm_text.specs.Document.{Document, text, whole, object, Members, no_members, member, members_of, document_text}
+use Rattle.farm_text.specs.Document.{Document, text, whole, object, Members, no_members, member, document_text}
 use Rattle.task_defs.specs.Forms.{queue_name}
 use Rattle.task_defs.specs.Choices.{priority_name, requires_name}
 use Rattle.task_defs.specs.Rules.{metadata_doc}

@@ -1,11 +1,10 @@
 -- How long the text of a document is.
-use Rattle.std.proofs.Common.{◌≡◌, ℕ, suc, ◌+◌, ◌*◌, ◌<◌, ◌≤◌, ◌^◌, min, true, false, List, [], ◌∷◌, ◌++◌, length, length-append, ℤ, pos, negsuc, ◌≤ℤ◌, FitsSigned, w64, arith, Bool, cond}
+use Rattle.std.proofs.Common.{◌≡◌, ℕ, suc, ◌+◌, ◌*◌, ◌≤◌, true, false, List, [], ◌∷◌, ◌++◌, length, length-append, ℤ, pos, negsuc, ◌≤ℤ◌, FitsSigned, w64, arith, Bool, cond}
 use Rattle.std.proofs.lemmas.Fmt.{length-decimal-le}
 use Rattle.jiff_core.proofs.SignedLemmas.{signed_arith}
 use Rattle.json.specs.Print.{escape_byte, escape, quoted}
 use Rattle.serde_json.specs.Written.{items_text, members_text}
 use Rattle.farm_text.specs.Document.{Document, whole, array, object, Items, no_items, item, Members, no_members, member, items_data, members_data, document_text}
-use Rattle.task_defs.specs.Lengths.{Bounds}
 
 -- the bytes of items of which one stands before, with the closing bracket
 abbrev pub items_size : Items → ℕ

@@ -12,3 +12,4 @@ pub mod FullLemmas
 pub mod FullLengthLemmas
 pub mod SaysLemmas
 pub mod LengthLemmas
+pub mod CrossingLemmas

@@ -1,5 +1,5 @@
 -- The full form of a definition that a document says, says it too.
-use Rattle.std.proofs.Common.{◌≡◌, ◌⊎◌, ℕ, pos, ◌+◌, ◌<◌, ◌≤◌, true, nat_le, List, [], ◌∷◌, map, All, codes, Option, Some, None, IsSome, refl, sym, ap, ◌∙◌, subst, inl, inr, arith}
+use Rattle.std.proofs.Common.{◌≡◌, ℕ, pos, ◌+◌, ◌<◌, ◌≤◌, true, nat_le, List, [], map, All, codes, Option, Some, IsSome, refl, sym, ap, ◌∙◌, subst, inl, inr, arith}
 use Rattle.std.specs.List.{filter_map}
 use Rattle.std.proofs.lemmas.Bool.{false≢true}
 use Rattle.farm_text.specs.Slug.{IsUuid4, IsSlug, slug_text, slug_of}
@@ -11,7 +11,7 @@ use Rattle.task_defs.specs.declared.task_def.TaskDef.{TaskDef}
 use Rattle.task_defs.specs.Forms.{IsIdentifier, IsProject, IsRoute, queue_name}
 use Rattle.task_defs.specs.Choices.{priority_name, priority_of, requires_name, requires_of}
 use Rattle.task_defs.specs.Documents.{nesting, members_in}
-use Rattle.task_defs.specs.Values.{IsTextOf, Ill, IsTextList, IsScope, IsRetries, AreTags, text_or, texts_in, slug_or, members_or_none}
+use Rattle.task_defs.specs.Values.{IsTextOf, Ill, IsTextList, IsScope, IsRetries, AreTags, text_or, texts_in, members_or_none}
 use Rattle.task_defs.specs.Keys.{may_stand, required, KeyBreaks}
 use Rattle.task_defs.specs.Faults.{Holds}
 use Rattle.task_defs.specs.Rules.{IsExpires, Disagree, QueueBreaks, NameBreaks, GroupBreaks, DependenciesBreak, RequiresBreaks, RoutesBreak, PriorityBreaks, RetriesBreak, MomentBreaks, DeadlineBreaks, ExpiresBreaks, ScopesBreak, MetadataBreaks}

@@ -24,8 +24,9 @@ mod values;
 pub use choices::{Priority, Requires};
 pub use fault::{DefError, DefFault};
 pub use laws::{
-    a_full_form_says_its_definition, equal_full_forms_are_of_equal_definitions, the_fault_is_one,
-    the_full_form_is_one, the_longest_definition,
+    a_full_form_says_its_definition, definitions_cross_threads,
+    equal_full_forms_are_of_equal_definitions, the_fault_is_one, the_full_form_is_one,
+    the_longest_definition,
 };
 pub use lists::{Dependencies, Routes, Scopes};
 pub use names::{Identifier, ProjectName, Route, TaskQueue};

@@ -1,4 +1,4 @@
-use command_line::{Command, Load, WordsFault, Work, read_words};
+use command_line::{Command, Load, Service, WordsFault, Work, read_words};
 use farm_text::Text;
 use std::alloc::{AllocError, Global};
 use std::test::Fail;
@@ -27,6 +27,7 @@ fn asked(alloc: Global, words: &[&str]) -> Result<String, AllocError> {
         Work::Answer { disk } => ("answer", disk.as_ref()),
         Work::Expand => ("expand", None),
         Work::Check { disk } => ("check", disk.as_ref()),
+        Work::Serve(service) => return served(alloc, &farm, service),
     };
     let farm = farm.as_str();
     match disk {
@@ -36,6 +37,14 @@ fn asked(alloc: Global, words: &[&str]) -> Result<String, AllocError> {
         }
         None => format!(in alloc; "{name} {farm}"),
     }
+}
+
+/// A service in words: the farm file, the disk, the address, the workers and the connections of each.
+fn served(alloc: Global, farm: &Text, service: &Service) -> Result<String, AllocError> {
+    let (farm, disk) = (farm.as_str(), service.disk.as_str());
+    let (listen, workers) = (service.listen.as_str(), service.workers);
+    let connections = service.connections;
+    format!(in alloc; "serve {farm} over {disk} at {listen} by {workers} of {connections}")
 }
 
 #[test]
@@ -323,11 +332,166 @@ fn a_load_off_its_form_is_told(rt: HostRuntime) -> Result<(), Fail> {
 }
 
 #[test]
+fn serve_is_read(rt: HostRuntime) -> Result<(), Fail> {
+    let rows: [(&[&str], &str); 7] = [
+        (
+            &["serve", "a.toml", "--disk", "d", "--listen", "h:1"],
+            "serve a.toml over d at h:1 by 4 of 1000000",
+        ),
+        (
+            &[
+                "serve",
+                "--connections=1",
+                "--workers",
+                "64",
+                "--listen=h:1",
+                "--disk=d",
+                "--",
+                "-a",
+            ],
+            "serve -a over d at h:1 by 64 of 1",
+        ),
+        (
+            &[
+                "serve",
+                "--workers=001",
+                "-",
+                "--disk",
+                "d",
+                "--connections",
+                "1000000",
+                "--listen",
+                "[::1]:8080",
+                "--",
+            ],
+            "serve - over d at [::1]:8080 by 1 of 1000000",
+        ),
+        (
+            &[
+                "serve",
+                "--disk",
+                "",
+                "--listen=",
+                "--connections",
+                "999999",
+                "",
+            ],
+            "serve  over  at  by 4 of 999999",
+        ),
+        (
+            &[
+                "serve",
+                "a",
+                "--disk=--listen",
+                "--listen",
+                "-",
+                "--workers=64",
+            ],
+            "serve a over --listen at - by 64 of 1000000",
+        ),
+        (
+            &[
+                "serve",
+                "a",
+                "--disk",
+                "d",
+                "--listen",
+                "l",
+                "--workers",
+                "0000000000000000064",
+            ],
+            "serve a over d at l by 64 of 1000000",
+        ),
+        (
+            &[
+                "serve",
+                "a",
+                "--listen",
+                "l",
+                "--disk",
+                "d=e",
+                "--workers",
+                "1",
+            ],
+            "serve a over d=e at l by 1 of 1000000",
+        ),
+    ];
+    for (words, wanted) in rows {
+        assert_eq!(rt; asked(rt.alloc(), words)?.as_str(), wanted);
+    }
+    Ok(())
+}
+
+#[test]
+fn other_words_of_serve_get_a_text(rt: HostRuntime) -> Result<(), Fail> {
+    let rows: [&[&str]; 16] = [
+        &["serve"],
+        &["serve", "a.toml"],
+        &["serve", "a", "--disk", "d"],
+        &["serve", "a", "--listen", "l"],
+        &["serve", "--disk", "d", "--listen", "l"],
+        &["serve", "a", "b", "--disk", "d", "--listen", "l"],
+        &["serve", "a", "--disk", "d", "--listen", "l", "--disk", "d"],
+        &["serve", "a", "--disk", "d", "--listen", "l", "--listen=l"],
+        &["serve", "a", "--disk", "d", "--listen"],
+        &["serve", "a", "--disk", "--listen", "l"],
+        &["serve", "a", "--disk", "d", "--listen", "-l"],
+        &[
+            "serve", "a", "--disk", "d", "--listen", "l", "--worker", "4",
+        ],
+        &["serve", "a", "--disk", "d", "--listen", "l", "-w", "4"],
+        &["serve", "a", "--disk", "d", "--listen", "l", "--", "b"],
+        &["serve", "a", "--disk", "d", "--listen", "l", "--help"],
+        &["answer", "a", "--listen", "l"],
+    ];
+    for words in rows {
+        assert!(rt; usage(rt.alloc(), words)?.is_some());
+    }
+    Ok(())
+}
+
+#[test]
+fn a_service_off_its_form_is_told(rt: HostRuntime) -> Result<(), Fail> {
+    let rows = [
+        ("0", "1", "--workers"),
+        ("65", "1", "--workers"),
+        ("256", "1", "--workers"),
+        ("", "1", "--workers"),
+        ("+4", "1", "--workers"),
+        ("00000000000000000004", "1", "--workers"),
+        ("4", "0", "--connections"),
+        ("4", "1000001", "--connections"),
+        ("4", "4294967297", "--connections"),
+        ("4", "", "--connections"),
+        ("4", "1e3", "--connections"),
+    ];
+    for (workers, connections, name) in rows {
+        let numbers = [
+            "serve",
+            "a",
+            "--disk",
+            "d",
+            "--listen",
+            "l",
+            "--workers",
+            workers,
+            "--connections",
+            connections,
+        ];
+        let told = usage(rt.alloc(), numbers.as_slice())?.ok_or("a text")?;
+        assert!(rt; told.as_str().contains(name));
+    }
+    Ok(())
+}
+
+#[test]
 fn help_names_the_commands(rt: HostRuntime) -> Result<(), Fail> {
     let alloc = rt.alloc();
     let help = usage(alloc, ["--help"].as_slice())?.ok_or("a text")?;
     assert!(rt; help.as_str().contains("A build farm's server."));
-    for name in ["answer", "expand", "check", "sign", "bulk", "render"] {
+    for name in [
+        "answer", "expand", "check", "sign", "bulk", "render", "serve",
+    ] {
         assert!(rt; help.as_str().contains(name));
     }
     let help = usage(alloc, ["check", "--help"].as_slice())?.ok_or("a text")?;

@@ -20,6 +20,7 @@ returns-clause-conversed g c =
       draws_given = c.draws-draws.result;
       draws_back = c.serve_connection-served.new.draws;
       draws = lent.draws_lent;
+      doors = lent.doors_left;
       asks = serves.asks;
       replies = serves.replies;
       served = c.serve_connection-served.result;

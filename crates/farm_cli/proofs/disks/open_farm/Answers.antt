@@ -11,7 +11,7 @@ returns-in-Err-clause-opened g c =
       status_is = c.on_missing.ensures;
       rose = c.in-Err.ensures.cause.failed;
       could = c.in-Err.ensures.opens;
-      left = record { disk = rw lends refl; console = rw lends refl; clock = rw lends refl; draws = rw lends refl };
+      left = record { disk = rw lends refl; console = rw lends refl; clock = rw lends refl; draws = rw lends refl; doors = rw lends refl };
     })
 
 -- it has a farm
@@ -38,10 +38,11 @@ returns-in-Err-open-clause-opened g c =
       back = c.in-Err-open.disk;
       disk = record { could = c.in-Ok.ensures.opens; returned = rw (takes, gives) refl };
       fault = c.in-Err-open.fault;
-      why = IsRefusedFor-by (views_of g.H.File.Source g.H.Store.Disk g.H.Console.Link g.H.Notes.Sink g.H.Time.Clock g.H.Ids.Draws) c.in-Ok.disk c.in-Err-open.disk c.in-Err-open.fault c.in-Err-open.ensures.cause (λ tells place is. c.in-Err-open.ensures.damaged tells place is);
+      why = IsRefusedFor-by (views_of g.H.File.Source g.H.Store.Disk g.H.Console.Link g.H.Notes.Sink g.H.Time.Clock g.H.Ids.Draws g.H.Door.Listener) c.in-Ok.disk c.in-Err-open.disk c.in-Err-open.fault c.in-Err-open.ensures.cause (λ tells place is. c.in-Err-open.ensures.damaged tells place is);
       stops = λ tells bodies pending image. c.in-Err-open.ensures.any_moment tells bodies pending image;
       status_is = c.by_fault.ensures;
       console = rw (takes, gives) refl;
       clock = rw (takes, gives) refl;
       draws = rw (takes, gives) refl;
+      doors = rw (takes, gives) refl;
     })

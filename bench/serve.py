@@ -1,0 +1,192 @@
+#!/usr/bin/env python3
+"""What calls cost over sockets, beside what this machine's disk and a plain loop over sockets can do, in one run.
+
+python3 bench/serve.py PROGRAM [SECONDS]
+
+PROGRAM is the built program itself. It runs `serve` with 4 workers over a disk in a temporary folder (TMPDIR says on which file system), and each row asks
+for so many seconds (else 3): pings and signed pings on one connection and on four that are kept alive, and creations, claims and completions of tasks, each of
+which is on the disk before it is answered, from one client and from four. A connection serves 1,000 requests, and is then made anew.
+Below them stand what the clients here reach with a loop in the server's place that reads and writes as many bytes, how often a record of the size
+that a change had can be written and synced, and its gate too, as the program does it, and what the clients reach with both, one after the other: a loop
+that writes and syncs so before it replies. A farm that took no time of its own would come to that. Each client is a process; a client in Python takes some
+twenty microseconds a call, so pings tell no more than that the program is not slower.
+"""
+import json
+import multiprocessing
+import os
+import socket
+import sys
+import tempfile
+import time
+
+import peers
+
+PROGRAM = os.path.abspath(sys.argv[1])
+SECONDS = float(sys.argv[2]) if len(sys.argv) > 2 else 3.0
+
+
+class Line:
+    """A connection that is made again where a reply closed it, and that keeps how long each call took."""
+
+    def __init__(self, address):
+        self.address, self.peer, self.times = address, peers.Peer(address), []
+
+    def ask(self, message):
+        begin = time.perf_counter()
+        status, head, body = self.peer.ask(message)
+        self.times.append(time.perf_counter() - begin)
+        if status != 200:
+            raise SystemExit("answered with %d: %s" % (status, body.decode()))
+        if peers.closes(head):
+            self.peer.close()
+            self.peer = peers.Peer(self.address)
+        return body
+
+
+def pings(line, place, until):
+    while time.perf_counter() < until:
+        line.ask(peers.PING)
+
+
+def signed_pings(line, place, until):
+    number = place * 1000000
+    while time.perf_counter() < until:
+        message = peers.signed_ping(number)
+        number += 1
+        line.ask(message)
+
+
+def changes(first):
+    """Creates, claims and completes tasks on a queue of the client's own; ids count from `first` on."""
+
+    def client(line, place, until):
+        queue = "prov/wt%d" % place
+        body, number = peers.definition(queue), first + place * 100000
+        while time.perf_counter() < until:
+            line.ask(peers.creation(number, body))
+            work = json.loads(line.ask(peers.claim(queue)))["tasks"]
+            if not work:
+                raise SystemExit("a task was created, and none could be claimed")
+            line.ask(peers.completion(work[0]["status"]["taskId"], work[0]["runId"]))
+            number += 1
+
+    return client
+
+
+def run_client(client, address, place, begin, results):
+    line = Line(address)
+    begin.wait()
+    client(line, place, time.perf_counter() + SECONDS)
+    results.put(line.times)
+
+
+def measure(client, address, clients):
+    """How long each call took of so many clients side by side."""
+    begin, results = multiprocessing.Barrier(clients + 1), multiprocessing.Queue()
+    tasks = [multiprocessing.Process(target=run_client, args=(client, address, place, begin, results)) for place in range(clients)]
+    for task in tasks:
+        task.start()
+    begin.wait()
+    times = [one for _ in tasks for one in results.get(timeout=SECONDS + 60)]
+    for task in tasks:
+        task.join()
+    return sorted(times)
+
+
+def row(what, clients, times):
+    """What a client does between two calls, as signing, is not counted."""
+    shown = ["%.0f us" % (1e6 * times[min(len(times) - 1, int(len(times) * part))]) for part in (0.5, 0.99)]
+    print("| %s | %d | %.0f | %s | %s |" % (what, clients, clients * len(times) / sum(times), shown[0], shown[1]), flush=True)
+
+
+def keep(handle, place, record):
+    """Writes a record and syncs, then one byte before it and syncs."""
+    os.pwrite(handle, record, place + 1)
+    os.fsync(handle)
+    os.pwrite(handle, b"\xa5", place)
+    os.fdatasync(handle)
+
+
+def plain_server(doors, asked, reply, turn=None, handle=None, record=b""):
+    """Reads as many bytes as a request has, and writes a reply, on each connection in turn. With a handle it keeps a record before each reply, when it is
+    its turn."""
+    place = 0
+    while True:
+        peer, _ = doors.accept()
+        peer.setsockopt(socket.IPPROTO_TCP, socket.TCP_NODELAY, 1)
+        while True:
+            left = asked
+            while left > 0:
+                piece = peer.recv(left)
+                if not piece:
+                    break
+                left -= len(piece)
+            if left:
+                break
+            if handle is not None:
+                with turn:
+                    keep(handle, place, record)
+                place += len(record)
+            peer.sendall(reply)
+        peer.close()
+
+
+def plain_loop(clients, *kept):
+    reply = b"HTTP/1.1 200 OK\r\nContent-Length: 14\r\nContent-Type: application/json\r\n\r\n{\"alive\":true}"
+    with socket.socket() as doors:
+        doors.bind(("127.0.0.1", 0))
+        doors.listen()
+        servers = [multiprocessing.Process(target=plain_server, args=(doors, len(peers.PING), reply, *kept), daemon=True) for _ in range(clients)]
+        for server in servers:
+            server.start()
+        times = measure(pings, doors.getsockname(), clients)
+        for server in servers:
+            server.terminate()
+            server.join()
+    return times
+
+
+def disk_alone(folder, size):
+    """Keeps a record of this size, again and again."""
+    handle = os.open(os.path.join(folder, "alone.disk"), os.O_RDWR | os.O_CREAT)
+    place, record, times, until = 0, b"\0" * size, [], time.perf_counter() + SECONDS
+    while time.perf_counter() < until:
+        begin = time.perf_counter()
+        keep(handle, place, record)
+        times.append(time.perf_counter() - begin)
+        place += size
+    os.close(handle)
+    return sorted(times)
+
+
+def disk_and_loop(folder, size, clients):
+    """The plain loop, which keeps a record of this size before each reply."""
+    handle = os.open(os.path.join(folder, "loop.disk"), os.O_RDWR | os.O_CREAT)
+    times = plain_loop(clients, multiprocessing.Lock(), handle, b"\0" * size)
+    os.close(handle)
+    return times
+
+
+def main():
+    with tempfile.TemporaryDirectory() as folder:
+        print("| what | clients | calls a second | median | 99 of 100 |\n|---|---|---|---|---|")
+        with peers.Farm(PROGRAM, folder) as farm:
+            for clients in (1, 4):
+                row("ping", clients, measure(pings, farm.address, clients))
+                row("ping to the plain loop", clients, plain_loop(clients))
+            for clients in (1, 4):
+                row("signed ping", clients, measure(signed_pings, farm.address, clients))
+            disk = os.path.join(folder, "farm.disk")
+            made, before = 0, os.path.getsize(disk)
+            for clients in (1, 4):
+                times = measure(changes(clients * 10000), farm.address, clients)
+                made += len(times)
+                row("create, claim, complete: a change each", clients, times)
+            size = max(2, (os.path.getsize(disk) - before) // made)
+        row("a record of %d bytes and its gate on the disk alone" % size, 1, disk_alone(folder, size))
+        for clients in (1, 4):
+            row("the plain loop, with such a record before each reply", clients, disk_and_loop(folder, size, clients))
+
+
+if __name__ == "__main__":
+    main()

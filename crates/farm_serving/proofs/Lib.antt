@@ -1,0 +1,4 @@
+pub mod ConnectionLemmas
+pub mod MemoryLemmas
+pub mod TallyLemmas
+pub mod ServingLemmas

@@ -1,0 +1,6 @@
+pub mod Doors
+pub mod Memory
+pub mod Numbers
+pub mod Connections
+pub mod Tally
+pub mod Serving
