@@ -19,10 +19,9 @@ use Rattle.route_table.specs.declared.route.Route.TheVariants as routes
 use Rattle.api_routes.specs.Bodies.{IsCreateCall, IsWorkBody, IsReasonBody, IsTriggerBody}
 use Rattle.api_routes.specs.Queries.{values_of, limit_of, token_of}
 
--- what of a message a call is read from: its path; the parts of the path that stand for the route's parameters, percent-decoded (RFC 3986,
--- section 2.1); its query; and its body
+-- what of a message a call is read from: the parts of its path that stand for the route's parameters, percent-decoded (RFC 3986, section 2.1);
+-- its query; and its body
 pub record Request : Type 0 where
-  pub path : List ℕ
   pub parts : List (List ℕ)
   pub query : List ℕ
   pub body : List ℕ

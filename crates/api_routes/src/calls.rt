@@ -23,13 +23,11 @@ pub(crate) fn route_call(
     alloc: Global,
     route: Route,
     parts: &[&[u8]],
-    path: &[u8],
     query: &[u8],
     body: &[u8],
 ) -> Result<Call, AllocError>
     requires { length parts.now ≡ arity route }
     ensures { IfOk result (Calls route (record {
-      path = path.now;
       parts = map percent_decode (map (λ part. part.now) parts.now);
       query = query.now;
       body = body.now;
