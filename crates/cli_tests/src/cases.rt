@@ -1,8 +1,8 @@
 //! Runs over houses in memory.
 
-use crate::memory_house::MemoryHouse;
-use crate::run;
-use crate::status::Status;
+use farm_cli::memory_house::MemoryHouse;
+use farm_cli::run;
+use farm_cli::status::Status;
 use farm_text::{ListClock, ListDraws};
 use http_wire::{Joined, MemorySink, MemorySource};
 use std::alloc::{AllocError, Global};

@@ -1,6 +1,6 @@
 //! What notes are told, by the cause.
 
-use crate::tests::{CYCLE, Case, PING, numbered, outcome_of, signed};
+use crate::cases::{CYCLE, Case, PING, numbered, outcome_of, signed};
 use std::alloc::{AllocError, Global};
 use std::sync::Wait;
 use std::test::Fail;

@@ -1,8 +1,8 @@
 //! Runs of `serve` over houses in memory, at a door and its twins.
 
-use crate::disk_tests::{CREATION, NONE, case, checked, house_with};
-use crate::memory_house::MemoryHouse;
-use crate::tests::{Case, PING, outcome_in};
+use crate::cases::{Case, PING, outcome_in};
+use crate::disks::{CREATION, NONE, case, checked, house_with};
+use farm_cli::memory_house::MemoryHouse;
 use farm_serving::{MemoryListener, Returned};
 use http_wire::{Joined, MemoryLink, MemorySink, MemorySource};
 use std::alloc::{AllocError, Global};
