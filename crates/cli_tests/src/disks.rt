@@ -1,6 +1,6 @@
 //! Runs over houses in memory with a disk.
 
-use crate::cases::{Case, Outcome, PING, house_of, outcome_in};
+use crate::houses::{Case, Outcome, PING, house_of, outcome_in};
 use disk_base::MemoryDisk;
 use farm_cli::memory_house::MemoryHouse;
 use farm_cli::status::Status;

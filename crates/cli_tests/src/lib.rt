@@ -4,14 +4,18 @@
 #![tactic(auto)]
 
 #[cfg(test)]
-mod cases;
-#[cfg(test)]
 mod disks;
+#[cfg(test)]
+mod houses;
+#[cfg(test)]
+mod limits;
 #[cfg(test)]
 mod lost;
 #[cfg(test)]
-mod notes;
-#[cfg(test)]
 mod renderings;
 #[cfg(test)]
+mod rows;
+#[cfg(test)]
 mod serving;
+#[cfg(test)]
+mod tables;
