@@ -7,8 +7,10 @@
 
 mod edges;
 mod graph;
+mod least;
 mod node;
 mod tasks;
+mod waits;
 
 pub use graph::Graph;
 pub use node::{Progress, Requires};

@@ -1,0 +1,45 @@
+-- The place that is known of each row.
+use Rattle.std.proofs.Common.{◌≡◌, ℕ, zero, suc, ◌<◌, Bool, true, false, cond, List, [], ◌∷◌, ◌++◌, length, Option, Some, None, refl, sym, ◌∙◌, ap, subst, arith, ◌==◌}
+use Rattle.std.specs.Prelude.{slice_get, nat_eq, IfSome, IfNone}
+use Rattle.std.specs.HashMap.{HashMap, get}
+use Rattle.dep_graph.specs.Nodes.{is_in}
+use Rattle.dep_graph.specs.Tables.{IsPlaceOf, KnowsPlaces}
+use Rattle.dep_graph.proofs.TaskLemmas.{none-some, same_row, row_same}
+use Rattle.dep_graph.proofs.EdgeLemmas.{not-named, place-within}
+
+pub place-some : (rows : List ℕ) (row : ℕ) (found : Option ℕ) → IsPlaceOf rows row found → IfSome found (λ place. slice_get rows place ≡ Some row)
+place-some rows row None is = tt
+place-some rows row (Some place) is = is
+
+pub place-none : (rows : List ℕ) (row : ℕ) (found : Option ℕ) → IsPlaceOf rows row found → IfNone found (is_in rows row ≡ false)
+place-none rows row None is = is
+place-none rows row (Some place) is = tt
+
+pub get-push : {A : Type 0} (xs : List A) (x y : A) (place : ℕ) → slice_get xs place ≡ Some x → slice_get (xs ++ y ∷ []) place ≡ Some x
+get-push [] x y place at = absurd (let e : None ≡ Some x = at in cc)
+get-push (z ∷ zs) x y zero at = at
+get-push (z ∷ zs) x y (suc place) at = get-push zs x y place at
+
+pub get-last : {A : Type 0} (xs : List A) (y : A) → slice_get (xs ++ y ∷ []) (length xs) ≡ Some y
+get-last [] y = refl
+get-last (x ∷ xs) y = get-last xs y
+
+-- one row more, which is new, at the place behind the last
+place-more : (rows : List ℕ) (new row : ℕ) (found : Option ℕ) → (new == row) ≡ false → IsPlaceOf rows row found → IsPlaceOf (rows ++ new ∷ []) row found
+place-more rows new row None other is = not-named rows new row other ∙ is
+place-more rows new row (Some place) other is = get-push rows row new place is
+
+pub knows-more : {S : Type 0} (rows : List ℕ) (new len : ℕ) (before after : HashMap ℕ ℕ S) → KnowsPlaces rows before → len ≡ length rows → ((row : ℕ) → get nat_eq after row ≡ cond (nat_eq new row) (Some len) (get nat_eq before row)) → KnowsPlaces (rows ++ new ∷ []) after
+knows-more rows new len before after knows long updates row = by (nat_eq new row) refl where
+  by : (b : Bool) → nat_eq new row ≡ b → IsPlaceOf (rows ++ new ∷ []) row (get nat_eq after row)
+  by true is =
+      let found : get nat_eq after row ≡ Some len = updates row ∙ rw is refl in
+      let same : new ≡ row = same_row new row is in
+      let there : slice_get (rows ++ new ∷ []) len ≡ Some row = ap (slice_get (rows ++ new ∷ [])) long ∙ (get-last rows new ∙ ap Some same) in
+      subst (IsPlaceOf (rows ++ new ∷ []) row) (sym found) there
+  by false is =
+      let found : get nat_eq after row ≡ get nat_eq before row = updates row ∙ rw is refl in
+      subst (IsPlaceOf (rows ++ new ∷ []) row) (sym found) (place-more rows new row (get nat_eq before row) is (knows row))
+
+pub knows-same : {S : Type 0} (rows : List ℕ) (before after : HashMap ℕ ℕ S) → KnowsPlaces rows before → ((row : ℕ) → get nat_eq after row ≡ get nat_eq before row) → KnowsPlaces rows after
+knows-same rows before after knows same row = subst (IsPlaceOf rows row) (sym (same row)) (knows row)

@@ -1,0 +1,19 @@
+use Rattle.std.proofs.Common.{◌≡◌, ◌*◌, ◌+◌, ◌/◌, ◌<◌, length, arith, rules, vec_len}
+use Rattle.dep_graph.proofs.TreeLemmas.{climb-first, climb-more, climb-end}
+use Rattle.dep_graph.proofs.least.put.Goals as goal
+
+pub loop-at-init : goal.loop-at-init
+loop-at-init c = climb-first c.args.nodes.now.items c.args.leaf c.args.row c.requires.tree c.requires.leaf.0 c.requires.leaf.1.0 c.requires.leaf.1.1
+
+pub loop-at-preserved : goal.loop-at-preserved
+loop-at-preserved c =
+    climb-more c.args.nodes.now.items c.loop-at.nodes.items c.loop-at.at c.args.leaf c.args.row c.lesser.result c.requires.tree c.loop-at.invariant c.loop-at-test.true c.lesser.ensures
+
+pub returns-clause-tree : goal.returns-clause-tree
+returns-clause-tree c = climb-end c.args.nodes.now.items c.loop-at.nodes.items c.loop-at.at c.args.leaf c.args.row c.requires.tree c.loop-at.invariant c.loop-at-test.false
+
+pub returns-clause-long : goal.returns-clause-long
+returns-clause-long c = c.loop-at.invariant.long
+
+pub returns-clause-leaves : goal.returns-clause-leaves
+returns-clause-leaves c = c.loop-at.invariant.leaves

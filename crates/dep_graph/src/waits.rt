@@ -1,0 +1,153 @@
+//! For how many tasks each still waits, and the rows of those that are ready.
+ghost use Rattle.std.specs.Prelude.{◌≡◌, ◌==◌, ℕ, ◌+◌, ◌^◌, ◌<◌, ◌≤◌, [], ◌++◌, ◌∷◌, true, Some, OnOk, length, slice_get, slice_index, slice_set, vec_len, vec_capacity};
+ghost use Rattle.std.specs.List.{IsDistinct};
+ghost use Rattle.dep_graph.specs.Nodes.{Task, is_in};
+ghost use Rattle.dep_graph.specs.Kept.{HaveOwnRows};
+ghost use Rattle.dep_graph.specs.Tables.{IsMoved, ShowReady, one_if, lacks, shown};
+ghost use Rattle.dep_graph.specs.Ready.{serves};
+ghost use Rattle.dep_graph.specs.Trees.{node_at};
+
+use crate::least::Least;
+use crate::node::{Node, Progress, Requires};
+use crate::tasks::{Tasks, row_serves};
+use std::alloc::{AllocError, Global};
+
+/// Of the task at each place, how many of those that it depends on do not meet what it requires, and its row, where it is ready.
+#[derive(Debug, Drop)]
+pub(crate) struct Waits {
+    pub(crate) lacking: Vec<usize>,
+    pub(crate) ready: Least,
+}
+
+/// How far a task had come before, and how far it has come now.
+#[derive(Clone, Copy, Debug)]
+pub(crate) struct Step {
+    pub(crate) before: Progress,
+    pub(crate) now: Progress,
+}
+
+impl Waits {
+    /// Nothing is counted. It takes no memory.
+    pub(crate) fn new(alloc: Global) -> Self
+        ensures lacking { result.lacking.items ≡ [] }
+        ensures ready { result.ready ≡ [] }
+    {
+        Waits {
+            lacking: Vec::new(alloc),
+            ready: Least::new(alloc),
+        }
+    }
+
+    /// Takes the memory for one task more than so many.
+    pub(crate) fn reserve(&mut self, alloc: Global, tasks: usize) -> Result<(), AllocError>
+        ensures same { self.new.lacking.items ≡ self.old.lacking.items }
+        ensures kept { (place : ℕ) → node_at self.new.ready place ≡ node_at self.old.ready place }
+        ensures more { length self.old.ready ≤ length self.new.ready }
+        ensures count { OnOk result (vec_len self.new.lacking < vec_capacity self.new.lacking) }
+        ensures place { OnOk result (tasks < length self.new.ready) }
+    {
+        self.lacking.reserve(1)?;
+        let Some(places) = tasks.checked_add(1) else {
+            return Err(AllocError);
+        };
+        self.ready.widen(alloc, places)
+    }
+
+    /// Counts for a task that is added behind the others, for which there is room.
+    pub(crate) fn push(&mut self, row: u32, lacking: usize)
+        requires count { vec_len self.old.lacking < vec_capacity self.old.lacking }
+        requires place { vec_len self.old.lacking < length self.old.ready }
+        ensures lacking { self.new.lacking.items ≡ self.old.lacking.items ++ lacking ∷ [] }
+        ensures ready { self.new.ready ≡ slice_set self.old.ready (length self.old.lacking.items) (if lacking == 0 then Some row else None) }
+    {
+        let place = self.lacking.len();
+        self.ready
+            .put(place, if lacking == 0 { Some(row) } else { None });
+        if self.lacking.push(lacking).is_err() {
+            unreachable!();
+        }
+    }
+
+    /// Sees whether the task at this place is ready.
+    pub(crate) fn look(&mut self, place: usize, task: &Node)
+        requires count { place < length self.old.lacking.items }
+        requires place { place < length self.old.ready }
+        ensures { self.new ≡ record self.old { ready = slice_set self.old.ready place (shown task.now (slice_index self.old.lacking.items place)) } }
+    {
+        let is_ready = task.progress().unscheduled && self.lacking[place] == 0;
+        self.ready
+            .put(place, if is_ready { Some(task.row()) } else { None });
+    }
+
+    /// Counts again for the task at this place, which depends on one that came from there to here.
+    fn count(&mut self, place: usize, task: &Node, step: Step)
+        requires count { place < length self.old.lacking.items }
+        requires place { place < length self.old.ready }
+        requires fits { (lacking : ℕ) × (lacking < 2 ^ 64)
+            × (lacking + one_if (serves task.now.needs step.now) ≡ slice_index self.old.lacking.items place + one_if (serves task.now.needs step.before)) }
+        ensures here { slice_index self.new.lacking.items place + one_if (serves task.now.needs step.now)
+            ≡ slice_index self.old.lacking.items place + one_if (serves task.now.needs step.before) }
+        ensures lacking { self.new.lacking.items ≡ slice_set self.old.lacking.items place (slice_index self.new.lacking.items place) }
+        ensures ready { self.new.ready ≡ slice_set self.old.ready place (shown task.now (slice_index self.new.lacking.items place)) }
+        ensures capacity { vec_capacity self.new.lacking ≡ vec_capacity self.old.lacking }
+    {
+        let needs = task.needs();
+        self.lacking[place] = counted(
+            self.lacking[place],
+            needs.is_met(step.before),
+            needs.is_met(step.now),
+        );
+        self.look(place, task);
+    }
+
+    /// Counts again for each of these, which depend on one that came from there to here.
+    pub(crate) fn count_each(&mut self, tasks: &Tasks, rows: &[u32], step: Step)
+        requires own { HaveOwnRows tasks.now.tasks }
+        requires long { length self.old.lacking.items ≡ length tasks.now.tasks }
+        requires fit { length tasks.now.tasks ≤ length self.old.ready }
+        requires distinct { IsDistinct ◌==◌ rows.now }
+        requires fits { (place : ℕ) (task : Task) → slice_get tasks.now.tasks place ≡ Some task → is_in rows.now task.row ≡ true
+            → (lacking : ℕ) × (lacking < 2 ^ 64) × IsMoved true task.needs step.before step.now (slice_index self.old.lacking.items place) lacking }
+        requires shown { ShowReady tasks.now.tasks self.old.lacking.items self.old.ready }
+        ensures counted { (place : ℕ) (task : Task) → slice_get tasks.now.tasks place ≡ Some task
+            → IsMoved (is_in rows.now task.row) task.needs step.before step.now (slice_index self.old.lacking.items place) (slice_index self.new.lacking.items place) }
+        ensures shown { ShowReady tasks.now.tasks self.new.lacking.items self.new.ready }
+        ensures long { length self.new.lacking.items ≡ length self.old.lacking.items }
+        ensures fit { length self.new.ready ≡ length self.old.ready }
+        ensures capacity { vec_capacity self.new.lacking ≡ vec_capacity self.old.lacking }
+    {
+        for row in rows {
+            match tasks.place_of(*row) {
+                Some(place) => self.count(place, tasks.at(place), step),
+                None => {}
+            }
+        }
+    }
+}
+
+/// How many are lacking, where one of those that were counted met what is required before, or does so now.
+fn counted(lacking: usize, before: bool, now: bool) -> usize
+    requires { (result : ℕ) × (result < 2 ^ 64) × (result + one_if now ≡ lacking + one_if before) }
+    ensures { result + one_if now ≡ lacking + one_if before }
+{
+    match (before, now) {
+        (false, true) => lacking - 1,
+        (true, false) => lacking + 1,
+        _ => lacking,
+    }
+}
+
+/// How many of these tasks do not meet what is required.
+pub(crate) fn count_lacking(tasks: &Tasks, needs: Requires, rows: &[u32]) -> usize
+    requires { HaveOwnRows tasks.now.tasks }
+    ensures lacks { result ≡ lacks tasks.now.tasks needs rows.now }
+    ensures few { length rows.now < 2 ^ 64 }
+{
+    let mut lacking = 0;
+    for row in rows {
+        if !row_serves(tasks, needs, *row) {
+            lacking += 1;
+        }
+    }
+    lacking
+}
