@@ -6,3 +6,4 @@ pub mod PlaceLemmas
 pub mod CountLemmas
 pub mod MoveLemmas
 pub mod ReadyLemmas
+pub mod StepLemmas

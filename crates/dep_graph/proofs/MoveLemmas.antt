@@ -13,10 +13,10 @@ use Rattle.dep_graph.specs.Ready.{serves, row_serves}
 use Rattle.dep_graph.specs.Kept.{HaveOwnRows}
 use Rattle.dep_graph.specs.Trees.{node_at}
 use Rattle.dep_graph.specs.Tables.{lacks, IsMoved, shown, shown_at, ShowReady, AreCounted}
-use Rattle.dep_graph.proofs.TaskLemmas.{same_row, row_same, one-serves, moved-rows}
+use Rattle.dep_graph.proofs.TaskLemmas.{same_row, row_same, one-serves, moved-rows, dependants-moved}
 use Rattle.dep_graph.proofs.EdgeLemmas.{one-place}
 use Rattle.dep_graph.proofs.PlaceLemmas.{get-push, get-last}
-use Rattle.dep_graph.proofs.CountLemmas.{some-task, lacks-few, lacks-alike, lacks-moved, moved-one, serves-other, named-at, row-of}
+use Rattle.dep_graph.proofs.CountLemmas.{some-task, lacks-few, lacks-alike, lacks-moved, moved-one, serves-other, named-at, row-of, distinct-filter}
 use Rattle.dep_graph.proofs.TreeLemmas.{same?}
 
 -- ---- one task comes further
@@ -104,7 +104,7 @@ module _ (tasks : List Task) (lacking : List ℕ) (ready : List (Option ℕ)) (r
 
   -- what is counted for those that depend on the task
   pub fits-moved : (names : List ℕ) → names ≡ dependants_of (moved row now tasks) row → (p : ℕ) (task : Task) → slice_get (moved row now tasks) p ≡ Some task → is_in names task.row ≡ true
-      → (n : ℕ) × (n < 2 ^ 64) × IsMoved true task.needs t.progress now (slice_index lacking p) n
+      → (n : ℕ) × (n < 2 ^ 63) × IsMoved true task.needs t.progress now (slice_index lacking p) n
   fits-moved names names_are p task there named =
       let was = was-at tasks row now p task there in
       let u = was.task in
@@ -139,7 +139,7 @@ module _ (tasks : List Task) (lacking : List ℕ) (ready : List (Option ℕ)) (r
         moved-one (is_in u.dependencies row) u.needs t.progress now (lacks tasks u.needs u.dependencies) (slice_index after p) (lacks (moved row now tasks) u.needs u.dependencies) three step
         ∙ (ap (λ n. lacks (moved row now tasks) n u.dependencies) (sym was.needs_is) ∙ ap (lacks (moved row now tasks) task.needs) (sym was.named_is));
     shown = shown_;
-    few = λ p task there. let was = was-at tasks row now p task there in subst (λ (l : List ℕ). length l < 2 ^ 64) (sym was.named_is) (are.few p was.task was.at);
+    few = λ p task there. let was = was-at tasks row now p task there in subst (λ (l : List ℕ). length l < 2 ^ 63) (sym was.named_is) (are.few p was.task was.at);
     distinct = λ p task there. let was = was-at tasks row now p task there in subst (IsDistinct ◌==◌) (sym was.named_is) (are.distinct p was.task was.at);
   }
 
@@ -166,8 +166,29 @@ at-push (u ∷ us) t (suc place) task at = elim (at-push us t place task at) [
   | inr last ↦ inr (ap suc last.0, last.1)
 ]
 
-pub counted-added : (tasks : List Task) (lacking : List ℕ) (ready later : List (Option ℕ)) (t : Task) (n : ℕ) → AreCounted tasks lacking ready → t.progress ≡ just_created → IsDistinct ◌==◌ t.dependencies → length t.dependencies < 2 ^ 64
-    → n ≡ lacks tasks t.needs t.dependencies → length tasks < length ready → later ≡ slice_set ready (length lacking) (if n == 0 then Some t.row else None) → AreCounted (tasks ++ t ∷ []) (lacking ++ n ∷ []) later
+pub counted-none : (tasks : List Task) (lacking : List ℕ) (ready : List (Option ℕ)) → tasks ≡ [] → lacking ≡ [] → ready ≡ [] → AreCounted tasks lacking ready
+counted-none tasks lacking ready a b c = rw (a, b, c) (record {
+  long = refl;
+  fit = omega arith;
+  counted = λ p task there. absurd (let e : None ≡ Some task = there in cc);
+  shown = λ p. get_or_past [] p None (omega arith);
+  few = λ p task there. absurd (let e : None ≡ Some task = there in cc);
+  distinct = λ p task there. absurd (let e : None ≡ Some task = there in cc);
+})
+
+-- the same, with more places
+pub counted-same : (tasks now : List Task) (lacking after : List ℕ) (ready later : List (Option ℕ)) → AreCounted tasks lacking ready → now ≡ tasks → after ≡ lacking → length ready ≤ length later → ((place : ℕ) → node_at later place ≡ node_at ready place) → AreCounted now after later
+counted-same tasks now lacking after ready later are same_tasks same_counts more same = rw (same_tasks, same_counts) (record {
+  long = are.long;
+  fit = let fit = are.fit in omega (arith, fit, more);
+  counted = are.counted;
+  shown = λ p. same p ∙ are.shown p;
+  few = are.few;
+  distinct = are.distinct;
+})
+
+pub counted-added : (tasks : List Task) (lacking : List ℕ) (ready later : List (Option ℕ)) (t : Task) (n : ℕ) → AreCounted tasks lacking ready → t.progress ≡ just_created → IsDistinct ◌==◌ t.dependencies → length t.dependencies < 2 ^ 63
+    → n ≡ lacks tasks t.needs t.dependencies → length tasks < length ready → later ≡ slice_set ready (length lacking) (shown t n) → AreCounted (tasks ++ t ∷ []) (lacking ++ n ∷ []) later
 counted-added tasks lacking ready later t n are created distinct few is fit put_ = record {
   long = let a = are.long in let b = length-append lacking (n ∷ []) in let c = length-append tasks (t ∷ []) in omega (arith, a, b, c);
   fit = let a = length-append tasks (t ∷ []) in let b = length-set ready (length lacking) shows in let c = ap length put_ in omega (arith, a, b, c, fit);
@@ -178,7 +199,7 @@ counted-added tasks lacking ready later t n are created distinct few is fit put_
   shown = λ p. each p (cases_order p (length tasks));
   few = λ p task there. elim (at-push tasks t p task there) [
     | inl before ↦ are.few p task before
-    | inr last ↦ subst (λ (x : Task). length x.dependencies < 2 ^ 64) (sym last.1) few
+    | inr last ↦ subst (λ (x : Task). length x.dependencies < 2 ^ 63) (sym last.1) few
   ];
   distinct = λ p task there. elim (at-push tasks t p task there) [
     | inl before ↦ are.distinct p task before
@@ -186,7 +207,7 @@ counted-added tasks lacking ready later t n are created distinct few is fit put_
   ];
 } where
   shows : Option ℕ
-  shows = if n == 0 then Some t.row else None
+  shows = shown t n
 
   same : (needs : Requires) (ds : List ℕ) → lacks (tasks ++ t ∷ []) needs ds ≡ lacks tasks needs ds
   same needs ds = lacks-alike tasks (tasks ++ t ∷ []) needs (λ d. serves-added tasks t needs d created) ds
@@ -206,8 +227,7 @@ counted-added tasks lacking ready later t n are created distinct few is fit put_
       let place : p ≡ length lacking = here ∙ sym long in
       let one : node_at later p ≡ shows = ap (λ l. node_at l p) put_ ∙ (ap (node_at (slice_set ready (length lacking) shows)) place ∙ get_or-set_same ready (length lacking) shows None (omega (arith, fit, long))) in
       let there : slice_get (tasks ++ t ∷ []) p ≡ Some t = ap (slice_get (tasks ++ t ∷ [])) here ∙ get-last tasks t in
-      let new : shown t n ≡ shows = ap (λ (g : Progress). if g.unscheduled && (n == 0) then Some t.row else None) created in
-      one ∙ (sym new ∙ (ap (shown t) (sym (at-last p here)) ∙ ap (λ o. shown_at o (slice_index (lacking ++ n ∷ []) p)) (sym there)))
+      one ∙ (ap (shown t) (sym (at-last p here)) ∙ ap (λ o. shown_at o (slice_index (lacking ++ n ∷ []) p)) (sym there))
   each p (inr (inl below)) = first (slice_get tasks p) refl where
     other : p ≢ length lacking
     other = omega (arith, are.long, below)
@@ -230,3 +250,46 @@ counted-added tasks lacking ready later t n are created distinct few is fit put_
       let long = length-append tasks (t ∷ []) in
       let new : slice_get (tasks ++ t ∷ []) p ≡ None = slice_get_past (tasks ++ t ∷ []) p (omega (arith, above, long)) in
       one ∙ (are.shown p ∙ (ap (λ o. shown_at o (slice_index lacking p)) old ∙ sym (ap (λ o. shown_at o (slice_index (lacking ++ n ∷ []) p)) new)))
+
+-- ---- what is asked and told as each dependant is counted again
+
+-- what is asked
+pub record StepsWell (new : List Task) (names : List ℕ) (before now : Progress) (lacking : List ℕ) (later : List (Option ℕ)) : Type 0 where
+  pub own : HaveOwnRows new
+  pub long : length lacking ≡ length new
+  pub fit : length new ≤ length later
+  pub distinct : IsDistinct ◌==◌ names
+  pub fits : (p : ℕ) (task : Task) → slice_get new p ≡ Some task → is_in names task.row ≡ true → (n : ℕ) × (n < 2 ^ 63) × IsMoved true task.needs before now (slice_index lacking p) n
+  pub shown : ShowReady new lacking later
+
+row-is : (tasks : List Task) (row place : ℕ) (t : Task) → slice_get (rows_of tasks) place ≡ Some row → slice_get tasks place ≡ Some t → t.row ≡ row
+row-is tasks row place t at there = let e : Some t.row ≡ Some row = sym (row-of tasks place t there) ∙ at in cc
+
+pub steps-well : (tasks new : List Task) (lacking names : List ℕ) (ready later : List (Option ℕ)) (row place : ℕ) (t task : Task) (before now : Progress) → HaveOwnRows tasks → slice_get (rows_of tasks) place ≡ Some row → slice_get tasks place ≡ Some t → before ≡ t.progress → AreCounted tasks lacking ready
+    → names ≡ dependants_of tasks row → new ≡ moved row now tasks → slice_get new place ≡ Some task → later ≡ slice_set ready place (shown task (slice_index lacking place)) → StepsWell new names before now lacking later
+steps-well tasks new lacking names ready later row place t task before now own at there was are names_are is now_there put_ =
+    let t_row = row-is tasks row place t at there in
+    let far = length-map tasks (further row now) in
+    let named : names ≡ dependants_of (moved row now tasks) row = names_are ∙ sym (dependants-moved row now tasks row) in
+    let moved_there : slice_get (moved row now tasks) place ≡ Some task = subst (λ l. slice_get l place ≡ Some task) is now_there in
+    let well : StepsWell (moved row now tasks) names t.progress now lacking later = record {
+      own = subst (IsDistinct ◌==◌) (sym (moved-rows row now tasks)) own;
+      long = are.long ∙ sym far;
+      fit = let a = ap length put_ in let b = length-set ready place (shown task (slice_index lacking place)) in let c = are.fit in omega (arith, a, b, c, far);
+      distinct = subst (IsDistinct ◌==◌) (sym names_are) (distinct-filter (λ (x : Task). is_in x.dependencies row) tasks own);
+      fits = fits-moved tasks lacking ready row place t now own there t_row are names named;
+      shown = shown-moved tasks lacking ready row place t now own there t_row are later task moved_there put_;
+    } in
+    subst (λ (l : List Task). StepsWell l names before now lacking later) (sym is) (subst (λ (g : Progress). StepsWell (moved row now tasks) names g now lacking later) (sym was) well)
+
+pub steps-done : (tasks new : List Task) (lacking names after : List ℕ) (ready later last : List (Option ℕ)) (row place : ℕ) (t task : Task) (before now : Progress) → HaveOwnRows tasks → slice_get (rows_of tasks) place ≡ Some row → slice_get tasks place ≡ Some t → before ≡ t.progress → AreCounted tasks lacking ready
+    → names ≡ dependants_of tasks row → new ≡ moved row now tasks → later ≡ slice_set ready place (shown task (slice_index lacking place)) → length after ≡ length lacking → length last ≡ length later
+    → ((p : ℕ) (u : Task) → slice_get new p ≡ Some u → IsMoved (is_in names u.row) u.needs before now (slice_index lacking p) (slice_index after p)) → ShowReady new after last → AreCounted new after last
+steps-done tasks new lacking names after ready later last row place t task before now own at there was are names_are is put_ long fit counted shown_ =
+    let t_row = row-is tasks row place t at there in
+    let named : names ≡ dependants_of (moved row now tasks) row = names_are ∙ sym (dependants-moved row now tasks row) in
+    let counts = subst (λ (l : List Task). (p : ℕ) (u : Task) → slice_get l p ≡ Some u → IsMoved (is_in names u.row) u.needs before now (slice_index lacking p) (slice_index after p)) is counted in
+    let counts_ = subst (λ (g : Progress). (p : ℕ) (u : Task) → slice_get (moved row now tasks) p ≡ Some u → IsMoved (is_in names u.row) u.needs g now (slice_index lacking p) (slice_index after p)) was counts in
+    let shows = subst (λ (l : List Task). ShowReady l after last) is shown_ in
+    let wide : length last ≡ length ready = fit ∙ (ap length put_ ∙ length-set ready place (shown task (slice_index lacking place))) in
+    subst (λ (l : List Task). AreCounted l after last) (sym is) (counted-moved tasks lacking ready row place t now own there t_row are names after last named long wide counts_ shows)

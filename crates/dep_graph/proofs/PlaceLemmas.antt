@@ -2,7 +2,8 @@
 use Rattle.std.proofs.Common.{◌≡◌, ℕ, zero, suc, ◌<◌, Bool, true, false, cond, List, [], ◌∷◌, ◌++◌, length, Option, Some, None, refl, sym, ◌∙◌, ap, subst, arith, ◌==◌}
 use Rattle.std.specs.Prelude.{slice_get, nat_eq, IfSome, IfNone}
 use Rattle.std.specs.HashMap.{HashMap, get}
-use Rattle.dep_graph.specs.Nodes.{is_in}
+use Rattle.std.specs.Map.{lookup}
+use Rattle.dep_graph.specs.Nodes.{Task, rows_of, is_in}
 use Rattle.dep_graph.specs.Tables.{IsPlaceOf, KnowsPlaces}
 use Rattle.dep_graph.proofs.TaskLemmas.{none-some, same_row, row_same}
 use Rattle.dep_graph.proofs.EdgeLemmas.{not-named, place-within}
@@ -43,3 +44,9 @@ knows-more rows new len before after knows long updates row = by (nat_eq new row
 
 pub knows-same : {S : Type 0} (rows : List ℕ) (before after : HashMap ℕ ℕ S) → KnowsPlaces rows before → ((row : ℕ) → get nat_eq after row ≡ get nat_eq before row) → KnowsPlaces rows after
 knows-same rows before after knows same row = subst (IsPlaceOf rows row) (sym (same row)) (knows row)
+
+pub knows-none : {S : Type 0} (tasks : List Task) (places : HashMap ℕ ℕ S) → tasks ≡ [] → places.entries ≡ [] → KnowsPlaces (rows_of tasks) places
+knows-none tasks places none empty_ row =
+    let found : get nat_eq places row ≡ None = ap (lookup (nat_eq row)) empty_ in
+    let rows : rows_of tasks ≡ [] = ap rows_of none in
+    subst (λ (l : List ℕ). IsPlaceOf l row (get nat_eq places row)) (sym rows) (subst (IsPlaceOf [] row) (sym found) refl)

@@ -5,9 +5,11 @@ use Rattle.std.specs.Option.{ForSome}
 use Rattle.std.specs.HashMap.{HashMap, get}
 use Rattle.dep_graph.specs.declared.node.Progress.{Progress}
 use Rattle.dep_graph.specs.declared.node.Requires.{Requires}
+use Rattle.dep_graph.specs.declared.edges.Edges.{Edges}
 use Rattle.dep_graph.specs.declared.graph.Addition.{Addition}
 use Rattle.dep_graph.specs.declared.waits.Waits.{Waits}
-use Rattle.dep_graph.specs.Nodes.{Task, is_in}
+use Rattle.dep_graph.specs.Nodes.{Task, rows_of, is_in}
+use Rattle.dep_graph.specs.Kept.{HasRooms}
 use Rattle.dep_graph.specs.Ready.{serves, row_serves}
 use Rattle.dep_graph.specs.Trees.{node_at}
 
@@ -56,9 +58,17 @@ pub record AreCounted (tasks : List Task) (lacking : List ℕ) (ready : List (Op
   pub fit : length tasks ≤ length ready
   pub counted : (place : ℕ) (task : Task) → slice_get tasks place ≡ Some task → slice_index lacking place ≡ lacks tasks task.needs task.dependencies
   pub shown : ShowReady tasks lacking ready
-  pub few : (place : ℕ) (task : Task) → slice_get tasks place ≡ Some task → length task.dependencies < 2 ^ 64
+  pub few : (place : ℕ) (task : Task) → slice_get tasks place ≡ Some task → length task.dependencies < 2 ^ 63
   pub distinct : (place : ℕ) (task : Task) → slice_get tasks place ≡ Some task → IsDistinct ◌==◌ task.dependencies
 
 -- where there is room for a task, there is room to count what it waits for
 abbrev pub HasCounts : List Task → Waits → Option Addition → Type 0
 HasCounts tasks waits room = ForSome room (λ addition. (vec_len waits.lacking < vec_capacity waits.lacking) × (length tasks < length waits.ready))
+
+-- there is room for a task that depends on these, for its edges, and to count what it waits for
+pub record HasAllRoom (tasks : TaskTable) (edges : List Edges) (edge_capacity : ℕ) (waits : Waits) (dependencies : List ℕ) : Type 0 where
+  pub task : length tasks.tasks < tasks.capacity
+  pub list : length edges < edge_capacity
+  pub rooms : HasRooms (rows_of tasks.tasks) dependencies edges
+  pub count : vec_len waits.lacking < vec_capacity waits.lacking
+  pub place : length tasks.tasks < length waits.ready

@@ -1,14 +1,17 @@
 //! The graph of the tasks of a farm.
-ghost use Rattle.std.specs.Prelude.{◌≡◌, ◌==◌, ◌||◌, ◌<◌, ◌++◌, ◌∷◌, [], true, false, All, IsTrue, Some, None, OnOk, OnErr, length, vec_len, vec_capacity};
+ghost use Rattle.std.specs.Prelude.{◌≡◌, ◌==◌, ◌||◌, ◌<◌, ◌++◌, ◌∷◌, [], true, false, All, IsTrue, Some, None, ◌≤◌, ℕ, IfOk, OnOk, OnErr, length, vec_len, vec_capacity};
 ghost use Rattle.std.specs.List.{IsDistinct};
-ghost use Rattle.dep_graph.specs.Nodes.{no_graph, rows_of, is_in, dependants_of, added, moved, may_be_added};
+ghost use Rattle.dep_graph.specs.Nodes.{no_graph, just_created, rows_of, is_in, dependants_of, added, moved, may_be_added};
 ghost use Rattle.dep_graph.specs.Ready as judged;
-ghost use Rattle.dep_graph.specs.Kept.{edges_of, own_edges};
+ghost use Rattle.dep_graph.specs.Kept.{HaveOwnRows, edges_of, own_edges};
+ghost use Rattle.dep_graph.specs.Tables.{HasAllRoom};
+ghost use Rattle.dep_graph.specs.Trees.{node_at};
 
 use crate::edges::{Edges, add_edges, make_room};
+use crate::moves::proceed;
 use crate::node::{Node, Progress, Requires};
 use crate::tasks::{Tasks, are_distinct, row_is_ready};
-use crate::waits::{Step, Waits, count_lacking};
+use crate::waits::{Waits, count_lacking};
 use std::alloc::{AllocError, Global};
 use std::marker::Model;
 
@@ -29,6 +32,20 @@ pub struct Graph {
 pub(crate) struct Addition {
     node: Node,
     edges: Edges,
+}
+
+impl Addition {
+    /// A task that is just created, and room for its edge to itself.
+    fn new(alloc: Global, row: u32, dependencies: &[u32]) -> Result<Addition, AllocError>
+        ensures node { IfOk result (λ made. made.node ≡ record { row = row; needs = Requires.AllCompleted; dependencies = dependencies.now; progress = just_created }) }
+        ensures edges { IfOk result (λ made. (made.edges.rows.items ≡ []) × (0 < vec_capacity made.edges.rows)) }
+    {
+        let rows = Vec::with_capacity(alloc, 1)?;
+        Ok(Addition {
+            node: Node::new(alloc, row, dependencies)?,
+            edges: Edges { rows },
+        })
+    }
 }
 
 impl Model for Graph {
@@ -89,15 +106,14 @@ impl Graph {
         ensures err { OnErr result (self.new ≡ record self.old { room = None }) }
     {
         self.room = None;
-        make_room(&self.tasks, &mut self.edges, dependencies)?;
-        self.tasks.reserve()?;
-        self.edges.reserve(1)?;
-        self.waits.reserve(alloc, self.tasks.len())?;
-        let rows = Vec::with_capacity(alloc, 1)?;
-        self.room = Some(Addition {
-            node: Node::new(alloc, row, dependencies)?,
-            edges: Edges { rows },
-        });
+        make_all_room(
+            alloc,
+            &mut self.tasks,
+            &mut self.edges,
+            &mut self.waits,
+            dependencies,
+        )?;
+        self.room = Some(Addition::new(alloc, row, dependencies)?);
         Ok(())
     }
 
@@ -113,8 +129,8 @@ impl Graph {
         let Some(addition) = self.room.take() else {
             unreachable!();
         };
-        self.waits
-            .push(row, count_lacking(&self.tasks, needs, dependencies));
+        let lacking = count_lacking(&self.tasks, needs, dependencies);
+        self.waits.push(&addition.node, lacking);
         add_edges(&self.tasks, &mut self.edges, row, dependencies);
         add_task(&mut self.tasks, &mut self.edges, addition, needs);
     }
@@ -124,17 +140,13 @@ impl Graph {
         requires { is_in (rows_of self.old.tasks) row ≡ true }
         ensures { self.new ≡ record { tasks = moved row progress self.old.tasks; room = self.old.room } }
     {
-        let Some(place) = self.tasks.place_of(row) else {
-            return;
-        };
-        let step = Step {
-            before: self.tasks.at(place).progress(),
-            now: progress,
-        };
-        self.tasks.proceed(place, row, progress);
-        self.waits.look(place, self.tasks.at(place));
-        self.waits
-            .count_each(&self.tasks, &self.edges[place].rows, step);
+        proceed(
+            &mut self.tasks,
+            &self.edges,
+            &mut self.waits,
+            row,
+            progress,
+        );
     }
 
     /// Whether a task has this row and is ready. It takes no memory.
@@ -160,6 +172,30 @@ impl Graph {
             None => &[],
         }
     }
+}
+
+/// Takes the memory for one task more, which depends on these.
+fn make_all_room(
+    alloc: Global,
+    tasks: &mut Tasks,
+    edges: &mut Vec<Edges>,
+    waits: &mut Waits,
+    dependencies: &[u32],
+) -> Result<(), AllocError>
+    requires own { HaveOwnRows tasks.old.tasks }
+    requires len { length (edges_of edges.old.items) ≡ length (rows_of tasks.old.tasks) }
+    ensures tasks { tasks.new.tasks ≡ tasks.old.tasks }
+    ensures edges { edges_of edges.new.items ≡ edges_of edges.old.items }
+    ensures lacking { waits.new.lacking.items ≡ waits.old.lacking.items }
+    ensures ready { (place : ℕ) → node_at waits.new.ready place ≡ node_at waits.old.ready place }
+    ensures more { length waits.old.ready ≤ length waits.new.ready }
+    ensures room { OnOk result (HasAllRoom tasks.new edges.new.items (vec_capacity edges.new) waits.new dependencies.now) }
+{
+    make_room(tasks, edges, dependencies)?;
+    tasks.reserve()?;
+    edges.reserve(1)?;
+    waits.reserve(alloc, tasks.len())?;
+    Ok(())
 }
 
 /// Adds a task, and the list of those that depend on it: itself, where it does.

@@ -8,6 +8,7 @@
 mod edges;
 mod graph;
 mod least;
+mod moves;
 mod node;
 mod tasks;
 mod waits;

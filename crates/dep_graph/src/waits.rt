@@ -50,19 +50,19 @@ impl Waits {
         let Some(places) = tasks.checked_add(1) else {
             return Err(AllocError);
         };
-        self.ready.widen(alloc, places)
+        self.ready.widen(alloc, places)?;
+        Ok(())
     }
 
     /// Counts for a task that is added behind the others, for which there is room.
-    pub(crate) fn push(&mut self, row: u32, lacking: usize)
+    pub(crate) fn push(&mut self, task: &Node, lacking: usize)
         requires count { vec_len self.old.lacking < vec_capacity self.old.lacking }
-        requires place { vec_len self.old.lacking < length self.old.ready }
+        requires place { length self.old.lacking.items < length self.old.ready }
         ensures lacking { self.new.lacking.items ≡ self.old.lacking.items ++ lacking ∷ [] }
-        ensures ready { self.new.ready ≡ slice_set self.old.ready (length self.old.lacking.items) (if lacking == 0 then Some row else None) }
+        ensures ready { self.new.ready ≡ slice_set self.old.ready (length self.old.lacking.items) (shown task.now lacking) }
     {
         let place = self.lacking.len();
-        self.ready
-            .put(place, if lacking == 0 { Some(row) } else { None });
+        self.ready.put(place, shown(task, lacking));
         if self.lacking.push(lacking).is_err() {
             unreachable!();
         }
@@ -72,32 +72,24 @@ impl Waits {
     pub(crate) fn look(&mut self, place: usize, task: &Node)
         requires count { place < length self.old.lacking.items }
         requires place { place < length self.old.ready }
-        ensures { self.new ≡ record self.old { ready = slice_set self.old.ready place (shown task.now (slice_index self.old.lacking.items place)) } }
+        ensures lacking { self.new.lacking ≡ self.old.lacking }
+        ensures ready { self.new.ready ≡ slice_set self.old.ready place (shown task.now (slice_index self.old.lacking.items place)) }
     {
-        let is_ready = task.progress().unscheduled && self.lacking[place] == 0;
-        self.ready
-            .put(place, if is_ready { Some(task.row()) } else { None });
+        self.ready.put(place, shown(task, self.lacking[place]));
     }
 
-    /// Counts again for the task at this place, which depends on one that came from there to here.
+    /// Counts again for the task at this place, which depends on one that came further.
     fn count(&mut self, place: usize, task: &Node, step: Step)
         requires count { place < length self.old.lacking.items }
         requires place { place < length self.old.ready }
-        requires fits { (lacking : ℕ) × (lacking < 2 ^ 64)
-            × (lacking + one_if (serves task.now.needs step.now) ≡ slice_index self.old.lacking.items place + one_if (serves task.now.needs step.before)) }
-        ensures here { slice_index self.new.lacking.items place + one_if (serves task.now.needs step.now)
-            ≡ slice_index self.old.lacking.items place + one_if (serves task.now.needs step.before) }
-        ensures lacking { self.new.lacking.items ≡ slice_set self.old.lacking.items place (slice_index self.new.lacking.items place) }
-        ensures ready { self.new.ready ≡ slice_set self.old.ready place (shown task.now (slice_index self.new.lacking.items place)) }
+        requires fits { (lacking : ℕ) × (lacking < 2 ^ 63) × IsMoved true task.now.needs step.before step.now (slice_index self.old.lacking.items place) lacking }
+        ensures counted { (lacking : ℕ) × IsMoved true task.now.needs step.before step.now (slice_index self.old.lacking.items place) lacking
+            × (self.new.lacking.items ≡ slice_set self.old.lacking.items place lacking) × (self.new.ready ≡ slice_set self.old.ready place (shown task.now lacking)) }
         ensures capacity { vec_capacity self.new.lacking ≡ vec_capacity self.old.lacking }
     {
-        let needs = task.needs();
-        self.lacking[place] = counted(
-            self.lacking[place],
-            needs.is_met(step.before),
-            needs.is_met(step.now),
-        );
-        self.look(place, task);
+        let lacking = counted(task.needs(), step, self.lacking[place]);
+        self.lacking[place] = lacking;
+        self.ready.put(place, shown(task, lacking));
     }
 
     /// Counts again for each of these, which depend on one that came from there to here.
@@ -107,7 +99,7 @@ impl Waits {
         requires fit { length tasks.now.tasks ≤ length self.old.ready }
         requires distinct { IsDistinct ◌==◌ rows.now }
         requires fits { (place : ℕ) (task : Task) → slice_get tasks.now.tasks place ≡ Some task → is_in rows.now task.row ≡ true
-            → (lacking : ℕ) × (lacking < 2 ^ 64) × IsMoved true task.needs step.before step.now (slice_index self.old.lacking.items place) lacking }
+            → (lacking : ℕ) × (lacking < 2 ^ 63) × IsMoved true task.needs step.before step.now (slice_index self.old.lacking.items place) lacking }
         requires shown { ShowReady tasks.now.tasks self.old.lacking.items self.old.ready }
         ensures counted { (place : ℕ) (task : Task) → slice_get tasks.now.tasks place ≡ Some task
             → IsMoved (is_in rows.now task.row) task.needs step.before step.now (slice_index self.old.lacking.items place) (slice_index self.new.lacking.items place) }
@@ -125,15 +117,23 @@ impl Waits {
     }
 }
 
-/// How many are lacking, where one of those that were counted met what is required before, or does so now.
-fn counted(lacking: usize, before: bool, now: bool) -> usize
-    requires { (result : ℕ) × (result < 2 ^ 64) × (result + one_if now ≡ lacking + one_if before) }
-    ensures { result + one_if now ≡ lacking + one_if before }
+/// How many do not meet what is required, where so many did not before one of those that are counted came further.
+fn counted(needs: Requires, step: Step, lacking: usize) -> usize
+    requires { (result : ℕ) × (result < 2 ^ 63) × IsMoved true needs step.before step.now lacking result }
+    ensures { IsMoved true needs step.before step.now lacking result }
 {
-    match (before, now) {
-        (false, true) => lacking - 1,
-        (true, false) => lacking + 1,
-        _ => lacking,
+    let was_lacking = lacking + usize::from(needs.is_met(step.before));
+    was_lacking - usize::from(needs.is_met(step.now))
+}
+
+/// The row of a task that waits for so many, where it is ready.
+fn shown(task: &Node, lacking: usize) -> Option<u32>
+    ensures { result ≡ shown task.now lacking }
+{
+    if task.progress().unscheduled && lacking == 0 {
+        Some(task.row())
+    } else {
+        None
     }
 }
 
@@ -141,7 +141,7 @@ fn counted(lacking: usize, before: bool, now: bool) -> usize
 pub(crate) fn count_lacking(tasks: &Tasks, needs: Requires, rows: &[u32]) -> usize
     requires { HaveOwnRows tasks.now.tasks }
     ensures lacks { result ≡ lacks tasks.now.tasks needs rows.now }
-    ensures few { length rows.now < 2 ^ 64 }
+    ensures few { length rows.now < 2 ^ 63 }
 {
     let mut lacking = 0;
     for row in rows {
