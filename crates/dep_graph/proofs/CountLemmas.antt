@@ -1,5 +1,5 @@
 -- For how many tasks each waits, as one of them comes further.
-use Rattle.std.proofs.Common.{◌≡◌, ◌≢◌, ℕ, zero, suc, ◌+◌, ◌^◌, ◌<◌, ◌≤◌, ◌⊎◌, inl, inr, Bool, true, false, not, ◌&&◌, ◌||◌, List, [], ◌∷◌, ◌++◌, length, map, get_or, Option, Some, None, refl, sym, ◌∙◌, ap, subst, arith, ◌==◌}
+use Rattle.std.proofs.Common.{◌≡◌, ◌≢◌, ℕ, zero, suc, ◌+◌, ◌^◌, ◌<◌, ◌≤◌, ◌⊎◌, inl, inr, Bool, true, false, not, ◌&&◌, ◌||◌, List, [], ◌∷◌, ◌++◌, length, map, take, get_or, Option, Some, None, refl, sym, ◌∙◌, ap, subst, arith, ◌==◌}
 use Rattle.std.specs.Prelude.{slice_get, slice_index, slice_set, filter, option_map, if◌then◌else◌}
 use Rattle.std.specs.List.{IsDistinct, AllByRecursion, list_any, list_all}
 use Rattle.std.proofs.lemmas.List.{get_or-set_same, get_or-set_other, get_or_past, length-set, length-append, get_or_append_left, get_or-append_seam}
@@ -13,7 +13,7 @@ use Rattle.dep_graph.specs.Kept.{HaveOwnRows}
 use Rattle.dep_graph.specs.Trees.{node_at}
 use Rattle.dep_graph.specs.Tables.{one_if, lacks, IsMoved, shown, shown_at, ShowReady, AreCounted}
 use Rattle.dep_graph.proofs.TaskLemmas.{same_row, row_same, none-in, differs-at, one-serves, moved-rows, dependants-moved}
-use Rattle.dep_graph.proofs.EdgeLemmas.{one-place, other-way}
+use Rattle.dep_graph.proofs.EdgeLemmas.{other-way, take-more}
 use Rattle.dep_graph.proofs.PlaceLemmas.{get-push, get-last}
 use Rattle.dep_graph.proofs.TreeLemmas.{same?}
 
@@ -43,6 +43,22 @@ lacks-few tasks needs (d ∷ ds) = let one = lacks-cons tasks needs d ds in let 
   by : (b : Bool) → row_serves tasks needs d ≡ b → lacks tasks needs (d ∷ ds) ≤ length (d ∷ ds)
   by true is = let rest = lacks-few tasks needs ds in rw is (omega arith)
   by false is = let rest = lacks-few tasks needs ds in rw is (omega arith)
+
+pub one-most : (b : Bool) → one_if b ≤ 1
+one-most true = omega arith
+one-most false = omega arith
+
+lacks-last : (tasks : List Task) (needs : Requires) (ds : List ℕ) (d : ℕ) → lacks tasks needs (ds ++ d ∷ []) ≡ lacks tasks needs ds + one_if (not (row_serves tasks needs d))
+lacks-last tasks needs [] d = let one = lacks-cons tasks needs d [] in omega (arith, one)
+lacks-last tasks needs (x ∷ xs) d =
+    let one = lacks-cons tasks needs x xs in
+    let two = lacks-cons tasks needs x (xs ++ d ∷ []) in
+    let rest = lacks-last tasks needs xs d in
+    omega (arith, one, two, rest)
+
+-- one row more is looked at
+pub lacks-more : (tasks : List Task) (needs : Requires) (names : List ℕ) (i name : ℕ) → i < length names → name ≡ get_or names i name → lacks tasks needs (take (i + 1) names) ≡ lacks tasks needs (take i names) + one_if (not (row_serves tasks needs name))
+lacks-more tasks needs names i name within at = ap (lacks tasks needs) (take-more names i name within at) ∙ lacks-last tasks needs (take i names) name
 
 -- a task is ready where it waits for none
 pub ready-lacks : (tasks : List Task) (needs : Requires) (ds : List ℕ) → (lacks tasks needs ds == 0) ≡ all_serve tasks needs ds

@@ -293,3 +293,6 @@ steps-done tasks new lacking names after ready later last row place t task befor
     let shows = subst (λ (l : List Task). ShowReady l after last) is shown_ in
     let wide : length last ≡ length ready = fit ∙ (ap length put_ ∙ length-set ready place (shown task (slice_index lacking place))) in
     subst (λ (l : List Task). AreCounted l after last) (sym is) (counted-moved tasks lacking ready row place t now own there t_row are names after last named long wide counts_ shows)
+
+pub moved-long : (tasks new : List Task) (row : ℕ) (now : Progress) → new ≡ moved row now tasks → length new ≡ length tasks
+moved-long tasks new row now is = ap length is ∙ length-map tasks (further row now)

@@ -1,5 +1,5 @@
 -- The tasks of a graph with their places, and what each still waits for. The contracts of private functions alone speak of these.
-use Rattle.std.specs.Prelude.{◌≡◌, ℕ, ◌+◌, ◌^◌, ◌<◌, ◌≤◌, ◌==◌, nat_eq, Bool, true, false, not, ◌&&◌, List, length, filter, Option, Some, None, slice_get, slice_index, vec_len, vec_capacity, if◌then◌else◌}
+use Rattle.std.specs.Prelude.{◌≡◌, ℕ, ◌+◌, ◌^◌, ◌<◌, ◌≤◌, ◌==◌, nat_eq, Bool, true, false, not, ◌&&◌, List, length, filter, Option, Some, None, slice_get, slice_index, vec_capacity, if◌then◌else◌}
 use Rattle.std.specs.List.{IsDistinct}
 use Rattle.std.specs.Option.{ForSome}
 use Rattle.std.specs.HashMap.{HashMap, get}
@@ -63,12 +63,12 @@ pub record AreCounted (tasks : List Task) (lacking : List ℕ) (ready : List (Op
 
 -- where there is room for a task, there is room to count what it waits for
 abbrev pub HasCounts : List Task → Waits → Option Addition → Type 0
-HasCounts tasks waits room = ForSome room (λ addition. (vec_len waits.lacking < vec_capacity waits.lacking) × (length tasks < length waits.ready))
+HasCounts tasks waits room = ForSome room (λ addition. (length waits.lacking.items < vec_capacity waits.lacking) × (length tasks < length waits.ready))
 
 -- there is room for a task that depends on these, for its edges, and to count what it waits for
 pub record HasAllRoom (tasks : TaskTable) (edges : List Edges) (edge_capacity : ℕ) (waits : Waits) (dependencies : List ℕ) : Type 0 where
   pub task : length tasks.tasks < tasks.capacity
   pub list : length edges < edge_capacity
   pub rooms : HasRooms (rows_of tasks.tasks) dependencies edges
-  pub count : vec_len waits.lacking < vec_capacity waits.lacking
+  pub count : length waits.lacking.items < vec_capacity waits.lacking
   pub place : length tasks.tasks < length waits.ready

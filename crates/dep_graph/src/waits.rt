@@ -1,5 +1,5 @@
 //! For how many tasks each still waits, and the rows of those that are ready.
-ghost use Rattle.std.specs.Prelude.{◌≡◌, ◌==◌, ℕ, ◌+◌, ◌^◌, ◌<◌, ◌≤◌, [], ◌++◌, ◌∷◌, true, Some, OnOk, length, slice_get, slice_index, slice_set, vec_len, vec_capacity};
+ghost use Rattle.std.specs.Prelude.{◌≡◌, ◌==◌, ℕ, ◌+◌, ◌^◌, ◌<◌, ◌≤◌, [], ◌++◌, ◌∷◌, true, Some, OnOk, length, slice_get, slice_index, slice_set, vec_capacity};
 ghost use Rattle.std.specs.List.{IsDistinct};
 ghost use Rattle.dep_graph.specs.Nodes.{Task, is_in};
 ghost use Rattle.dep_graph.specs.Kept.{HaveOwnRows};
@@ -43,7 +43,7 @@ impl Waits {
         ensures same { self.new.lacking.items ≡ self.old.lacking.items }
         ensures kept { (place : ℕ) → node_at self.new.ready place ≡ node_at self.old.ready place }
         ensures more { length self.old.ready ≤ length self.new.ready }
-        ensures count { OnOk result (vec_len self.new.lacking < vec_capacity self.new.lacking) }
+        ensures count { OnOk result (length self.new.lacking.items < vec_capacity self.new.lacking) }
         ensures place { OnOk result (tasks < length self.new.ready) }
     {
         self.lacking.reserve(1)?;
@@ -56,7 +56,7 @@ impl Waits {
 
     /// Counts for a task that is added behind the others, for which there is room.
     pub(crate) fn push(&mut self, task: &Node, lacking: usize)
-        requires count { vec_len self.old.lacking < vec_capacity self.old.lacking }
+        requires count { length self.old.lacking.items < vec_capacity self.old.lacking }
         requires place { length self.old.lacking.items < length self.old.ready }
         ensures lacking { self.new.lacking.items ≡ self.old.lacking.items ++ lacking ∷ [] }
         ensures ready { self.new.ready ≡ slice_set self.old.ready (length self.old.lacking.items) (shown task.now lacking) }
@@ -122,8 +122,10 @@ fn counted(needs: Requires, step: Step, lacking: usize) -> usize
     requires { (result : ℕ) × (result < 2 ^ 63) × IsMoved true needs step.before step.now lacking result }
     ensures { IsMoved true needs step.before step.now lacking result }
 {
-    let was_lacking = lacking + usize::from(needs.is_met(step.before));
-    was_lacking - usize::from(needs.is_met(step.now))
+    let was_met = usize::from(needs.is_met(step.before));
+    let is_met = usize::from(needs.is_met(step.now));
+    let all = lacking + was_met;
+    all - is_met
 }
 
 /// The row of a task that waits for so many, where it is ready.
@@ -145,9 +147,7 @@ pub(crate) fn count_lacking(tasks: &Tasks, needs: Requires, rows: &[u32]) -> usi
 {
     let mut lacking = 0;
     for row in rows {
-        if !row_serves(tasks, needs, *row) {
-            lacking += 1;
-        }
+        lacking += usize::from(!row_serves(tasks, needs, *row));
     }
     lacking
 }
