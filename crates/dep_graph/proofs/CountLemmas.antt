@@ -25,7 +25,7 @@ some-task x y is = cc
 pub lacks-cons : (tasks : List Task) (needs : Requires) (d : ℕ) (ds : List ℕ) → lacks tasks needs (d ∷ ds) ≡ one_if (not (row_serves tasks needs d)) + lacks tasks needs ds
 lacks-cons tasks needs d ds = by (row_serves tasks needs d) refl where
   by : (b : Bool) → row_serves tasks needs d ≡ b → lacks tasks needs (d ∷ ds) ≡ one_if (not (row_serves tasks needs d)) + lacks tasks needs ds
-  by true is = rw is refl
+  by true is = rw is (omega arith)
   by false is = rw is (omega arith)
 
 pub lacks-alike : (old new : List Task) (needs : Requires) → ((d : ℕ) → row_serves new needs d ≡ row_serves old needs d) → (ds : List ℕ) → lacks new needs ds ≡ lacks old needs ds
@@ -60,13 +60,16 @@ lacks-last tasks needs (x ∷ xs) d =
 pub lacks-more : (tasks : List Task) (needs : Requires) (names : List ℕ) (i name : ℕ) → i < length names → name ≡ get_or names i name → lacks tasks needs (take (i + 1) names) ≡ lacks tasks needs (take i names) + one_if (not (row_serves tasks needs name))
 lacks-more tasks needs names i name within at = ap (lacks tasks needs) (take-more names i name within at) ∙ lacks-last tasks needs (take i names) name
 
+never : (n : ℕ) → (suc n == 0) ≡ false
+never n = search arith
+
 -- a task is ready where it waits for none
 pub ready-lacks : (tasks : List Task) (needs : Requires) (ds : List ℕ) → (lacks tasks needs ds == 0) ≡ all_serve tasks needs ds
 ready-lacks tasks needs [] = refl
 ready-lacks tasks needs (d ∷ ds) = by (ready-lacks tasks needs ds) (row_serves tasks needs d) refl where
   by : (lacks tasks needs ds == 0) ≡ all_serve tasks needs ds → (b : Bool) → row_serves tasks needs d ≡ b → (lacks tasks needs (d ∷ ds) == 0) ≡ all_serve tasks needs (d ∷ ds)
   by rest true is = rw is rest
-  by rest false is = rw is refl
+  by rest false is = rw is (never _)
 
 -- ---- a task comes further
 

@@ -21,7 +21,7 @@ use Rattle.dep_graph.proofs.TreeLemmas.{same?}
 
 -- ---- one task comes further
 
-further : ℕ → Progress → Task → Task
+abbrev further : ℕ → Progress → Task → Task
 further row now task = if task.row == row then record task { progress = now } else task
 
 further-row : (row : ℕ) (now : Progress) (t : Task) → ((further row now t).row ≡ t.row) × ((further row now t).needs ≡ t.needs) × ((further row now t).dependencies ≡ t.dependencies)
@@ -93,7 +93,7 @@ module _ (tasks : List Task) (lacking : List ℕ) (ready : List (Option ℕ)) (r
         subst P (sym is) (one ∙ ap (λ o. shown_at o (slice_index lacking place)) (sym there))
     by (inr ne) =
         let one : node_at later p ≡ node_at ready p = ap (λ l. node_at l p) put_ ∙ get_or-set_other ready place p (shown task (slice_index lacking place)) None ne in
-        one ∙ (are.shown p ∙ ap (λ o. shown_at o (slice_index lacking p)) (sym (stays (slice_get tasks p) refl)))
+        one ∙ (are.showing p ∙ ap (λ o. shown_at o (slice_index lacking p)) (sym (stays (slice_get tasks p) refl)))
       where
         stays : (o : Option Task) → slice_get tasks p ≡ o → slice_get (moved row now tasks) p ≡ slice_get tasks p
         stays None none = slice_get-map (further row now) tasks p ∙ (ap (option_map (further row now)) none ∙ sym none)
@@ -138,7 +138,7 @@ module _ (tasks : List Task) (lacking : List ℕ) (ready : List (Option ℕ)) (r
         let step = lacks-step u.needs u.dependencies (are.distinct p u was.at) in
         moved-one (is_in u.dependencies row) u.needs t.progress now (lacks tasks u.needs u.dependencies) (slice_index after p) (lacks (moved row now tasks) u.needs u.dependencies) three step
         ∙ (ap (λ n. lacks (moved row now tasks) n u.dependencies) (sym was.needs_is) ∙ ap (lacks (moved row now tasks) task.needs) (sym was.named_is));
-    shown = shown_;
+    showing = shown_;
     few = λ p task there. let was = was-at tasks row now p task there in subst (λ (l : List ℕ). length l < 2 ^ 63) (sym was.named_is) (are.few p was.task was.at);
     distinct = λ p task there. let was = was-at tasks row now p task there in subst (IsDistinct ◌==◌) (sym was.named_is) (are.distinct p was.task was.at);
   }
@@ -171,7 +171,7 @@ counted-none tasks lacking ready a b c = rw (a, b, c) (record {
   long = refl;
   fit = omega arith;
   counted = λ p task there. absurd (let e : None ≡ Some task = there in cc);
-  shown = λ p. get_or_past [] p None (omega arith);
+  showing = λ p. get_or_past [] p None (omega arith);
   few = λ p task there. absurd (let e : None ≡ Some task = there in cc);
   distinct = λ p task there. absurd (let e : None ≡ Some task = there in cc);
 })
@@ -182,7 +182,7 @@ counted-same tasks now lacking after ready later are same_tasks same_counts more
   long = are.long;
   fit = let fit = are.fit in omega (arith, fit, more);
   counted = are.counted;
-  shown = λ p. same p ∙ are.shown p;
+  showing = λ p. same p ∙ are.showing p;
   few = are.few;
   distinct = are.distinct;
 })
@@ -196,7 +196,7 @@ counted-added tasks lacking ready later t n are created distinct few is fit put_
     | inl before ↦ at-first p (lt p task before) ∙ (are.counted p task before ∙ sym (same task.needs task.dependencies))
     | inr last ↦ at-last p last.0 ∙ (is ∙ (sym (same t.needs t.dependencies) ∙ ap (λ (x : Task). lacks (tasks ++ t ∷ []) x.needs x.dependencies) (sym last.1)))
   ];
-  shown = λ p. each p (cases_order p (length tasks));
+  showing = λ p. each p (cases_order p (length tasks));
   few = λ p task there. elim (at-push tasks t p task there) [
     | inl before ↦ are.few p task before
     | inr last ↦ subst (λ (x : Task). length x.dependencies < 2 ^ 63) (sym last.1) few
@@ -237,7 +237,7 @@ counted-added tasks lacking ready later t n are created distinct few is fit put_
 
     first : (o : Option Task) → slice_get tasks p ≡ o → node_at later p ≡ shown_at (slice_get (tasks ++ t ∷ []) p) (slice_index (lacking ++ n ∷ []) p)
     first None none = absurd (none-within tasks p below none)
-    first (Some u) is_ = one ∙ (are.shown p ∙ (ap (λ o. shown_at o (slice_index lacking p)) (is_ ∙ sym (get-push tasks u t p is_)) ∙ ap (shown_at (slice_get (tasks ++ t ∷ []) p)) (sym (at-first p below))))
+    first (Some u) is_ = one ∙ (are.showing p ∙ (ap (λ o. shown_at o (slice_index lacking p)) (is_ ∙ sym (get-push tasks u t p is_)) ∙ ap (shown_at (slice_get (tasks ++ t ∷ []) p)) (sym (at-first p below))))
 
     none-within : (ts : List Task) (k : ℕ) → k < length ts → slice_get ts k ≡ None → ⊥
     none-within [] k lt_ no_ = omega arith
@@ -249,7 +249,7 @@ counted-added tasks lacking ready later t n are created distinct few is fit put_
       let old : slice_get tasks p ≡ None = slice_get_past tasks p (omega (arith, above)) in
       let long = length-append tasks (t ∷ []) in
       let new : slice_get (tasks ++ t ∷ []) p ≡ None = slice_get_past (tasks ++ t ∷ []) p (omega (arith, above, long)) in
-      one ∙ (are.shown p ∙ (ap (λ o. shown_at o (slice_index lacking p)) old ∙ sym (ap (λ o. shown_at o (slice_index (lacking ++ n ∷ []) p)) new)))
+      one ∙ (are.showing p ∙ (ap (λ o. shown_at o (slice_index lacking p)) old ∙ sym (ap (λ o. shown_at o (slice_index (lacking ++ n ∷ []) p)) new)))
 
 -- ---- what is asked and told as each dependant is counted again
 
@@ -260,7 +260,7 @@ pub record StepsWell (new : List Task) (names : List ℕ) (before now : Progress
   pub fit : length new ≤ length later
   pub distinct : IsDistinct ◌==◌ names
   pub fits : (p : ℕ) (task : Task) → slice_get new p ≡ Some task → is_in names task.row ≡ true → (n : ℕ) × (n < 2 ^ 63) × IsMoved true task.needs before now (slice_index lacking p) n
-  pub shown : ShowReady new lacking later
+  pub showing : ShowReady new lacking later
 
 row-is : (tasks : List Task) (row place : ℕ) (t : Task) → slice_get (rows_of tasks) place ≡ Some row → slice_get tasks place ≡ Some t → t.row ≡ row
 row-is tasks row place t at there = let e : Some t.row ≡ Some row = sym (row-of tasks place t there) ∙ at in cc
@@ -278,7 +278,7 @@ steps-well tasks new lacking names ready later row place t task before now own a
       fit = let a = ap length put_ in let b = length-set ready place (shown task (slice_index lacking place)) in let c = are.fit in omega (arith, a, b, c, far);
       distinct = subst (IsDistinct ◌==◌) (sym names_are) (distinct-filter (λ (x : Task). is_in x.dependencies row) tasks own);
       fits = fits-moved tasks lacking ready row place t now own there t_row are names named;
-      shown = shown-moved tasks lacking ready row place t now own there t_row are later task moved_there put_;
+      showing = shown-moved tasks lacking ready row place t now own there t_row are later task moved_there put_;
     } in
     subst (λ (l : List Task). StepsWell l names before now lacking later) (sym is) (subst (λ (g : Progress). StepsWell (moved row now tasks) names g now lacking later) (sym was) well)
 

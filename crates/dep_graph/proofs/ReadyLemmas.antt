@@ -13,14 +13,14 @@ some-is : (x y : ℕ) → Some x ≡ Some y → x ≡ y
 some-is x y is = cc
 
 -- the number stands in the list
-In : List ℕ → ℕ → Type 0
-In [] r = ⊥
-In (x ∷ xs) r = (x ≡ r) ⊎ In xs r
+abbrev Among : List ℕ → ℕ → Type 0
+Among [] r = ⊥
+Among (x ∷ xs) r = (x ≡ r) ⊎ Among xs r
 
-fold-in : (x : ℕ) (xs : List ℕ) → In (x ∷ xs) (fold min x xs)
+fold-in : (x : ℕ) (xs : List ℕ) → Among (x ∷ xs) (fold min x xs)
 fold-in x [] = inl refl
 fold-in x (y ∷ ys) = by (fold-in (min x y) ys) (same? (min x y) x) where
-  by : In (min x y ∷ ys) (fold min (min x y) ys) → (min x y ≡ x) ⊎ (min x y ≢ x) → In (x ∷ y ∷ ys) (fold min x (y ∷ ys))
+  by : Among (min x y ∷ ys) (fold min (min x y) ys) → (min x y ≡ x) ⊎ (min x y ≢ x) → Among (x ∷ y ∷ ys) (fold min x (y ∷ ys))
   by (inl e) (inl p) = inl (sym p ∙ e)
   by (inl e) (inr ne) = let p : y ≡ min x y = omega arith in inr (inl (p ∙ e))
   by (inr i) _ = inr (inr i)
@@ -29,13 +29,13 @@ fold-below : (x : ℕ) (xs : List ℕ) → fold min x xs ≤ x
 fold-below x [] = omega arith
 fold-below x (y ∷ ys) = let rest : fold min (min x y) ys ≤ min x y = fold-below (min x y) ys in omega (arith, rest)
 
-fold-least : (x : ℕ) (xs : List ℕ) (r : ℕ) → In (x ∷ xs) r → fold min x xs ≤ r
+fold-least : (x : ℕ) (xs : List ℕ) (r : ℕ) → Among (x ∷ xs) r → fold min x xs ≤ r
 fold-least x xs r (inl e) = subst (λ n. fold min x xs ≤ n) e (fold-below x xs)
 fold-least x [] r (inr i) = absurd i
 fold-least x (y ∷ ys) r (inr (inl e)) = let rest : fold min (min x y) ys ≤ min x y = fold-below (min x y) ys in omega (arith, rest, e)
 fold-least x (y ∷ ys) r (inr (inr i)) = fold-least (min x y) ys r (inr i)
 
-least-is : (xs : List ℕ) (found : Option ℕ) → ((m : ℕ) → found ≡ Some m → In xs m) → ((r : ℕ) → In xs r → (m : ℕ) × (found ≡ Some m) × (m ≤ r)) → found ≡ reduce min xs
+least-is : (xs : List ℕ) (found : Option ℕ) → ((m : ℕ) → found ≡ Some m → Among xs m) → ((r : ℕ) → Among xs r → (m : ℕ) × (found ≡ Some m) × (m ≤ r)) → found ≡ reduce min xs
 least-is [] None in_ least = refl
 least-is [] (Some m) in_ least = absurd (in_ m refl)
 least-is (x ∷ xs) found in_ least =
@@ -45,28 +45,28 @@ least-is (x ∷ xs) found in_ least =
     low.1.0 ∙ ap Some same
 
 -- a task that passes a test is among those that do
-passes-in : (p : Task → Bool) (tasks : List Task) (place : ℕ) (t : Task) → slice_get tasks place ≡ Some t → p t ≡ true → In (rows_of (filter p tasks)) t.row
+passes-in : (p : Task → Bool) (tasks : List Task) (place : ℕ) (t : Task) → slice_get tasks place ≡ Some t → p t ≡ true → Among (rows_of (filter p tasks)) t.row
 passes-in p [] place t at is = absurd (let e : None ≡ Some t = at in cc)
 passes-in p (u ∷ us) zero t at is = let same : u ≡ t = (let e : Some u ≡ Some t = at in cc) in let here : p u ≡ true = ap p same ∙ is in rw here (inl (ap (λ (x : Task). x.row) same))
 passes-in p (u ∷ us) (suc place) t at is = by (passes-in p us place t at is) (p u) refl where
-  by : In (rows_of (filter p us)) t.row → (b : Bool) → p u ≡ b → In (rows_of (filter p (u ∷ us))) t.row
+  by : Among (rows_of (filter p us)) t.row → (b : Bool) → p u ≡ b → Among (rows_of (filter p (u ∷ us))) t.row
   by rest true it = rw it (inr rest)
   by rest false it = rw it rest
 
-in-passes : (p : Task → Bool) (tasks : List Task) (row : ℕ) → In (rows_of (filter p tasks)) row → (place : ℕ) × (t : Task) × (slice_get tasks place ≡ Some t) × (p t ≡ true) × (t.row ≡ row)
+in-passes : (p : Task → Bool) (tasks : List Task) (row : ℕ) → Among (rows_of (filter p tasks)) row → (place : ℕ) × (t : Task) × (slice_get tasks place ≡ Some t) × (p t ≡ true) × (t.row ≡ row)
 in-passes p [] row i = absurd i
 in-passes p (u ∷ us) row i = by (p u) refl where
-  behind : In (rows_of (filter p us)) row → (place : ℕ) × (t : Task) × (slice_get (u ∷ us) place ≡ Some t) × (p t ≡ true) × (t.row ≡ row)
+  behind : Among (rows_of (filter p us)) row → (place : ℕ) × (t : Task) × (slice_get (u ∷ us) place ≡ Some t) × (p t ≡ true) × (t.row ≡ row)
   behind r = let found = in-passes p us row r in (suc found.0, (found.1.0, (found.1.1.0, found.1.1.1)))
 
   by : (b : Bool) → p u ≡ b → (place : ℕ) × (t : Task) × (slice_get (u ∷ us) place ≡ Some t) × (p t ≡ true) × (t.row ≡ row)
   by true it =
-      let there : (u.row ≡ row) ⊎ In (rows_of (filter p us)) row = rw it at i in
+      let there : (u.row ≡ row) ⊎ Among (rows_of (filter p us)) row = rw it at i in
       elim there [
         | inl e ↦ (0, (u, (refl, (it, e))))
         | inr r ↦ behind r
       ]
-  by false it = let there : In (rows_of (filter p us)) row = rw it at i in behind there
+  by false it = let there : Among (rows_of (filter p us)) row = rw it at i in behind there
 
 -- what is shown of a task is its row where it is ready
 shown-ready : (all : List Task) (t : Task) (n : ℕ) → n ≡ lacks all t.needs t.dependencies → shown t n ≡ (if is_ready all t then Some t.row else None)
@@ -83,23 +83,23 @@ pub least-ready : (tasks : List Task) (lacking : List ℕ) (ready : List (Option
 least-ready tasks lacking ready found counted some_ least = least-is (rows_of (filter (is_ready tasks) tasks)) found is-in is-least where
   at : (place : ℕ) (t : Task) → slice_get tasks place ≡ Some t → node_at ready place ≡ (if is_ready tasks t then Some t.row else None)
   at place t there =
-      counted.shown place ∙ (ap (λ o. shown_at o (slice_index lacking place)) there ∙ shown-ready tasks t (slice_index lacking place) (counted.counted place t there))
+      counted.showing place ∙ (ap (λ o. shown_at o (slice_index lacking place)) there ∙ shown-ready tasks t (slice_index lacking place) (counted.counted place t there))
 
-  from-place : (m place : ℕ) → node_at ready place ≡ Some m → In (rows_of (filter (is_ready tasks) tasks)) m
+  from-place : (m place : ℕ) → node_at ready place ≡ Some m → Among (rows_of (filter (is_ready tasks) tasks)) m
   from-place m place there = by (slice_get tasks place) refl where
-    by : (o : Option Task) → slice_get tasks place ≡ o → In (rows_of (filter (is_ready tasks) tasks)) m
-    by None none = absurd (let e : None ≡ Some m = sym (counted.shown place ∙ ap (λ o. shown_at o (slice_index lacking place)) none) ∙ there in cc)
+    by : (o : Option Task) → slice_get tasks place ≡ o → Among (rows_of (filter (is_ready tasks) tasks)) m
+    by None none = absurd (let e : None ≡ Some m = sym (counted.showing place ∙ ap (λ o. shown_at o (slice_index lacking place)) none) ∙ there in cc)
     by (Some t) is =
         let both = if-some (is_ready tasks t) t.row m (sym (at place t is) ∙ there) in
-        subst (In (rows_of (filter (is_ready tasks) tasks))) both.1 (passes-in (is_ready tasks) tasks place t is both.0)
+        subst (Among (rows_of (filter (is_ready tasks) tasks))) both.1 (passes-in (is_ready tasks) tasks place t is both.0)
 
-  is-in : (m : ℕ) → found ≡ Some m → In (rows_of (filter (is_ready tasks) tasks)) m
+  is-in : (m : ℕ) → found ≡ Some m → Among (rows_of (filter (is_ready tasks) tasks)) m
   is-in m is =
       let there : (place : ℕ) × (node_at ready place ≡ Some m) = (let P : Option ℕ → Type 0 = λ o. IfSome o (λ m. (place : ℕ) × (node_at ready place ≡ Some m)) in subst P is some_) in
       from-place m there.0 there.1
 
-  is-least : (r : ℕ) → In (rows_of (filter (is_ready tasks) tasks)) r → (m : ℕ) × (found ≡ Some m) × (m ≤ r)
+  is-least : (r : ℕ) → Among (rows_of (filter (is_ready tasks) tasks)) r → (m : ℕ) × (found ≡ Some m) × (m ≤ r)
   is-least r i =
       let from = in-passes (is_ready tasks) tasks r i in
-      let ready_ : (if is_ready tasks from.1.0 then Some from.1.0.row else None) ≡ Some r = rw from.1.1.1.0 (ap Some from.1.1.1.1) in
+      let ready_ : (if is_ready tasks from.1.0 then Some from.1.0.row else None) ≡ Some r = ap (λ b. if b then Some from.1.0.row else None) from.1.1.1.0 ∙ ap Some from.1.1.1.1 in
       least from.0 r (at from.0 from.1.0 from.1.1.0 ∙ ready_)

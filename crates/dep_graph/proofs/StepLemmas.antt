@@ -18,12 +18,12 @@ use Rattle.dep_graph.proofs.TreeLemmas.{same?}
 -- what was counted for the tasks of so many names
 pub record CountsSo (tasks : List Task) (names : List ℕ) (before now : Progress) (i : ℕ) (old lacking : List ℕ) (first ready : List (Option ℕ)) : Type 0 where
   pub counted : (place : ℕ) (task : Task) → slice_get tasks place ≡ Some task → IsMoved (is_in (take i names) task.row) task.needs before now (slice_index old place) (slice_index lacking place)
-  pub shown : ShowReady tasks lacking ready
+  pub showing : ShowReady tasks lacking ready
   pub long : length lacking ≡ length old
   pub fit : length ready ≡ length first
 
 pub counts-first : (tasks : List Task) (names : List ℕ) (before now : Progress) (old : List ℕ) (first : List (Option ℕ)) → ShowReady tasks old first → CountsSo tasks names before now 0 old old first first
-counts-first tasks names before now old first shown_ = record { counted = λ place task at. refl; shown = shown_; long = refl; fit = refl }
+counts-first tasks names before now old first shown_ = record { counted = λ place task at. refl; showing = shown_; long = refl; fit = refl }
 
 pub counts-whole : (tasks : List Task) (names : List ℕ) (before now : Progress) (i : ℕ) (old lacking : List ℕ) (first ready : List (Option ℕ)) → length names ≤ i → CountsSo tasks names before now i old lacking first ready
     → (place : ℕ) (task : Task) → slice_get tasks place ≡ Some task → IsMoved (is_in names task.row) task.needs before now (slice_index old place) (slice_index lacking place)
@@ -47,7 +47,7 @@ counts-nowhere tasks names before now i name old lacking first ready within at n
       let other : (name == task.row) ≡ false = unlike name task.row (λ is. let e : is_in (rows_of tasks) name ≡ true = at-in (rows_of tasks) place name (row-of tasks place task there ∙ ap Some (sym is)) in cc) in
       let same : is_in (take (i + 1) names) task.row ≡ is_in (take i names) task.row = ap (λ l. is_in l task.row) (take-more names i name within at) ∙ not-named (take i names) name task.row other in
       subst (λ (b : Bool). IsMoved b task.needs before now (slice_index old place) (slice_index lacking place)) (sym same) (so.counted place task there);
-  shown = so.shown;
+  showing = so.showing;
   long = so.long;
   fit = so.fit;
 }
@@ -77,7 +77,7 @@ module _ (tasks : List Task) (names : List ℕ) (before now : Progress) (i name 
       → CountsSo tasks names before now (i + 1) old after first later
   counts-at after later n fits room moved after_is later_is = record {
     counted = λ p t stands. counted p t stands (same? p place);
-    shown = λ p. shows p (same? p place);
+    showing = λ p. shows p (same? p place);
     long = ap length after_is ∙ (length-set lacking place n ∙ so.long);
     fit = ap length later_is ∙ (length-set ready place (shown task n) ∙ so.fit);
   } where
@@ -112,4 +112,4 @@ module _ (tasks : List Task) (names : List ℕ) (before now : Progress) (i name 
         let one : node_at later place ≡ shown task n = ap (λ l. node_at l place) later_is ∙ get_or-set_same ready place (shown task n) None room in
         subst (λ k. node_at later k ≡ shown_at (slice_get tasks k) (slice_index after k)) (sym is) (one ∙ (ap (shown task) (sym new) ∙ ap (λ o. shown_at o (slice_index after place)) (sym there)))
     shows p (inr ne) =
-        ap (λ l. node_at l p) later_is ∙ (get_or-set_other ready place p (shown task n) None ne ∙ (so.shown p ∙ ap (shown_at (slice_get tasks p)) (sym (kept p ne))))
+        ap (λ l. node_at l p) later_is ∙ (get_or-set_other ready place p (shown task n) None ne ∙ (so.showing p ∙ ap (shown_at (slice_get tasks p)) (sym (kept p ne))))

@@ -234,11 +234,11 @@ climb-end before nodes at leaf row tree so top = but-none nodes before at so.lon
 
 -- ---- a wider tree
 
-pub record IsWidened (nodes : List (Option ℕ)) (half wide place : ℕ) (tree : List (Option ℕ)) : Type 0 where
-  pub tree : IsTree tree
-  pub long : length tree ≡ 2 * wide
-  pub moved : (k : ℕ) → k < place → node_at tree (wide + k) ≡ node_at nodes (half + k)
-  pub rest : (k : ℕ) → place ≤ k → node_at tree (wide + k) ≡ None
+pub record IsWidened (nodes : List (Option ℕ)) (half wide place : ℕ) (later : List (Option ℕ)) : Type 0 where
+  pub tree : IsTree later
+  pub long : length later ≡ 2 * wide
+  pub moved : (k : ℕ) → k < place → node_at later (wide + k) ≡ node_at nodes (half + k)
+  pub rest : (k : ℕ) → place ≤ k → node_at later (wide + k) ≡ None
 
 -- nothing stands anywhere
 abbrev empty_tree : ℕ → List (Option ℕ)

@@ -57,7 +57,7 @@ pub record AreCounted (tasks : List Task) (lacking : List ℕ) (ready : List (Op
   pub long : length lacking ≡ length tasks
   pub fit : length tasks ≤ length ready
   pub counted : (place : ℕ) (task : Task) → slice_get tasks place ≡ Some task → slice_index lacking place ≡ lacks tasks task.needs task.dependencies
-  pub shown : ShowReady tasks lacking ready
+  pub showing : ShowReady tasks lacking ready
   pub few : (place : ℕ) (task : Task) → slice_get tasks place ≡ Some task → length task.dependencies < 2 ^ 63
   pub distinct : (place : ℕ) (task : Task) → slice_get tasks place ≡ Some task → IsDistinct ◌==◌ task.dependencies
 

@@ -43,7 +43,7 @@ count_each-requires c =
       fit = well.fit;
       distinct = well.distinct;
       fits = well.fits;
-      shown = well.shown;
+      shown = well.showing;
     })
 
 pub returns-clause-counted : goal.returns-clause-counted

@@ -64,7 +64,7 @@ returns-clause-counted c =
     counts-whole c.args.tasks.now.tasks c.args.rows.now c.args.step.before c.args.step.now c.loop-row.row-index c.args.self.now.lacking.items c.loop-row.self.lacking.items c.args.self.now.ready c.loop-row.self.ready past c.loop-row.invariant.0
 
 pub returns-clause-shown : goal.returns-clause-shown
-returns-clause-shown c = c.loop-row.invariant.0.shown
+returns-clause-shown c = c.loop-row.invariant.0.showing
 
 pub returns-clause-long : goal.returns-clause-long
 returns-clause-long c = c.loop-row.invariant.0.long
