@@ -1,6 +1,7 @@
 -- For how many tasks each waits, as one of them comes further.
 use Rattle.std.proofs.Common.{◌≡◌, ◌≢◌, ℕ, zero, suc, ◌+◌, ◌^◌, ◌<◌, ◌≤◌, ◌⊎◌, inl, inr, Bool, true, false, not, ◌&&◌, ◌||◌, List, [], ◌∷◌, ◌++◌, length, map, take, get_or, Option, Some, None, refl, sym, ◌∙◌, ap, subst, arith, ◌==◌}
 use Rattle.std.specs.Prelude.{slice_get, slice_index, slice_set, filter, option_map, if◌then◌else◌}
+use Rattle.std.specs.Int.{from_bool}
 use Rattle.std.specs.List.{IsDistinct, AllByRecursion, list_any, list_all}
 use Rattle.std.proofs.lemmas.List.{get_or-set_same, get_or-set_other, get_or_past, length-set, length-append, get_or_append_left, get_or-append_seam}
 use Rattle.std.proofs.lemmas.Option.{slice_get-map, slice_get_past, slice_get_within, get_or_from_slice_get}
@@ -11,7 +12,7 @@ use Rattle.dep_graph.specs.Nodes.{Task, rows_of, is_in, dependants_of, moved, ju
 use Rattle.dep_graph.specs.Ready.{serves, row_serves, all_serve, is_ready}
 use Rattle.dep_graph.specs.Kept.{HaveOwnRows}
 use Rattle.dep_graph.specs.Trees.{node_at}
-use Rattle.dep_graph.specs.Tables.{one_if, lacks, IsMoved, shown, shown_at, ShowReady, AreCounted}
+use Rattle.dep_graph.specs.Tables.{lacks, IsMoved, shown, shown_at, ShowReady, AreCounted}
 use Rattle.dep_graph.proofs.TaskLemmas.{same_row, row_same, none-in, differs-at, one-serves, moved-rows, dependants-moved}
 use Rattle.dep_graph.proofs.EdgeLemmas.{other-way, take-more}
 use Rattle.dep_graph.proofs.PlaceLemmas.{get-push, get-last}
@@ -22,9 +23,9 @@ some-task x y is = cc
 
 -- ---- what one of those that are counted adds
 
-pub lacks-cons : (tasks : List Task) (needs : Requires) (d : ℕ) (ds : List ℕ) → lacks tasks needs (d ∷ ds) ≡ one_if (not (row_serves tasks needs d)) + lacks tasks needs ds
+pub lacks-cons : (tasks : List Task) (needs : Requires) (d : ℕ) (ds : List ℕ) → lacks tasks needs (d ∷ ds) ≡ from_bool (not (row_serves tasks needs d)) + lacks tasks needs ds
 lacks-cons tasks needs d ds = by (row_serves tasks needs d) refl where
-  by : (b : Bool) → row_serves tasks needs d ≡ b → lacks tasks needs (d ∷ ds) ≡ one_if (not (row_serves tasks needs d)) + lacks tasks needs ds
+  by : (b : Bool) → row_serves tasks needs d ≡ b → lacks tasks needs (d ∷ ds) ≡ from_bool (not (row_serves tasks needs d)) + lacks tasks needs ds
   by true is = rw is (omega arith)
   by false is = rw is (omega arith)
 
@@ -34,7 +35,7 @@ lacks-alike old new needs same (d ∷ ds) =
     let one = lacks-cons new needs d ds in
     let other = lacks-cons old needs d ds in
     let rest = lacks-alike old new needs same ds in
-    let here : one_if (not (row_serves new needs d)) ≡ one_if (not (row_serves old needs d)) = ap (λ b. one_if (not b)) (same d) in
+    let here : from_bool (not (row_serves new needs d)) ≡ from_bool (not (row_serves old needs d)) = ap (λ b. from_bool (not b)) (same d) in
     omega (arith, one, other, rest, here)
 
 pub lacks-few : (tasks : List Task) (needs : Requires) (ds : List ℕ) → lacks tasks needs ds ≤ length ds
@@ -44,11 +45,11 @@ lacks-few tasks needs (d ∷ ds) = let one = lacks-cons tasks needs d ds in let 
   by true is = let rest = lacks-few tasks needs ds in rw is (omega arith)
   by false is = let rest = lacks-few tasks needs ds in rw is (omega arith)
 
-pub one-most : (b : Bool) → one_if b ≤ 1
+pub one-most : (b : Bool) → from_bool b ≤ 1
 one-most true = omega arith
 one-most false = omega arith
 
-lacks-last : (tasks : List Task) (needs : Requires) (ds : List ℕ) (d : ℕ) → lacks tasks needs (ds ++ d ∷ []) ≡ lacks tasks needs ds + one_if (not (row_serves tasks needs d))
+lacks-last : (tasks : List Task) (needs : Requires) (ds : List ℕ) (d : ℕ) → lacks tasks needs (ds ++ d ∷ []) ≡ lacks tasks needs ds + from_bool (not (row_serves tasks needs d))
 lacks-last tasks needs [] d = let one = lacks-cons tasks needs d [] in omega (arith, one)
 lacks-last tasks needs (x ∷ xs) d =
     let one = lacks-cons tasks needs x xs in
@@ -57,7 +58,7 @@ lacks-last tasks needs (x ∷ xs) d =
     omega (arith, one, two, rest)
 
 -- one row more is looked at
-pub lacks-more : (tasks : List Task) (needs : Requires) (names : List ℕ) (i name : ℕ) → i < length names → name ≡ get_or names i name → lacks tasks needs (take (i + 1) names) ≡ lacks tasks needs (take i names) + one_if (not (row_serves tasks needs name))
+pub lacks-more : (tasks : List Task) (needs : Requires) (names : List ℕ) (i name : ℕ) → i < length names → name ≡ get_or names i name → lacks tasks needs (take (i + 1) names) ≡ lacks tasks needs (take i names) + from_bool (not (row_serves tasks needs name))
 lacks-more tasks needs names i name within at = ap (lacks tasks needs) (take-more names i name within at) ∙ lacks-last tasks needs (take i names) name
 
 never : (n : ℕ) → (suc n == 0) ≡ false
@@ -88,7 +89,7 @@ moved-more : (b : Bool) (needs : Requires) (before now : Progress) (o m n : ℕ)
 moved-more true needs before now o m n is = omega (arith, is)
 moved-more false needs before now o m n is = ap (λ k. o + k) is
 
-moved-here : (a b : Bool) (n m : ℕ) → m ≡ n → (one_if (not b) + m) + one_if b ≡ (one_if (not a) + n) + one_if a
+moved-here : (a b : Bool) (n m : ℕ) → m ≡ n → (from_bool (not b) + m) + from_bool b ≡ (from_bool (not a) + n) + from_bool a
 moved-here true true n m is = omega (arith, is)
 moved-here true false n m is = omega (arith, is)
 moved-here false true n m is = omega (arith, is)
@@ -108,14 +109,14 @@ lacks-moved old new needs row before now others was is (d ∷ ds) distinct = by 
       let same : d ≡ row = same_row d row here in
       let none : is_in ds row ≡ false = ap (is_in ds) (sym same) ∙ none-in d ds distinct.0 in
       let stays : lacks new needs ds ≡ lacks old needs ds = (let P : Bool → Type 0 = λ b. IsMoved b needs before now (lacks old needs ds) (lacks new needs ds) in subst P none rest) in
-      let one : lacks new needs (d ∷ ds) ≡ one_if (not (serves needs now)) + lacks new needs ds = lacks-cons new needs d ds ∙ ap (λ b. one_if (not b) + lacks new needs ds) (ap (row_serves new needs) same ∙ is) in
-      let two : lacks old needs (d ∷ ds) ≡ one_if (not (serves needs before)) + lacks old needs ds = lacks-cons old needs d ds ∙ ap (λ b. one_if (not b) + lacks old needs ds) (ap (row_serves old needs) same ∙ was) in
-      let all_ : (one_if (not (serves needs now)) + lacks new needs ds) + one_if (serves needs now) ≡ (one_if (not (serves needs before)) + lacks old needs ds) + one_if (serves needs before) = moved-here (serves needs before) (serves needs now) (lacks old needs ds) (lacks new needs ds) stays in
-      let goal : IsMoved true needs before now (lacks old needs (d ∷ ds)) (lacks new needs (d ∷ ds)) = ap (λ n. n + one_if (serves needs now)) one ∙ (all_ ∙ ap (λ n. n + one_if (serves needs before)) (sym two)) in
+      let one : lacks new needs (d ∷ ds) ≡ from_bool (not (serves needs now)) + lacks new needs ds = lacks-cons new needs d ds ∙ ap (λ b. from_bool (not b) + lacks new needs ds) (ap (row_serves new needs) same ∙ is) in
+      let two : lacks old needs (d ∷ ds) ≡ from_bool (not (serves needs before)) + lacks old needs ds = lacks-cons old needs d ds ∙ ap (λ b. from_bool (not b) + lacks old needs ds) (ap (row_serves old needs) same ∙ was) in
+      let all_ : (from_bool (not (serves needs now)) + lacks new needs ds) + from_bool (serves needs now) ≡ (from_bool (not (serves needs before)) + lacks old needs ds) + from_bool (serves needs before) = moved-here (serves needs before) (serves needs now) (lacks old needs ds) (lacks new needs ds) stays in
+      let goal : IsMoved true needs before now (lacks old needs (d ∷ ds)) (lacks new needs (d ∷ ds)) = ap (λ n. n + from_bool (serves needs now)) one ∙ (all_ ∙ ap (λ n. n + from_bool (serves needs before)) (sym two)) in
       rw here goal
   by rest false here =
-      let o : ℕ = one_if (not (row_serves old needs d)) in
-      let one : lacks new needs (d ∷ ds) ≡ o + lacks new needs ds = lacks-cons new needs d ds ∙ ap (λ b. one_if (not b) + lacks new needs ds) (others d here) in
+      let o : ℕ = from_bool (not (row_serves old needs d)) in
+      let one : lacks new needs (d ∷ ds) ≡ o + lacks new needs ds = lacks-cons new needs d ds ∙ ap (λ b. from_bool (not b) + lacks new needs ds) (others d here) in
       let two : lacks old needs (d ∷ ds) ≡ o + lacks old needs ds = lacks-cons old needs d ds in
       let more : IsMoved (is_in ds row) needs before now (o + lacks old needs ds) (o + lacks new needs ds) = moved-more (is_in ds row) needs before now o (lacks old needs ds) (lacks new needs ds) rest in
       let P : ℕ → Type 0 = λ n. IsMoved (is_in ds row) needs before now n (lacks new needs (d ∷ ds)) in

@@ -10,7 +10,7 @@ use Rattle.dep_graph.specs.Nodes.{Task, rows_of, is_in}
 use Rattle.dep_graph.specs.Kept.{HaveOwnRows}
 use Rattle.dep_graph.specs.Trees.{node_at}
 use Rattle.dep_graph.specs.Tables.{IsMoved, shown, shown_at, ShowReady}
-use Rattle.dep_graph.proofs.TaskLemmas.{same_row, row_same}
+use Rattle.dep_graph.proofs.TaskLemmas.{same_row}
 use Rattle.dep_graph.proofs.EdgeLemmas.{one-place, not-named, last-named, at-in, take-more, not-before}
 use Rattle.dep_graph.proofs.CountLemmas.{some-task, row-of}
 use Rattle.dep_graph.proofs.TreeLemmas.{same?}
@@ -29,9 +29,6 @@ pub counts-whole : (tasks : List Task) (names : List ℕ) (before now : Progress
     → (place : ℕ) (task : Task) → slice_get tasks place ≡ Some task → IsMoved (is_in names task.row) task.needs before now (slice_index old place) (slice_index lacking place)
 counts-whole tasks names before now i old lacking first ready past so place task at =
     subst (λ (l : List ℕ). IsMoved (is_in l task.row) task.needs before now (slice_index old place) (slice_index lacking place)) (take_all i names past) (so.counted place task at)
-
-not-same : (a b : ℕ) → (a == b) ≡ false → (a ≡ b → ⊥)
-not-same a b no_ is = let e : (a == b) ≡ true = ap (λ y. a == y) (sym is) ∙ row_same a in cc
 
 unlike : (a b : ℕ) → (a ≡ b → ⊥) → (a == b) ≡ false
 unlike a b ne = by (a == b) refl where

@@ -253,8 +253,8 @@ nothing-at n k = by (under? n k) where
   by (inl past) = get_or_past (empty_tree n) k None (let long = empty-long n in omega arith)
   by (inr below) = get_or-replicate n k None None below
 
-pub widened-first : (nodes : List (Option ℕ)) (half wide : ℕ) (tree : List (Option ℕ)) → tree ≡ empty_tree (2 * wide) → IsWidened nodes half wide 0 tree
-widened-first nodes half wide tree is = subst (IsWidened nodes half wide 0) (sym is) (record {
+pub widened-first : (nodes : List (Option ℕ)) (half wide : ℕ) (tree : List (Option ℕ)) → tree ≡ empty_tree (wide * 2) → IsWidened nodes half wide 0 tree
+widened-first nodes half wide tree is = subst (IsWidened nodes half wide 0) (sym (is ∙ ap empty_tree twice)) (record {
   tree = record {
     even = let n = long in omega arith;
     above = λ at pos within. nothing-at (2 * wide) at ∙ sym (ap (λ x. lesser x (node_at (empty_tree (2 * wide)) (2 * at + 1))) (nothing-at (2 * wide) (2 * at)) ∙ nothing-at (2 * wide) (2 * at + 1));
@@ -263,6 +263,9 @@ widened-first nodes half wide tree is = subst (IsWidened nodes half wide 0) (sym
   moved = λ k below. absurd (omega arith);
   rest = λ k past. nothing-at (2 * wide) (wide + k);
 }) where
+  twice : wide * 2 ≡ 2 * wide
+  twice = omega arith
+
   long : length (empty_tree (2 * wide)) ≡ 2 * wide
   long = empty-long (2 * wide)
 

@@ -1,5 +1,6 @@
 -- The tasks of a graph with their places, and what each still waits for. The contracts of private functions alone speak of these.
 use Rattle.std.specs.Prelude.{◌≡◌, ℕ, ◌+◌, ◌^◌, ◌<◌, ◌≤◌, ◌==◌, nat_eq, Bool, true, false, not, ◌&&◌, List, length, filter, Option, Some, None, slice_get, slice_index, vec_capacity, if◌then◌else◌}
+use Rattle.std.specs.Int.{from_bool}
 use Rattle.std.specs.List.{IsDistinct}
 use Rattle.std.specs.Option.{ForSome}
 use Rattle.std.specs.HashMap.{HashMap, get}
@@ -27,17 +28,13 @@ IsPlaceOf rows row None = is_in rows row ≡ false
 abbrev pub KnowsPlaces : {S : Type 0} → List ℕ → HashMap ℕ ℕ S → Type 0
 KnowsPlaces rows places = (row : ℕ) → IsPlaceOf rows row (get nat_eq places row)
 
--- 1 where it is so, and 0 where it is not
-abbrev pub one_if : Bool → ℕ
-one_if b = if b then 1 else 0
-
 -- how many of these tasks do not meet what is required
 abbrev pub lacks : List Task → Requires → List ℕ → ℕ
 lacks tasks needs rows = length (filter (λ row. not (row_serves tasks needs row)) rows)
 
 -- the number of those that a task waits for, before and after one of them, or another task, came from here to there
 abbrev pub IsMoved : Bool → Requires → Progress → Progress → ℕ → ℕ → Type 0
-IsMoved true needs before now old new = new + one_if (serves needs now) ≡ old + one_if (serves needs before)
+IsMoved true needs before now old new = new + from_bool (serves needs now) ≡ old + from_bool (serves needs before)
 IsMoved false needs before now old new = new ≡ old
 
 -- the row of a task that waits for so many, where it is ready

@@ -98,12 +98,14 @@ fn wider(
 
 /// A tree of so many places where nothing stands.
 fn empty(alloc: Global, places: usize) -> Result<Vec<Option<u32>>, AllocError>
-    ensures { IfOk result (λ tree. tree.items ≡ replicate (2 * places) None) }
+    ensures { IfOk result (λ tree. tree.items ≡ replicate (places * 2) None) }
 {
-    let Some(nodes) = places.checked_mul(2) else {
+    let Some(len) = places.checked_mul(2) else {
         return Err(AllocError);
     };
-    vec![in alloc; None; nodes]
+    let mut nodes = Vec::new(alloc);
+    nodes.resize(len, None)?;
+    Ok(nodes)
 }
 
 /// Lets this row stand at a leaf of the tree, or none, and so in what is above it.

@@ -83,9 +83,9 @@ impl Tasks {
         ensures { self.new.tasks ≡ self.old.tasks ++ node ∷ [] }
     {
         let place = self.nodes.len();
-        if self.places.insert(node.row(), place).is_err() {
+        let Ok(_) = self.places.insert(node.row(), place) else {
             unreachable!();
-        }
+        };
         if self.nodes.push(node).is_err() {
             unreachable!();
         }

@@ -3,8 +3,7 @@ ghost use Rattle.std.specs.Prelude.{◌≡◌, ◌==◌, ℕ, ◌+◌, ◌^◌, 
 ghost use Rattle.std.specs.List.{IsDistinct};
 ghost use Rattle.dep_graph.specs.Nodes.{Task, is_in};
 ghost use Rattle.dep_graph.specs.Kept.{HaveOwnRows};
-ghost use Rattle.dep_graph.specs.Tables.{IsMoved, ShowReady, one_if, lacks, shown};
-ghost use Rattle.dep_graph.specs.Ready.{serves};
+ghost use Rattle.dep_graph.specs.Tables.{IsMoved, ShowReady, lacks, shown};
 ghost use Rattle.dep_graph.specs.Trees.{node_at};
 
 use crate::least::Least;

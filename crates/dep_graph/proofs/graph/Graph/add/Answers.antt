@@ -46,13 +46,14 @@ add_task-requires c =
     let tasks_are = ap (λ (graph : TaskGraph). graph.tasks) c.self.view_is in
     let named = named-by (adding_of c.in-Some.addition) c.args.row c.args.dependencies.now (sym (ap (option_map adding_of) taken) ∙ (room_is ∙ c.requires.room)) in
     let room = c.self.invariant.0.room_is c.in-Some.addition taken in
+    let row_is : c.in-Some.addition.node.row ≡ c.args.row = named.0 in
     let was : vec_len g.edges ≡ length g.edges.items = search rules in
     let len = c.add_edges.ensures.len in
     let cap = c.add_edges.ensures.capacity in
     let list = room.list in
     record {
       task = room.task;
-      new = rw (tasks_are, named.0) c.requires.new;
+      new = rw (tasks_are, row_is) c.requires.new;
       list = omega (arith, was, len, cap, list);
       own = room.own;
       own_room = room.own_room;
