@@ -27,8 +27,8 @@ further row now task = if task.row == row then record task { progress = now } el
 further-row : (row : ℕ) (now : Progress) (t : Task) → ((further row now t).row ≡ t.row) × ((further row now t).needs ≡ t.needs) × ((further row now t).dependencies ≡ t.dependencies)
 further-row row now t = by (t.row == row) refl where
   by : (b : Bool) → (t.row == row) ≡ b → ((further row now t).row ≡ t.row) × ((further row now t).needs ≡ t.needs) × ((further row now t).dependencies ≡ t.dependencies)
-  by true is = rw is (refl, (refl, refl))
-  by false is = rw is (refl, (refl, refl))
+  by true is = rw is (refl, refl, refl)
+  by false is = rw is (refl, refl, refl)
 
 -- the task that was at a place
 record WasAt (tasks : List Task) (row : ℕ) (now : Progress) (place : ℕ) (later : Task) : Type 0 where
@@ -51,8 +51,8 @@ was-at tasks row now place later at = by (slice_get tasks place) refl where
         at = there;
         is = same;
         row_is = ap (λ (x : Task). x.row) same ∙ parts.0;
-        needs_is = ap (λ (x : Task). x.needs) same ∙ parts.1.0;
-        named_is = ap (λ (x : Task). x.dependencies) same ∙ parts.1.1;
+        needs_is = ap (λ (x : Task). x.needs) same ∙ parts.1;
+        named_is = ap (λ (x : Task). x.dependencies) same ∙ parts.2;
       }
 
 module _ (tasks : List Task) (lacking : List ℕ) (ready : List (Option ℕ)) (row place : ℕ) (t : Task) (now : Progress) (own : HaveOwnRows tasks) (at : slice_get tasks place ≡ Some t) (row_is : t.row ≡ row) (are : AreCounted tasks lacking ready) where
@@ -117,7 +117,7 @@ module _ (tasks : List Task) (lacking : List ℕ) (ready : List (Option ℕ)) (r
       let P : ℕ → Type 0 = λ n. IsMoved true u.needs t.progress now n (lacks (moved row now tasks) u.needs u.dependencies) in
       let two = subst P (sym (are.counted p u was.at)) one in
       let Q : Requires → Type 0 = λ needs. IsMoved true needs t.progress now (slice_index lacking p) (lacks (moved row now tasks) u.needs u.dependencies) in
-      (lacks (moved row now tasks) u.needs u.dependencies, (omega (arith, few, small), subst Q (sym was.needs_is) two))
+      (lacks (moved row now tasks) u.needs u.dependencies, omega (arith, few, small), subst Q (sym was.needs_is) two)
 
   pub counted-moved : (names after : List ℕ) (later : List (Option ℕ)) → names ≡ dependants_of (moved row now tasks) row → length after ≡ length lacking → length later ≡ length ready
       → ((p : ℕ) (task : Task) → slice_get (moved row now tasks) p ≡ Some task → IsMoved (is_in names task.row) task.needs t.progress now (slice_index lacking p) (slice_index after p))
@@ -206,7 +206,7 @@ counted-added tasks lacking ready later t n are created distinct few is fit put_
     | inr last ↦ subst (λ (x : Task). IsDistinct ◌==◌ x.dependencies) (sym last.1) distinct
   ];
 } where
-  shows : Option ℕ
+  abbrev shows : Option ℕ
   shows = shown t n
 
   same : (needs : Requires) (ds : List ℕ) → lacks (tasks ++ t ∷ []) needs ds ≡ lacks tasks needs ds

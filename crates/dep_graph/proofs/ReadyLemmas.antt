@@ -40,9 +40,9 @@ least-is [] None in_ least = refl
 least-is [] (Some m) in_ least = absurd (in_ m refl)
 least-is (x ∷ xs) found in_ least =
     let low = least (fold min x xs) (fold-in x xs) in
-    let back : fold min x xs ≤ low.0 = fold-least x xs low.0 (in_ low.0 low.1.0) in
-    let same : low.0 ≡ fold min x xs = omega (arith, back, low.1.1) in
-    low.1.0 ∙ ap Some same
+    let back : fold min x xs ≤ low.0 = fold-least x xs low.0 (in_ low.0 low.1) in
+    let same : low.0 ≡ fold min x xs = omega (arith, back, low.2) in
+    low.1 ∙ ap Some same
 
 -- a task that passes a test is among those that do
 passes-in : (p : Task → Bool) (tasks : List Task) (place : ℕ) (t : Task) → slice_get tasks place ≡ Some t → p t ≡ true → Among (rows_of (filter p tasks)) t.row
@@ -57,13 +57,13 @@ in-passes : (p : Task → Bool) (tasks : List Task) (row : ℕ) → Among (rows_
 in-passes p [] row i = absurd i
 in-passes p (u ∷ us) row i = by (p u) refl where
   behind : Among (rows_of (filter p us)) row → (place : ℕ) × (t : Task) × (slice_get (u ∷ us) place ≡ Some t) × (p t ≡ true) × (t.row ≡ row)
-  behind r = let found = in-passes p us row r in (suc found.0, (found.1.0, (found.1.1.0, found.1.1.1)))
+  behind r = let found = in-passes p us row r in (suc found.0, found.1, found.2, found.3, found.4)
 
   by : (b : Bool) → p u ≡ b → (place : ℕ) × (t : Task) × (slice_get (u ∷ us) place ≡ Some t) × (p t ≡ true) × (t.row ≡ row)
   by true it =
       let there : (u.row ≡ row) ⊎ Among (rows_of (filter p us)) row = rw it at i in
       elim there [
-        | inl e ↦ (0, (u, (refl, (it, e))))
+        | inl e ↦ (0, u, refl, it, e)
         | inr r ↦ behind r
       ]
   by false it = let there : Among (rows_of (filter p us)) row = rw it at i in behind there
@@ -101,5 +101,5 @@ least-ready tasks lacking ready found counted some_ least = least-is (rows_of (f
   is-least : (r : ℕ) → Among (rows_of (filter (is_ready tasks) tasks)) r → (m : ℕ) × (found ≡ Some m) × (m ≤ r)
   is-least r i =
       let from = in-passes (is_ready tasks) tasks r i in
-      let ready_ : (if is_ready tasks from.1.0 then Some from.1.0.row else None) ≡ Some r = ap (λ b. if b then Some from.1.0.row else None) from.1.1.1.0 ∙ ap Some from.1.1.1.1 in
-      least from.0 r (at from.0 from.1.0 from.1.1.0 ∙ ready_)
+      let ready_ : (if is_ready tasks from.1 then Some from.1.row else None) ≡ Some r = ap (λ b. if b then Some from.1.row else None) from.3 ∙ ap Some from.4 in
+      least from.0 r (at from.0 from.1 from.2 ∙ ready_)

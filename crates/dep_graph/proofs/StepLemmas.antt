@@ -65,7 +65,7 @@ module _ (tasks : List Task) (names : List ℕ) (before now : Progress) (i name 
   counts-fit fits =
       let held : slice_get names i ≡ Some name = slice_get-of names i name within at in
       let found = fits place task there (ap (is_in names) row_is ∙ at-in names i name held) in
-      (found.0, (found.1.0, subst (λ n. IsMoved true task.needs before now n found.0) (sym still) found.1.1))
+      (found.0, found.1, subst (λ n. IsMoved true task.needs before now n found.0) (sym still) found.2)
     where
       slice_get-of : (xs : List ℕ) (k x : ℕ) → k < length xs → x ≡ get_or xs k x → slice_get xs k ≡ Some x
       slice_get-of xs k x lt is = slice_get_read xs (length xs) k x refl lt is

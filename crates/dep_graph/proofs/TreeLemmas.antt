@@ -22,13 +22,13 @@ some-is x y is = cc
 
 lesser-left : (a b : Option ℕ) (row : ℕ) → a ≡ Some row → (least : ℕ) × (lesser a b ≡ Some least) × (least ≤ row)
 lesser-left None b row is = absurd (none-some row is)
-lesser-left (Some x) None row is = let same = some-is x row is in (x, (refl, omega arith))
-lesser-left (Some x) (Some y) row is = let same = some-is x row is in (min x y, (refl, omega arith))
+lesser-left (Some x) None row is = let same = some-is x row is in (x, refl, omega arith)
+lesser-left (Some x) (Some y) row is = let same = some-is x row is in (min x y, refl, omega arith)
 
 lesser-right : (a b : Option ℕ) (row : ℕ) → b ≡ Some row → (least : ℕ) × (lesser a b ≡ Some least) × (least ≤ row)
-lesser-right None b row is = (row, (is, omega arith))
+lesser-right None b row is = (row, is, omega arith)
 lesser-right (Some x) None row is = absurd (none-some row is)
-lesser-right (Some x) (Some y) row is = let same = some-is y row is in (min x y, (refl, omega arith))
+lesser-right (Some x) (Some y) row is = let same = some-is y row is in (min x y, refl, omega arith)
 
 lesser-from : (a b : Option ℕ) (row : ℕ) → lesser a b ≡ Some row → (a ≡ Some row) ⊎ (b ≡ Some row)
 lesser-from None b row is = inr is
@@ -60,21 +60,21 @@ module _ (nodes : List (Option ℕ)) (tree : IsTree nodes) where
     by : (k ≡ 2 * (k / 2)) ⊎ (k ≢ 2 * (k / 2)) → (least : ℕ) × (node_at nodes (k / 2) ≡ Some least) × (least ≤ row)
     by (inl is) =
         let found = lesser-left (node_at nodes (2 * (k / 2))) (node_at nodes (2 * (k / 2) + 1)) row (ap (node_at nodes) (sym is) ∙ at) in
-        (found.0, (both ∙ found.1.0, found.1.1))
+        (found.0, both ∙ found.1, found.2)
     by (inr ne) =
         let is : 2 * (k / 2) + 1 ≡ k = omega arith in
         let found = lesser-right (node_at nodes (2 * (k / 2))) (node_at nodes (2 * (k / 2) + 1)) row (ap (node_at nodes) is ∙ at) in
-        (found.0, (both ∙ found.1.0, found.1.1))
+        (found.0, both ∙ found.1, found.2)
 
   top-least : (most k row : ℕ) → k ≤ most → 0 < k → node_at nodes k ≡ Some row → (least : ℕ) × (node_at nodes 1 ≡ Some least) × (least ≤ row)
   top-least zero k row fuel pos at = absurd (omega arith)
   top-least (suc most) k row fuel pos at = by (same? k 1) where
     by : (k ≡ 1) ⊎ (k ≢ 1) → (least : ℕ) × (node_at nodes 1 ≡ Some least) × (least ≤ row)
-    by (inl is) = (row, (ap (node_at nodes) (sym is) ∙ at, omega arith))
+    by (inl is) = (row, ap (node_at nodes) (sym is) ∙ at, omega arith)
     by (inr ne) =
         let up = step-up k row (omega arith) at in
-        let rest = top-least most (k / 2) up.0 (omega arith) (omega arith) up.1.0 in
-        (rest.0, (rest.1.0, omega (arith, rest.1.1, up.1.1)))
+        let rest = top-least most (k / 2) up.0 (omega (arith, ne)) (omega (arith, ne, pos)) up.1 in
+        (rest.0, rest.1, omega (arith, rest.2, up.2))
 
   leaf-from : (fuel at row : ℕ) → length nodes ≤ at + fuel → 0 < at → node_at nodes at ≡ Some row → (place : ℕ) × (node_at nodes (length nodes / 2 + place) ≡ Some row)
   leaf-from zero at row enough pos is = absurd (let within = node-within nodes at row is in omega arith)
@@ -108,7 +108,7 @@ but-first nodes leaf v tree inner at pos ne within =
 -- a node is made right
 pub but-more : (nodes : List (Option ℕ)) (up : ℕ) → IsTreeBut up nodes → 0 < up → up < length nodes → IsTreeBut (up / 2) (slice_set nodes up (lesser (node_at nodes (2 * up)) (node_at nodes (2 * up + 1))))
 but-more nodes up but pos lt at above ne within = by (same? at up) where
-  v : Option ℕ
+  abbrev v : Option ℕ
   v = lesser (node_at nodes (2 * up)) (node_at nodes (2 * up + 1))
 
   long : length (slice_set nodes up v) ≡ length nodes
@@ -283,8 +283,8 @@ widened-more nodes half wide place tree later v so within is tree_ long leaves =
       subst P (sym here) (leaves (wide + place) (let n = so.long in omega arith) ∙ (get_or-set_same tree (wide + place) v None (let n = so.long in omega arith) ∙ is))
   at k below (inr ne) = leaves (wide + k) (let n = so.long in omega arith) ∙ (get_or-set_other tree (wide + place) (wide + k) v None (omega arith) ∙ so.moved k (omega arith))
 
-pub widened-kept : (nodes : List (Option ℕ)) (half wide place : ℕ) (tree : List (Option ℕ)) → IsTree nodes → half ≡ length nodes / 2 → half ≤ place → IsWidened nodes half wide place tree → (k : ℕ) → node_at (leaves_of tree) k ≡ node_at (leaves_of nodes) k
-widened-kept nodes half wide place tree even_ is past so k = there ∙ by (under? half k) where
+pub widened-kept : (nodes : List (Option ℕ)) (half wide place : ℕ) (tree : List (Option ℕ)) → IsWidened nodes half wide place tree → IsTree nodes → half ≡ length nodes / 2 → half ≤ place → (k : ℕ) → node_at (leaves_of tree) k ≡ node_at (leaves_of nodes) k
+widened-kept nodes half wide place tree so even_ is past k = there ∙ by (under? half k) where
   there : node_at (leaves_of tree) k ≡ node_at tree (wide + k)
   there = leaf-at tree k ∙ ap (λ n. node_at tree (n + k)) (let n = so.long in let e : length tree / 2 ≡ wide = omega arith in e)
 

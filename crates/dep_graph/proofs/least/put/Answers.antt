@@ -3,7 +3,7 @@ use Rattle.dep_graph.proofs.TreeLemmas.{climb-first, climb-more, climb-end}
 use Rattle.dep_graph.proofs.least.put.Goals as goal
 
 pub loop-at-init : goal.loop-at-init
-loop-at-init c = climb-first c.args.nodes.now.items c.args.leaf c.args.row c.requires.tree c.requires.leaf.0 c.requires.leaf.1.0 c.requires.leaf.1.1
+loop-at-init c = climb-first c.args.nodes.now.items c.args.leaf c.args.row c.requires.tree c.requires.leaf.0 c.requires.leaf.1 c.requires.leaf.2
 
 pub loop-at-preserved : goal.loop-at-preserved
 loop-at-preserved c =

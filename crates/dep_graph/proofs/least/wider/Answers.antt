@@ -7,7 +7,7 @@ loop-place-init c = widened-first c.args.nodes.now _ _ c.in_ok-tree.tree.items c
 
 pub loop-place-preserved : goal.loop-place-preserved
 loop-place-preserved c =
-    widened-more c.args.nodes.now _ _ c.loop-place.place c.loop-place.tree.items c.put.new.nodes.items _ c.loop-place.invariant (omega arith) refl c.put.ensures.tree c.put.ensures.long c.put.ensures.leaves
+    widened-more c.args.nodes.now _ _ c.loop-place.place c.loop-place.tree.items c.put.new.nodes.items _ c.loop-place.invariant (omega arith) (search rules) c.put.ensures.tree c.put.ensures.long c.put.ensures.leaves
 
 pub returns-clause-tree : goal.returns-clause-tree
 returns-clause-tree c = c.loop-place.invariant.tree
@@ -16,4 +16,4 @@ pub returns-clause-wide : goal.returns-clause-wide
 returns-clause-wide c = let long = c.loop-place.invariant.long in (omega arith, omega arith)
 
 pub returns-clause-kept : goal.returns-clause-kept
-returns-clause-kept c = widened-kept c.args.nodes.now _ _ c.loop-place.place c.loop-place.tree.items c.requires refl (search (rules, arith)) c.loop-place.invariant
+returns-clause-kept c = widened-kept c.args.nodes.now _ _ c.loop-place.place c.loop-place.tree.items c.loop-place.invariant c.requires (search rules) (search (rules, arith))

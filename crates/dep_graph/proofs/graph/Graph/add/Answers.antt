@@ -20,8 +20,8 @@ count_lacking-requires c = c.self.invariant.0.own_rows
 pub push-requires : goal.push-requires
 push-requires c =
     let taken = sym c.take.ensures.value ∙ c.in-Some.is in
-    let room = c.self.invariant.1.1 c.in-Some.addition taken in
-    let long = c.self.invariant.1.0.long in
+    let room = c.self.invariant.2 c.in-Some.addition taken in
+    let long = c.self.invariant.1.long in
     record { count = room.0; place = omega (arith, long, room.1) }
 
 pub add_edges-requires : goal.add_edges-requires
@@ -78,12 +78,13 @@ invariant_of-self c =
     c.add_edges.ensures.edges ∙ rw (row_is, needs_are) refl in
     let are : edges_of c.add_task.new.edges.items ≡ with_edges (rows_of tasks) node.row node.dependencies (edges_of g.edges.items) ++ own_edges node.row node.dependencies ∷ [] =
     c.add_task.ensures.edges ∙ ap (λ l. l ++ own_edges node.row node.dependencies ∷ []) lists in
-    let room = c.self.invariant.1.1 c.in-Some.addition taken in
+    let room = c.self.invariant.2 c.in-Some.addition taken in
     let created = (c.self.invariant.0.room_is c.in-Some.addition taken).created in
     let count : c.count_lacking-lacking.result ≡ lacks tasks c.args.needs node.dependencies = c.count_lacking-lacking.ensures.lacks ∙ ap (lacks tasks c.args.needs) (sym needs_are) in
-    let counted = counted-added tasks g.waits.lacking.items g.waits.ready c.push.new.self.ready t c.count_lacking-lacking.result c.self.invariant.1.0 created (subst (IsDistinct ◌==◌) (sym needs_are) c.requires.distinct) (subst (λ (l : List ℕ). length l < 2 ^ 63) (sym needs_are) c.count_lacking-lacking.ensures.few)
+    let counted = counted-added tasks g.waits.lacking.items g.waits.ready c.push.new.self.ready t c.count_lacking-lacking.result c.self.invariant.1 created (subst (IsDistinct ◌==◌) (sym needs_are) c.requires.distinct) (subst (λ (l : List ℕ). length l < 2 ^ 63) (sym needs_are) c.count_lacking-lacking.ensures.few)
     count room.1 c.push.ensures.ready in
     rw (c.add_task.ensures.tasks, c.take.ensures.after, c.push.ensures.lacking) (
       kept-added tasks g.edges.items c.add_task.new.edges.items g.tasks.capacity (vec_capacity g.edges) c.add_task.new.tasks.capacity (vec_capacity c.add_task.new.edges) g.room t c.self.invariant.0 new stand are,
-      (counted, λ x is. absurd (let e : None ≡ Some x = is in cc)),
+      counted,
+      λ x is. absurd (let e : None ≡ Some x = is in cc),
     )

@@ -7,4 +7,4 @@ use Rattle.dep_graph.proofs.graph.Graph.ready.Goals as goal
 pub returns : goal.returns
 returns c =
     let g = c.self.inside in
-    least-ready g.tasks.tasks g.waits.lacking.items g.waits.ready c.least.result c.self.invariant.1.0 c.least.ensures.some c.least.ensures.least ∙ ap (λ (g : TaskGraph). ready_row g.tasks) c.self.view_is
+    least-ready g.tasks.tasks g.waits.lacking.items g.waits.ready c.least.result c.self.invariant.1 c.least.ensures.some c.least.ensures.least ∙ ap (λ (g : TaskGraph). ready_row g.tasks) c.self.view_is

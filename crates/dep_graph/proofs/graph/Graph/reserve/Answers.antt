@@ -30,8 +30,6 @@ invariant_of-self-2 c =
             created = ap (λ (t : Task). t.progress) c.in_ok-new.ensures.node;
             rooms = subst (λ l. HasRooms (rows_of now.tasks) l edges.items) (sym needs_are) room.rooms;
           }),
-      (
-        counted-same g.tasks.tasks now.tasks g.waits.lacking.items waits.lacking.items g.waits.ready waits.ready c.self.invariant.1.0 told.tasks told.lacking told.more told.ready,
-        λ addition is. (room.count, room.place),
-      ),
+      counted-same g.tasks.tasks now.tasks g.waits.lacking.items waits.lacking.items g.waits.ready waits.ready c.self.invariant.1 told.tasks told.lacking told.more told.ready,
+      λ addition is. (room.count, room.place),
     )

@@ -9,7 +9,7 @@ pub proceed-requires : goal.proceed-requires
 proceed-requires c = record {
   own = c.self.invariant.0.own_rows;
   edges = ap edges_of c.deref.ensures.value ∙ c.self.invariant.0.edges_are;
-  counted = c.self.invariant.1.0;
+  counted = c.self.invariant.1;
 }
 
 pub invariant_of-self : goal.invariant_of-self
@@ -17,18 +17,19 @@ invariant_of-self c =
     let g = c.self.inside in
     let now = c.proceed.new.tasks in
     let P : List Task → Type 0 = λ l. IsKept l g.edges.items now.capacity (vec_capacity g.edges) g.room in
-    let old = c.self.invariant.1.0 in
+    let old = c.self.invariant.1 in
     let new = c.proceed.ensures.counted in
     (
       subst P (sym c.proceed.ensures.tasks) (kept-moved g.tasks.tasks g.edges.items g.tasks.capacity now.capacity (vec_capacity g.edges) c.args.row c.args.progress g.room c.proceed.ensures.task_room c.self.invariant.0),
-      (new, λ addition is.
-          let had = c.self.invariant.1.1 addition is in
+      new,
+      λ addition is.
+          let had = c.self.invariant.2 addition is in
           let long = moved-long g.tasks.tasks now.tasks c.args.row c.args.progress c.proceed.ensures.tasks in
           let a = old.long in
           let b = new.long in
           let room = c.proceed.ensures.count_room in
           let places = c.proceed.ensures.places in
-          (omega (arith, had.0, long, a, b, room), omega (arith, had.1, long, places))),
+          (omega (arith, had.0, long, a, b, room), omega (arith, had.1, long, places)),
     )
 
 pub returns : goal.returns

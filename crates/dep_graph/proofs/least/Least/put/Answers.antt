@@ -19,7 +19,7 @@ put-requires c =
     let long = leaves-long nodes c.self.invariant in
     let is = ap length c.self.view_is in
     let below = c.requires in
-    record { leaf = (omega arith, (omega arith, omega arith)); tree = c.self.invariant }
+    record { leaf = (omega arith, omega arith, omega arith); tree = c.self.invariant }
 
 pub invariant_of-self : goal.invariant_of-self
 invariant_of-self c = c.put.ensures.tree

@@ -9,4 +9,4 @@ invariant_of-self c = subst (λ (l : List Task). KnowsPlaces (rows_of l) c.self.
 
 pub invariant_of-self-2 : goal.invariant_of-self-2
 invariant_of-self-2 c =
-    subst (λ (l : List Task). KnowsPlaces (rows_of l) c.reserve-2.new.self) (sym c.reserve.ensures.items) (knows-same (rows_of c.self.inside.nodes.items) c.self.inside.places c.reserve-2.new.self c.self.invariant c.reserve-2.ensures.entries.1.1)
+    subst (λ (l : List Task). KnowsPlaces (rows_of l) c.reserve-2.new.self) (sym c.reserve.ensures.items) (knows-same (rows_of c.self.inside.nodes.items) c.self.inside.places c.reserve-2.new.self c.self.invariant c.reserve-2.ensures.entries.2)

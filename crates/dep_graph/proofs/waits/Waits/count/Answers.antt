@@ -15,4 +15,4 @@ returns-clause-counted c =
     let held = slice_index c.args.self.now.lacking.items c.args.place in
     let n = c.counted-lacking.result in
     let moved : IsMoved true c.args.task.now.needs step.before step.now held n = subst (λ (needs : Requires). IsMoved true needs step.before step.now held n) c.needs.ensures c.counted-lacking.ensures in
-    (n, (moved, (refl, c.put.ensures ∙ ap (slice_set c.args.self.now.ready c.args.place) c.shown.ensures)))
+    (n, moved, refl, c.put.ensures ∙ ap (slice_set c.args.self.now.ready c.args.place) c.shown.ensures)

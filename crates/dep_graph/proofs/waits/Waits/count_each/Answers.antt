@@ -50,7 +50,7 @@ loop-row-preserved c =
           let counted = w.count.ensures.counted in
           rw w.self-is (
             counts-at tasks names c.args.step.before c.args.step.now i name w.in-Some.place w.at.result.now c.args.self.now.lacking.items c.loop-row.self.lacking.items c.args.self.now.ready c.loop-row.self.ready c.requires.own c.requires.distinct within next w.in-Some.ensures.some w.at.ensures so
-                w.count.new.self.lacking.items w.count.new.self.ready counted.0 (omega (arith, below, long, same)) (omega (arith, below, fit, wide)) counted.1.0 counted.1.1.0 counted.1.1.1,
+                w.count.new.self.lacking.items w.count.new.self.ready counted.0 (omega (arith, below, long, same)) (omega (arith, below, fit, wide)) counted.1 counted.2 counted.3,
             w.count.ensures.capacity ∙ c.loop-row.invariant.1,
           )
       | in-None w ↦
