@@ -38,16 +38,17 @@ lacks-alike old new needs same (d ∷ ds) =
     let here : from_bool (not (row_serves new needs d)) ≡ from_bool (not (row_serves old needs d)) = ap (λ b. from_bool (not b)) (same d) in
     omega (arith, one, other, rest, here)
 
-pub lacks-few : (tasks : List Task) (needs : Requires) (ds : List ℕ) → lacks tasks needs ds ≤ length ds
-lacks-few tasks needs [] = omega arith
-lacks-few tasks needs (d ∷ ds) = let one = lacks-cons tasks needs d ds in let rest = lacks-few tasks needs ds in by (row_serves tasks needs d) refl where
-  by : (b : Bool) → row_serves tasks needs d ≡ b → lacks tasks needs (d ∷ ds) ≤ length (d ∷ ds)
-  by true is = let rest = lacks-few tasks needs ds in rw is (omega arith)
-  by false is = let rest = lacks-few tasks needs ds in rw is (omega arith)
-
 pub one-most : (b : Bool) → from_bool b ≤ 1
 one-most true = omega arith
 one-most false = omega arith
+
+pub lacks-few : (tasks : List Task) (needs : Requires) (ds : List ℕ) → lacks tasks needs ds ≤ length ds
+lacks-few tasks needs [] = omega arith
+lacks-few tasks needs (d ∷ ds) =
+    let one = lacks-cons tasks needs d ds in
+    let rest = lacks-few tasks needs ds in
+    let most = one-most (not (row_serves tasks needs d)) in
+    omega (arith, one, rest, most)
 
 lacks-last : (tasks : List Task) (needs : Requires) (ds : List ℕ) (d : ℕ) → lacks tasks needs (ds ++ d ∷ []) ≡ lacks tasks needs ds + from_bool (not (row_serves tasks needs d))
 lacks-last tasks needs [] d = let one = lacks-cons tasks needs d [] in omega (arith, one)

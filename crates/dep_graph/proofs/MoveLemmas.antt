@@ -191,7 +191,7 @@ pub counted-added : (tasks : List Task) (lacking : List ℕ) (ready later : List
     → n ≡ lacks tasks t.needs t.dependencies → length tasks < length ready → later ≡ slice_set ready (length lacking) (shown t n) → AreCounted (tasks ++ t ∷ []) (lacking ++ n ∷ []) later
 counted-added tasks lacking ready later t n are created distinct few is fit put_ = record {
   long = let a = are.long in let b = length-append lacking (n ∷ []) in let c = length-append tasks (t ∷ []) in omega (arith, a, b, c);
-  fit = let a = length-append tasks (t ∷ []) in let b = length-set ready (length lacking) shows in let c = ap length put_ in omega (arith, a, b, c, fit);
+  fit = let a = length-append tasks (t ∷ []) in let b = length-set ready (length lacking) (shown t n) in let c = ap length put_ in omega (arith, a, b, c, fit);
   counted = λ p task there. elim (at-push tasks t p task there) [
     | inl before ↦ at-first p (lt p task before) ∙ (are.counted p task before ∙ sym (same task.needs task.dependencies))
     | inr last ↦ at-last p last.0 ∙ (is ∙ (sym (same t.needs t.dependencies) ∙ ap (λ (x : Task). lacks (tasks ++ t ∷ []) x.needs x.dependencies) (sym last.1)))
@@ -206,9 +206,6 @@ counted-added tasks lacking ready later t n are created distinct few is fit put_
     | inr last ↦ subst (λ (x : Task). IsDistinct ◌==◌ x.dependencies) (sym last.1) distinct
   ];
 } where
-  abbrev shows : Option ℕ
-  shows = shown t n
-
   same : (needs : Requires) (ds : List ℕ) → lacks (tasks ++ t ∷ []) needs ds ≡ lacks tasks needs ds
   same needs ds = lacks-alike tasks (tasks ++ t ∷ []) needs (λ d. serves-added tasks t needs d created) ds
 
@@ -225,7 +222,7 @@ counted-added tasks lacking ready later t n are created distinct few is fit put_
   each p (inl here) =
       let long = are.long in
       let place : p ≡ length lacking = here ∙ sym long in
-      let one : node_at later p ≡ shows = ap (λ l. node_at l p) put_ ∙ (ap (node_at (slice_set ready (length lacking) shows)) place ∙ get_or-set_same ready (length lacking) shows None (omega (arith, fit, long))) in
+      let one : node_at later p ≡ (shown t n) = ap (λ l. node_at l p) put_ ∙ (ap (node_at (slice_set ready (length lacking) (shown t n))) place ∙ get_or-set_same ready (length lacking) (shown t n) None (omega (arith, fit, long))) in
       let there : slice_get (tasks ++ t ∷ []) p ≡ Some t = ap (slice_get (tasks ++ t ∷ [])) here ∙ get-last tasks t in
       one ∙ (ap (shown t) (sym (at-last p here)) ∙ ap (λ o. shown_at o (slice_index (lacking ++ n ∷ []) p)) (sym there))
   each p (inr (inl below)) = first (slice_get tasks p) refl where
@@ -233,7 +230,7 @@ counted-added tasks lacking ready later t n are created distinct few is fit put_
     other = omega (arith, are.long, below)
 
     one : node_at later p ≡ node_at ready p
-    one = ap (λ l. node_at l p) put_ ∙ get_or-set_other ready (length lacking) p shows None other
+    one = ap (λ l. node_at l p) put_ ∙ get_or-set_other ready (length lacking) p (shown t n) None other
 
     first : (o : Option Task) → slice_get tasks p ≡ o → node_at later p ≡ shown_at (slice_get (tasks ++ t ∷ []) p) (slice_index (lacking ++ n ∷ []) p)
     first None none = absurd (none-within tasks p below none)
@@ -245,7 +242,7 @@ counted-added tasks lacking ready later t n are created distinct few is fit put_
     none-within (x ∷ xs) (suc k) lt_ no_ = none-within xs k (omega arith) no_
   each p (inr (inr above)) =
       let other : p ≢ length lacking = omega (arith, are.long, above) in
-      let one : node_at later p ≡ node_at ready p = ap (λ l. node_at l p) put_ ∙ get_or-set_other ready (length lacking) p shows None other in
+      let one : node_at later p ≡ node_at ready p = ap (λ l. node_at l p) put_ ∙ get_or-set_other ready (length lacking) p (shown t n) None other in
       let old : slice_get tasks p ≡ None = slice_get_past tasks p (omega (arith, above)) in
       let long = length-append tasks (t ∷ []) in
       let new : slice_get (tasks ++ t ∷ []) p ≡ None = slice_get_past (tasks ++ t ∷ []) p (omega (arith, above, long)) in

@@ -55,18 +55,18 @@ passes-in p (u ∷ us) (suc place) t at is = by (passes-in p us place t at is) (
 
 in-passes : (p : Task → Bool) (tasks : List Task) (row : ℕ) → Among (rows_of (filter p tasks)) row → (place : ℕ) × (t : Task) × (slice_get tasks place ≡ Some t) × (p t ≡ true) × (t.row ≡ row)
 in-passes p [] row i = absurd i
-in-passes p (u ∷ us) row i = by (p u) refl where
-  behind : Among (rows_of (filter p us)) row → (place : ℕ) × (t : Task) × (slice_get (u ∷ us) place ≡ Some t) × (p t ≡ true) × (t.row ≡ row)
-  behind r = let found = in-passes p us row r in (suc found.0, found.1, found.2, found.3, found.4)
+in-passes p (u ∷ us) row i = by (in-passes p us row) (p u) refl where
+  behind : (place : ℕ) × (t : Task) × (slice_get us place ≡ Some t) × (p t ≡ true) × (t.row ≡ row) → (place : ℕ) × (t : Task) × (slice_get (u ∷ us) place ≡ Some t) × (p t ≡ true) × (t.row ≡ row)
+  behind found = (suc found.0, found.1, found.2, found.3, found.4)
 
-  by : (b : Bool) → p u ≡ b → (place : ℕ) × (t : Task) × (slice_get (u ∷ us) place ≡ Some t) × (p t ≡ true) × (t.row ≡ row)
-  by true it =
+  by : (Among (rows_of (filter p us)) row → (place : ℕ) × (t : Task) × (slice_get us place ≡ Some t) × (p t ≡ true) × (t.row ≡ row)) → (b : Bool) → p u ≡ b → (place : ℕ) × (t : Task) × (slice_get (u ∷ us) place ≡ Some t) × (p t ≡ true) × (t.row ≡ row)
+  by rest true it =
       let there : (u.row ≡ row) ⊎ Among (rows_of (filter p us)) row = rw it at i in
       elim there [
         | inl e ↦ (0, u, refl, it, e)
-        | inr r ↦ behind r
+        | inr r ↦ behind (rest r)
       ]
-  by false it = let there : Among (rows_of (filter p us)) row = rw it at i in behind there
+  by rest false it = let there : Among (rows_of (filter p us)) row = rw it at i in behind (rest there)
 
 -- what is shown of a task is its row where it is ready
 shown-ready : (all : List Task) (t : Task) (n : ℕ) → n ≡ lacks all t.needs t.dependencies → shown t n ≡ (if is_ready all t then Some t.row else None)

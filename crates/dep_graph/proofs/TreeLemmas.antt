@@ -68,24 +68,24 @@ module _ (nodes : List (Option ℕ)) (tree : IsTree nodes) where
 
   top-least : (most k row : ℕ) → k ≤ most → 0 < k → node_at nodes k ≡ Some row → (least : ℕ) × (node_at nodes 1 ≡ Some least) × (least ≤ row)
   top-least zero k row fuel pos at = absurd (omega arith)
-  top-least (suc most) k row fuel pos at = by (same? k 1) where
-    by : (k ≡ 1) ⊎ (k ≢ 1) → (least : ℕ) × (node_at nodes 1 ≡ Some least) × (least ≤ row)
-    by (inl is) = (row, ap (node_at nodes) (sym is) ∙ at, omega arith)
-    by (inr ne) =
-        let up = step-up k row (omega arith) at in
-        let rest = top-least most (k / 2) up.0 (omega (arith, ne)) (omega (arith, ne, pos)) up.1 in
+  top-least (suc most) k row fuel pos at = by (top-least most) (same? k 1) where
+    by : ((k row : ℕ) → k ≤ most → 0 < k → node_at nodes k ≡ Some row → (least : ℕ) × (node_at nodes 1 ≡ Some least) × (least ≤ row)) → (k ≡ 1) ⊎ (k ≢ 1) → (least : ℕ) × (node_at nodes 1 ≡ Some least) × (least ≤ row)
+    by above (inl is) = (row, ap (node_at nodes) (sym is) ∙ at, omega arith)
+    by above (inr ne) =
+        let up = step-up k row (omega (arith, ne, pos)) at in
+        let rest = above (k / 2) up.0 (omega (arith, ne, pos, fuel)) (omega (arith, ne, pos)) up.1 in
         (rest.0, rest.1, omega (arith, rest.2, up.2))
 
   leaf-from : (fuel at row : ℕ) → length nodes ≤ at + fuel → 0 < at → node_at nodes at ≡ Some row → (place : ℕ) × (node_at nodes (length nodes / 2 + place) ≡ Some row)
-  leaf-from zero at row enough pos is = absurd (let within = node-within nodes at row is in omega arith)
-  leaf-from (suc fuel) at row enough pos is = by (under? (length nodes) (2 * at + 1)) where
-    by : (length nodes ≤ 2 * at + 1) ⊎ (2 * at + 1 < length nodes) → (place : ℕ) × (node_at nodes (length nodes / 2 + place) ≡ Some row)
-    by (inl leaf) =
+  leaf-from zero at row enough pos is = absurd (let within = node-within nodes at row is in omega (arith, within, enough))
+  leaf-from (suc fuel) at row enough pos is = by (leaf-from fuel) (under? (length nodes) (2 * at + 1)) where
+    by : ((at row : ℕ) → length nodes ≤ at + fuel → 0 < at → node_at nodes at ≡ Some row → (place : ℕ) × (node_at nodes (length nodes / 2 + place) ≡ Some row)) → (length nodes ≤ 2 * at + 1) ⊎ (2 * at + 1 < length nodes) → (place : ℕ) × (node_at nodes (length nodes / 2 + place) ≡ Some row)
+    by below (inl leaf) =
         let same : at ≡ length nodes / 2 + (at - length nodes / 2) = omega (arith, leaf, tree.even) in
         (at - length nodes / 2, ap (node_at nodes) (sym same) ∙ is)
-    by (inr inner) = elim (lesser-from (node_at nodes (2 * at)) (node_at nodes (2 * at + 1)) row (sym (tree.above at pos inner) ∙ is)) [
-      | inl left ↦ leaf-from fuel (2 * at) row (omega arith) (omega arith) left
-      | inr right ↦ leaf-from fuel (2 * at + 1) row (omega arith) (omega arith) right
+    by below (inr inner) = elim (lesser-from (node_at nodes (2 * at)) (node_at nodes (2 * at + 1)) row (sym (tree.above at pos inner) ∙ is)) [
+      | inl left ↦ below (2 * at) row (omega (arith, enough, pos)) (omega (arith, pos)) left
+      | inr right ↦ below (2 * at + 1) row (omega (arith, enough, pos)) (omega (arith, pos)) right
     ]
 
 -- ---- a node changes
@@ -106,23 +106,20 @@ but-first nodes leaf v tree inner at pos ne within =
     untouched nodes leaf at v (omega arith) (omega arith) (omega arith) (tree.above at pos (omega arith))
 
 -- a node is made right
-pub but-more : (nodes : List (Option ℕ)) (up : ℕ) → IsTreeBut up nodes → 0 < up → up < length nodes → IsTreeBut (up / 2) (slice_set nodes up (lesser (node_at nodes (2 * up)) (node_at nodes (2 * up + 1))))
-but-more nodes up but pos lt at above ne within = by (same? at up) where
-  abbrev v : Option ℕ
-  v = lesser (node_at nodes (2 * up)) (node_at nodes (2 * up + 1))
-
+pub but-more : (nodes : List (Option ℕ)) (up : ℕ) (v : Option ℕ) → v ≡ lesser (node_at nodes (2 * up)) (node_at nodes (2 * up + 1)) → IsTreeBut up nodes → 0 < up → up < length nodes → IsTreeBut (up / 2) (slice_set nodes up v)
+but-more nodes up v is but pos lt at above ne within = by (same? at up) where
   long : length (slice_set nodes up v) ≡ length nodes
   long = length-set nodes up v
 
   here : node_at (slice_set nodes up v) up ≡ lesser (node_at (slice_set nodes up v) (2 * up)) (node_at (slice_set nodes up v) (2 * up + 1))
   here =
-      get_or-set_same nodes up v None lt ∙ (ap (λ x. lesser x (node_at nodes (2 * up + 1))) (sym (get_or-set_other nodes up (2 * up) v None (omega arith))) ∙ ap (lesser (node_at (slice_set nodes up v) (2 * up))) (sym (get_or-set_other nodes up (2 * up + 1) v None (omega arith))))
+      get_or-set_same nodes up v None lt ∙ (is ∙ (ap (λ x. lesser x (node_at nodes (2 * up + 1))) (sym (get_or-set_other nodes up (2 * up) v None (omega arith))) ∙ ap (lesser (node_at (slice_set nodes up v) (2 * up))) (sym (get_or-set_other nodes up (2 * up + 1) v None (omega arith)))))
 
   by : (at ≡ up) ⊎ (at ≢ up) → node_at (slice_set nodes up v) at ≡ lesser (node_at (slice_set nodes up v) (2 * at)) (node_at (slice_set nodes up v) (2 * at + 1))
-  by (inl is) =
+  by (inl same) =
       let P : ℕ → Type 0 = λ k. node_at (slice_set nodes up v) k ≡ lesser (node_at (slice_set nodes up v) (2 * k)) (node_at (slice_set nodes up v) (2 * k + 1)) in
-      subst P (sym is) here
-  by (inr not) = untouched nodes up at v not (omega arith) (omega arith) (but at above not (omega arith))
+      subst P (sym same) here
+  by (inr not) = untouched nodes up at v not (omega arith) (omega arith) (but at above not (omega (arith, long, within)))
 
 -- the leaves stay where an inner node changes
 pub leaves-stay : (nodes before : List (Option ℕ)) (up k : ℕ) (v : Option ℕ) → 2 * up + 1 < length nodes → length nodes ≤ 2 * k → node_at nodes k ≡ node_at before k → node_at (slice_set nodes up v) k ≡ node_at before k
@@ -225,7 +222,7 @@ climb-more before nodes at leaf row v tree so above is = record {
   above = omega arith;
   within = let same = length-set nodes (at / 2) v in omega (arith, so.within);
   long = length-set nodes (at / 2) v ∙ so.long;
-  but = subst (λ (x : Option ℕ). IsTreeBut (at / 2 / 2) (slice_set nodes (at / 2) x)) (sym is) (but-more nodes (at / 2) so.but (omega arith) (omega (arith, so.within)));
+  but = but-more nodes (at / 2) v is so.but (omega arith) (omega (arith, so.within));
   leaves = λ k past. leaves-stay nodes (slice_set before leaf row) (at / 2) k v (omega (arith, so.within, so.long, tree.even)) (omega (arith, so.long, past)) (so.leaves k past);
 }
 
