@@ -193,12 +193,6 @@ least-all nodes tree place row is =
     let half : 0 < length nodes / 2 + place = omega arith in
     top-least nodes tree (length nodes / 2 + place) (length nodes / 2 + place) row (omega arith) half (sym (leaf-at nodes place) ∙ is)
 
-pub least-none : (nodes : List (Option ℕ)) → IsTree nodes → length nodes < 2 → (place row : ℕ) → node_at (leaves_of nodes) place ≡ Some row → ⊥
-least-none nodes tree short place row is =
-    let within = node-within (leaves_of nodes) place row is in
-    let long = leaves-long nodes tree in
-    omega arith
-
 -- ---- a leaf changes, and then what is above it
 
 pub record IsClimbing (before nodes : List (Option ℕ)) (at leaf : ℕ) (row : Option ℕ) : Type 0 where

@@ -69,11 +69,15 @@ impl Least {
         ensures some { IfSome result (λ least. (place : ℕ) × (node_at self.now place ≡ Some least)) }
         ensures least { (place row : ℕ) → node_at self.now place ≡ Some row → (least : ℕ) × (result ≡ Some least) × (least ≤ row) }
     {
-        if self.nodes.len() < 2 {
-            return None;
-        }
-        self.nodes[1]
+        top(&self.nodes)
     }
+}
+
+/// What stands at the top of a tree.
+fn top(nodes: &[Option<u32>]) -> Option<u32>
+    ensures { result ≡ node_at nodes.now 1 }
+{
+    nodes.get(1).copied().unwrap_or(None)
 }
 
 /// A tree of twice as many places, and of so many at least.
