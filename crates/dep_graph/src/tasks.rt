@@ -73,7 +73,8 @@ impl Tasks {
         ensures room { OnOk result (length self.new.tasks < self.new.capacity) }
     {
         self.nodes.reserve(1)?;
-        self.places.reserve(1)
+        self.places.reserve(1)?;
+        Ok(())
     }
 
     /// Adds a task, for which there is room.
