@@ -24,6 +24,9 @@ use Rattle.dep_graph.proofs.TreeLemmas.{same?}
 abbrev further : ℕ → Progress → Task → Task
 further row now task = if task.row == row then record task { progress = now } else task
 
+far-long : (row : ℕ) (now : Progress) (tasks : List Task) → length (moved row now tasks) ≡ length tasks
+far-long row now tasks = length-map tasks (further row now)
+
 further-row : (row : ℕ) (now : Progress) (t : Task) → ((further row now t).row ≡ t.row) × ((further row now t).needs ≡ t.needs) × ((further row now t).dependencies ≡ t.dependencies)
 further-row row now t = by (t.row == row) refl where
   by : (b : Bool) → (t.row == row) ≡ b → ((further row now t).row ≡ t.row) × ((further row now t).needs ≡ t.needs) × ((further row now t).dependencies ≡ t.dependencies)
@@ -123,8 +126,8 @@ module _ (tasks : List Task) (lacking : List ℕ) (ready : List (Option ℕ)) (r
       → ((p : ℕ) (task : Task) → slice_get (moved row now tasks) p ≡ Some task → IsMoved (is_in names task.row) task.needs t.progress now (slice_index lacking p) (slice_index after p))
       → ShowReady (moved row now tasks) after later → AreCounted (moved row now tasks) after later
   counted-moved names after later names_are long fit counted shown_ = record {
-    long = let a = are.long in let b = length-map tasks (further row now) in long ∙ (a ∙ sym b);
-    fit = let a = are.fit in let b = length-map tasks (further row now) in omega (arith, a, b, fit);
+    long = let a = are.long in let b = far-long row now tasks in long ∙ (a ∙ sym b);
+    fit = let a = are.fit in let b = far-long row now tasks in omega (arith, a, b, fit);
     counted = λ p task there.
         let was = was-at tasks row now p task there in
         let u = was.task in
@@ -266,7 +269,7 @@ pub steps-well : (tasks new : List Task) (lacking names : List ℕ) (ready later
     → names ≡ dependants_of tasks row → new ≡ moved row now tasks → slice_get new place ≡ Some task → later ≡ slice_set ready place (shown task (slice_index lacking place)) → StepsWell new names before now lacking later
 steps-well tasks new lacking names ready later row place t task before now own at there was are names_are is now_there put_ =
     let t_row = row-is tasks row place t at there in
-    let far = length-map tasks (further row now) in
+    let far = far-long row now tasks in
     let named : names ≡ dependants_of (moved row now tasks) row = names_are ∙ sym (dependants-moved row now tasks row) in
     let moved_there : slice_get (moved row now tasks) place ≡ Some task = subst (λ l. slice_get l place ≡ Some task) is now_there in
     let well : StepsWell (moved row now tasks) names t.progress now lacking later = record {
@@ -292,4 +295,4 @@ steps-done tasks new lacking names after ready later last row place t task befor
     subst (λ (l : List Task). AreCounted l after last) (sym is) (counted-moved tasks lacking ready row place t now own there t_row are names after last named long wide counts_ shows)
 
 pub moved-long : (tasks new : List Task) (row : ℕ) (now : Progress) → new ≡ moved row now tasks → length new ≡ length tasks
-moved-long tasks new row now is = ap length is ∙ length-map tasks (further row now)
+moved-long tasks new row now is = ap length is ∙ far-long row now tasks
