@@ -220,6 +220,10 @@ climb-more before nodes at leaf row v tree so above is = record {
   leaves = λ k past. leaves-stay nodes (slice_set before leaf row) (at / 2) k v (omega (arith, so.within, so.long, tree.even)) (omega (arith, so.long, past)) (so.leaves k past);
 }
 
+-- a node that is made right stands above two others
+pub climb-inner : (before nodes : List (Option ℕ)) (at leaf : ℕ) (row : Option ℕ) → IsTree before → IsClimbing before nodes at leaf row → 1 < at → 2 * (at / 2) + 1 < length nodes
+climb-inner before nodes at leaf row tree so above = omega (arith, so.within, so.long, tree.even, above)
+
 pub climb-end : (before nodes : List (Option ℕ)) (at leaf : ℕ) (row : Option ℕ) → IsTree before → IsClimbing before nodes at leaf row → at ≤ 1 → IsTree nodes
 climb-end before nodes at leaf row tree so top = but-none nodes before at so.long tree top so.but
 

@@ -1,9 +1,27 @@
 use Rattle.std.proofs.Common.{◌≡◌, ◌*◌, ◌+◌, ◌/◌, ◌<◌, length, arith, rules, vec_len}
-use Rattle.dep_graph.proofs.TreeLemmas.{climb-first, climb-more, climb-end}
+use Rattle.dep_graph.proofs.TreeLemmas.{climb-first, climb-more, climb-inner, climb-end}
 use Rattle.dep_graph.proofs.least.put.Goals as goal
 
 pub loop-at-init : goal.loop-at-init
 loop-at-init c = climb-first c.args.nodes.now.items c.args.leaf c.args.row c.requires.tree c.requires.leaf.0 c.requires.leaf.1 c.requires.leaf.2
+
+pub index-requires : goal.index-requires
+index-requires c =
+    let inner = climb-inner c.args.nodes.now.items c.loop-at.nodes.items c.loop-at.at c.args.leaf c.args.row c.requires.tree c.loop-at.invariant c.loop-at-test.true in
+    let len : vec_len c.loop-at.nodes ≡ length c.loop-at.nodes.items = search rules in
+    omega (arith, inner, len)
+
+pub index-requires-in-loop-at : goal.index-requires-in-loop-at
+index-requires-in-loop-at c =
+    let inner = climb-inner c.args.nodes.now.items c.loop-at.nodes.items c.loop-at.at c.args.leaf c.args.row c.requires.tree c.loop-at.invariant c.loop-at-test.true in
+    let len : vec_len c.loop-at.nodes ≡ length c.loop-at.nodes.items = search rules in
+    omega (arith, inner, len)
+
+pub index_mut-requires-in-loop-at : goal.index_mut-requires-in-loop-at
+index_mut-requires-in-loop-at c =
+    let inner = climb-inner c.args.nodes.now.items c.loop-at.nodes.items c.loop-at.at c.args.leaf c.args.row c.requires.tree c.loop-at.invariant c.loop-at-test.true in
+    let len : vec_len c.loop-at.nodes ≡ length c.loop-at.nodes.items = search rules in
+    omega (arith, inner, len)
 
 pub loop-at-preserved : goal.loop-at-preserved
 loop-at-preserved c =
