@@ -235,14 +235,14 @@ counted-added tasks lacking ready later t n are created distinct few is fit put_
     one : node_at later p ≡ node_at ready p
     one = ap (λ l. node_at l p) put_ ∙ get_or-set_other ready (length lacking) p (shown t n) None other
 
-    first : (o : Option Task) → slice_get tasks p ≡ o → node_at later p ≡ shown_at (slice_get (tasks ++ t ∷ []) p) (slice_index (lacking ++ n ∷ []) p)
-    first None none = absurd (none-within tasks p below none)
-    first (Some u) is_ = one ∙ (are.showing p ∙ (ap (λ o. shown_at o (slice_index lacking p)) (is_ ∙ sym (get-push tasks u t p is_)) ∙ ap (shown_at (slice_get (tasks ++ t ∷ []) p)) (sym (at-first p below))))
-
     none-within : (ts : List Task) (k : ℕ) → k < length ts → slice_get ts k ≡ None → ⊥
     none-within [] k lt_ no_ = omega arith
     none-within (x ∷ xs) zero lt_ no_ = cc
     none-within (x ∷ xs) (suc k) lt_ no_ = none-within xs k (omega arith) no_
+
+    first : (o : Option Task) → slice_get tasks p ≡ o → node_at later p ≡ shown_at (slice_get (tasks ++ t ∷ []) p) (slice_index (lacking ++ n ∷ []) p)
+    first None none = absurd (none-within tasks p below none)
+    first (Some u) is_ = one ∙ (are.showing p ∙ (ap (λ o. shown_at o (slice_index lacking p)) (is_ ∙ sym (get-push tasks u t p is_)) ∙ ap (shown_at (slice_get (tasks ++ t ∷ []) p)) (sym (at-first p below))))
   each p (inr (inr above)) =
       let other : p ≢ length lacking = omega (arith, are.long, above) in
       let one : node_at later p ≡ node_at ready p = ap (λ l. node_at l p) put_ ∙ get_or-set_other ready (length lacking) p (shown t n) None other in

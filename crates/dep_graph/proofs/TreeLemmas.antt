@@ -1,9 +1,10 @@
 -- Trees of the least: the top is the least of the leaves, and a leaf that changes changes what is above it.
-use Rattle.std.proofs.Common.{◌≡◌, ◌≢◌, ℕ, zero, suc, ◌+◌, ◌-◌, ◌*◌, ◌/◌, ◌<◌, ◌≤◌, ◌⊎◌, inl, inr, min, List, [], ◌∷◌, length, drop, Option, Some, None, refl, sym, ◌∙◌, ap, subst, arith, slice_set, replicate}
+use Rattle.std.proofs.Common.{◌≡◌, ◌≢◌, ℕ, zero, suc, ◌+◌, ◌-◌, ◌*◌, ◌/◌, ◌<◌, ◌≤◌, ◌⊎◌, inl, inr, min, List, [], ◌∷◌, length, drop, Option, Some, None, refl, sym, ◌∙◌, ap, subst, arith, slice_set, slice_index_or, replicate}
 use Rattle.std.specs.Prelude.{IfSome}
 use Rattle.std.proofs.lemmas.Bool.{cases_eq}
 use Rattle.std.proofs.lemmas.Bool.Decides.{leb_tells}
 use Rattle.std.proofs.lemmas.List.{get_or-set_same, get_or-set_other, get_or-drop, get_or_past, get_or-replicate, length-set, length-drop, length-replicate}
+use Rattle.std.proofs.lemmas.Option.{slice_get_read, get_or_from_slice_get}
 use Rattle.dep_graph.specs.Trees.{lesser, node_at, leaves_of, IsTree}
 
 none-some : (x : ℕ) → None ≡ Some x → ⊥
@@ -219,6 +220,10 @@ climb-more before nodes at leaf row v tree so above is = record {
   but = but-more nodes (at / 2) v is so.but (omega arith) (omega (arith, so.within));
   leaves = λ k past. leaves-stay nodes (slice_set before leaf row) (at / 2) k v (omega (arith, so.within, so.long, tree.even)) (omega (arith, so.long, past)) (so.leaves k past);
 }
+
+-- what is read within the tree
+pub read-node : (nodes : List (Option ℕ)) (at : ℕ) (x : Option ℕ) → at < length nodes → x ≡ slice_index_or nodes at x → x ≡ node_at nodes at
+read-node nodes at x within is = sym (get_or_from_slice_get nodes at x None (slice_get_read nodes (length nodes) at x refl within is))
 
 -- a node that is made right stands above two others
 pub climb-inner : (before nodes : List (Option ℕ)) (at leaf : ℕ) (row : Option ℕ) → IsTree before → IsClimbing before nodes at leaf row → 1 < at → 2 * (at / 2) + 1 < length nodes

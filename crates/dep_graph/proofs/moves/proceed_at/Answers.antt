@@ -1,5 +1,6 @@
 use Rattle.std.proofs.Common.{◌≡◌, ◌∙◌, ◌<◌, List, length, ap, sym, subst, arith, vec_capacity}
 use Rattle.std.proofs.lemmas.List.{length-map, length-set}
+use Rattle.dep_graph.specs.declared.edges.Edges.{Edges}
 use Rattle.dep_graph.specs.Nodes.{Task, rows_of, moved, dependants_of}
 use Rattle.dep_graph.specs.Kept.{edges_of}
 use Rattle.dep_graph.proofs.EdgeLemmas.{place-within-tasks, edge-within, dependants-at}
@@ -34,7 +35,7 @@ count_each-requires c =
     let waits = c.args.waits.now in
     let lacking = waits.lacking.items in
     let told = dependants-at tasks c.args.edges.now c.args.row c.args.place c.index-edges-place.result c.requires.edges c.requires.at c.index-edges-place.is in
-    let names : c.deref.result.now ≡ dependants_of tasks c.args.row = c.deref.ensures.value ∙ told in
+    let names : c.deref.result.now ≡ dependants_of tasks c.args.row = c.deref.ensures.value ∙ (ap (λ (e : Edges). e.rows.items) (sym c.index-edges-place.is) ∙ told) in
     let well : StepsWell new c.deref.result.now c.progress-before.result c.args.progress lacking c.look.new.self.ready =
     steps-well tasks new lacking c.deref.result.now waits.ready c.look.new.self.ready c.args.row c.args.place c.at.result.now c.at-2.result.now c.progress-before.result c.args.progress c.requires.own c.requires.at c.at.ensures c.progress-before.ensures c.requires.counted names c.proceed.ensures.tasks c.at-2.ensures c.look.ensures.ready in
     rw c.look.ensures.lacking (record {
@@ -53,7 +54,7 @@ returns-clause-counted c =
     let waits = c.args.waits.now in
     let lacking = waits.lacking.items in
     let told = dependants-at tasks c.args.edges.now c.args.row c.args.place c.index-edges-place.result c.requires.edges c.requires.at c.index-edges-place.is in
-    let names : c.deref.result.now ≡ dependants_of tasks c.args.row = c.deref.ensures.value ∙ told in
+    let names : c.deref.result.now ≡ dependants_of tasks c.args.row = c.deref.ensures.value ∙ (ap (λ (e : Edges). e.rows.items) (sym c.index-edges-place.is) ∙ told) in
     steps-done tasks new lacking c.deref.result.now c.count_each.new.self.lacking.items waits.ready c.look.new.self.ready c.count_each.new.self.ready c.args.row c.args.place c.at.result.now c.at-2.result.now c.progress-before.result c.args.progress c.requires.own c.requires.at c.at.ensures c.progress-before.ensures
     c.requires.counted names c.proceed.ensures.tasks c.look.ensures.ready
     (rw (← c.look.ensures.lacking) c.count_each.ensures.long) c.count_each.ensures.fit (rw (← c.look.ensures.lacking) c.count_each.ensures.counted) c.count_each.ensures.shown

@@ -8,8 +8,8 @@ use Rattle.dep_graph.proofs.TaskLemmas.{moved-at, moved-rows}
 use Rattle.dep_graph.proofs.EdgeLemmas.{place-within-tasks}
 use Rattle.dep_graph.proofs.tasks.Tasks.proceed.Goals as goal
 
-pub index_mut-requires : goal.index_mut-requires
-index_mut-requires c =
+pub index_mut-task-requires : goal.index_mut-task-requires
+index_mut-task-requires c =
     let tasks = c.self.inside.nodes.items in
     let at = subst (λ (t : TaskTable). slice_get (rows_of t.tasks) c.args.place ≡ Some c.args.row) (sym c.self.view_is) c.requires.at in
     let within = place-within-tasks tasks c.args.row c.args.place at in search (rules, arith)
