@@ -28,9 +28,11 @@ fn writes(
 ) -> Result<bool, AllocError> {
     let done = rendered(rt, alloc, input)?;
     let wanted = format!(in alloc; "{line}\n")?;
-    Ok(done.status.code() == 0
-        && done.notes.len() == 0
-        && done.output.as_slice() == wanted.as_bytes())
+    Ok(
+        done.status.code() == 0
+            && done.notes.len() == 0
+            && done.output.as_slice() == wanted.as_bytes(),
+    )
 }
 
 /// Whether `render` refuses an input with this note behind `the input is refused: `, and writes nothing.
@@ -42,13 +44,16 @@ fn refuses(
 ) -> Result<bool, AllocError> {
     let refused = rendered(rt, alloc, input)?;
     let note = format!(in alloc; "the input is refused: {words}\n")?;
-    Ok(refused.status.code() == 3
-        && refused.output.len() == 0
-        && refused.notes.as_slice() == note.as_bytes())
+    Ok(
+        refused.status.code() == 3
+            && refused.output.len() == 0
+            && refused.notes.as_slice() == note.as_bytes(),
+    )
 }
 
 /// An input, and the line that is written for it.
-const VALUES: &str = r#"{"context":{"key":"world"},"template":{"message":"hello ${key}"}}|{"message":"hello world"}
+const VALUES: &str =
+    r#"{"context":{"key":"world"},"template":{"message":"hello ${key}"}}|{"message":"hello world"}
 {"context":{},"template":[1,{"$if":"false","then":2},3]}|[1,3]
 {"context":{},"template":{"a":{"$if":"false","then":2}}}|{}
 {"context":{},"template":{"$if":"false","then":2}}|null
@@ -90,7 +95,10 @@ const OTHER_FORMS: &str = r#"|it is no JSON that nests at most 127 deep
 fn inputs_of_another_form_are_refused(rt: HostRuntime) -> Result<(), Fail> {
     for input in OTHER_PARTS.lines() {
         let words = "it is no object of exactly context, a map, and template";
-        assert!(rt; refuses(&rt, rt.alloc(), input.as_bytes(), words)?, "{input}");
+        assert!(rt;
+            refuses(&rt, rt.alloc(), input.as_bytes(), words)?,
+            "{input}"
+        );
     }
     for row in OTHER_FORMS.lines() {
         let (input, words) = row.split_once('|').ok_or("a row")?;
@@ -111,7 +119,7 @@ const FAULTS: &str = r#"{"$eval":"1+"}|fault 1 of the template at "": it is no e
 {"$evil":"1"}|fault 7 of the template at "": an operator is unknown or one of two, its keys are others, or a binder is bad
 {"$switch":{"true":1,"1==1":2}}|fault 8 of the template at "": two branches are true
 {"${'a'}":1,"a":2}|fault 9 of the template at "": two keys of a map are equal
-{"$eval":"((((((((((((((((((((((((((((((((((((((((((((((((((((((((((((((((((1))))))))))))))))))))))))))))))))))))))))))))))))))))))))))))))))"}|fault 10 of the template at "": an expression is more than 64 deep
+{"$eval":"((((((((((((((((((((((((((((((((((((((((((((((((((((((((((((((((1))))))))))))))))))))))))))))))))))))))))))))))))))))))))))))))))"}|fault 10 of the template at "": an expression is more than 64 deep
 {"$fromNow":"1 fortnight","from":"2017-01-19T16:27:20.974Z"}|fault 11 of the template at "": a text is no span of time
 {"$eval":"len(range(0,2000000))"}|its template costs more than 1000000
 {"$eval":"range(0,1000000)"}|its template costs more than 1000000"#;

@@ -17,6 +17,7 @@ use command_line::Service;
 use farm_core::Farm;
 use farm_desk::Object;
 use farm_machine::config::Config;
+use farm_machine::tables::farms_tables_cross_threads;
 use farm_server::NoGate;
 use farm_serving::{Listener, Worker};
 use std::alloc::Global;
@@ -50,6 +51,7 @@ where
     ensures notes { (H.lends house.new).notes ≡ (H.lends house.old).notes }
     ensures refusals { H.refusals house.new ≡ H.refusals house.old }
 {
+    farms_tables_cross_threads();
     let mut console = house.console();
     let clock = house.clock();
     let draws = house.draws();

@@ -119,6 +119,12 @@ fn a_worker_serves_its_connections(rt: HostRuntime) -> Result<(), Fail> {
     Ok(())
 }
 
+/// Whether one link came back to the door, over which this many pings were answered.
+fn was_pinged(door: &MemoryListener, pings: u64) -> bool {
+    let links = door.returned();
+    links.len() == 1 && was_alive(&links[0], pings)
+}
+
 #[test]
 fn four_workers_serve(rt: HostRuntime) -> Result<(), Fail> {
     let alloc = rt.alloc();
@@ -138,12 +144,8 @@ fn four_workers_serve(rt: HostRuntime) -> Result<(), Fail> {
     assert_eq!(rt; done.output.as_slice(), output);
     let doors = house.returned_doors().ok_or("the doors")?;
     assert_eq!(rt; doors.len(), 4);
-    let mut pings = 0;
-    for door in doors {
-        pings += 1;
-        let links = door.returned();
-        assert!(rt; links.len() == 1 && was_alive(&links[0], pings));
-    }
+    assert!(rt; was_pinged(&doors[0], 1) && was_pinged(&doors[1], 2));
+    assert!(rt; was_pinged(&doors[2], 3) && was_pinged(&doors[3], 4));
     Ok(())
 }
 

@@ -8,3 +8,4 @@ pub mod ImageLemmas
 pub mod FaultLemmas
 pub mod OpenedLemmas
 pub mod DisklessLemmas
+pub mod CrossingLemmas

@@ -1,5 +1,6 @@
 //! Laws of what a farm's disk has. The functions do nothing: their contracts are the laws.
 ghost use Rattle.std.specs.Prelude.{false, ℕ, List, ◌++◌, []};
+ghost use Rattle.std.specs.Thread.{IsSend};
 ghost use Rattle.disk_base.specs.Contents.{LeftNow};
 ghost use Rattle.disk_journal.specs.Images.{IsWithin};
 ghost use Rattle.history.specs.Histories.{Leads};
@@ -10,10 +11,13 @@ ghost use Rattle.farm_machine.specs.Replay.{Restores};
 ghost use Rattle.farm_machine.specs.State.{State};
 ghost use Rattle.farm_machine.specs.Step.{farm_rules};
 ghost use Rattle.farm_machine.specs.declared.config.Config.{Config as AnyConfig};
+ghost use Rattle.farm_core.specs.contracts.bare.Bare as bare;
+ghost use Rattle.farm_core.specs.contracts.farm.Farm as farm;
 ghost use Rattle.farm_core.specs.Farm.{HoldsHistory, state_of};
 ghost use Rattle.farm_core.specs.Opened.{HasOpened, Replays, IsFarmDamaged};
 
 use disk_base::Disk;
+use farm_machine::tables::farms_tables_cross_threads;
 use farm_record::a_record_is_of_one_change;
 
 /// A file is never damaged that a stop leaves within records that may be replayed.
@@ -42,3 +46,17 @@ pub fn an_opened_farm_holds_its_records<D: Disk>()
         → HoldsHistory D.tells (D.contents disk) end (D.faults disk) (state_of config contents false)
         (record { state = state_of config contents false; records = opened.replays.changes; faults = D.faults disk }) [] }
 {}
+
+/// A farm on a disk may go to another thread where its disk may.
+pub fn farms_cross_threads<D: Disk + Send>()
+    ensures sent { IsSend (farm.the_row D.row D.Disk) }
+{
+    farms_tables_cross_threads();
+}
+
+/// A farm in memory may go to another thread.
+pub fn bare_farms_cross_threads()
+    ensures sent { IsSend bare.the_row }
+{
+    farms_tables_cross_threads();
+}

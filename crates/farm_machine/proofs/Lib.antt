@@ -24,3 +24,4 @@ mod ClaimLawLemmas
 pub mod BehindLemmas
 pub mod ReplayLemmas
 pub mod WrittenLemmas
+pub mod CrossingLemmas

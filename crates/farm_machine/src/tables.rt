@@ -1,6 +1,7 @@
 //! What a farm keeps.
 ghost use Rattle.std.specs.Prelude.{◌≡◌, ◌≤◌, true, false, IfOk, MatchOption, map, length, count_by, option_copied};
 ghost use Rattle.std.specs.List.{list_any};
+ghost use Rattle.std.specs.Thread.{IsSend};
 ghost use Rattle.farm_text.specs.declared.moment.TheConstants.{LAST_TOLD_MOMENT};
 ghost use Rattle.farm_rows.specs.Contents.{no_contents, row_with, HaveOwnIds};
 ghost use Rattle.farm_rows.specs.Changes.{on_row, may_apply, applied};
@@ -10,11 +11,12 @@ ghost use Rattle.farm_rows.specs.Picks.{picks, waits_in};
 ghost use Rattle.farm_rows.specs.Plans.{IsPlanOn};
 ghost use Rattle.farm_rows.specs.Summary.{summary_of};
 ghost use Rattle.farm_rows.specs.Waits.{missing_dependency, early_dependency};
+ghost use Rattle.farm_machine.specs.contracts.tables.Tables.{the_row};
 ghost use Rattle.farm_machine.specs.Calls.CreateTask.{scheduler_besides};
 ghost use Rattle.farm_machine.specs.Changes.{reached};
 
 use farm_record::{Change, Creation, RunName};
-use farm_rows::{Page, Summary, TaskList, TaskPlan, TaskTables};
+use farm_rows::{Page, Summary, TaskList, TaskPlan, TaskTables, tables_cross_threads};
 use farm_text::{Moment, SlugId};
 use run_states::TaskRow;
 use std::alloc::{AllocError, Global};
@@ -199,4 +201,11 @@ pub fn tick(tables: &mut Tables, moment: Moment)
     ensures { tables.new ≡ advance tables.old moment }
 {
     tables.tasks.tick(moment);
+}
+
+/// A law, of a function that does nothing: what a farm keeps may go to another thread.
+pub fn farms_tables_cross_threads()
+    ensures sent { IsSend the_row }
+{
+    tables_cross_threads();
 }

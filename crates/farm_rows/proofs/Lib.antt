@@ -26,3 +26,4 @@ pub mod PageLemmas
 pub mod ListLemmas
 pub mod ServedLemmas
 pub mod SummaryLemmas
+pub mod CrossingLemmas

@@ -1,5 +1,6 @@
 //! Laws of what falls due and of the changes: empty functions, whose contracts are the laws.
 ghost use Rattle.std.specs.Prelude.{◌≡◌, ◌<◌, ◌≤◌, ◌+◌, ◌++◌, ◌&&◌, ℕ, List, Option, max, length, count_by, is_none, true, false, Some};
+ghost use Rattle.std.specs.Thread.{IsSend};
 ghost use Rattle.run_states.specs.Rows.{Row, claim_due, new_row, scheduled};
 ghost use Rattle.run_states.specs.Later.{RowsLater};
 ghost use Rattle.farm_record.specs.declared.change.Change.{Change};
@@ -8,6 +9,7 @@ ghost use Rattle.farm_record.specs.declared.change.Kind.{Kind};
 ghost use Rattle.farm_record.specs.declared.change.Kind.TheVariants.{Rerun};
 ghost use Rattle.task_defs.specs.declared.choices.Requires.{Requires};
 ghost use Rattle.task_defs.specs.declared.choices.Requires.TheVariants.{AllCompleted};
+ghost use Rattle.farm_rows.specs.contracts.tables.TaskTables.{the_row};
 ghost use Rattle.farm_rows.specs.Contents.{Contents, row_with, HaveOwnIds};
 ghost use Rattle.farm_rows.specs.Ready.{id_serves, is_ready, has_ready, settled_row, settled};
 ghost use Rattle.farm_rows.specs.Due.{all_due_moments, is_due, first_due, change_first, resolved_at, advance};
@@ -16,6 +18,8 @@ ghost use Rattle.farm_rows.specs.Waits.{missing_dependency, early_dependency};
 ghost use Rattle.farm_rows.specs.Lists.{listed, behind, page_rows, next_token, pages};
 ghost use Rattle.farm_rows.specs.declared.lists.TaskList.{TaskList};
 ghost use Rattle.farm_rows.specs.Starts.{all_starts, starts_once, may_start};
+
+use run_states::rows_cross_threads;
 
 /// Settling starts the first task that is ready, again and again, with the number that is next; where none is ready, it changes nothing;
 /// and so none is ready afterwards.
@@ -119,3 +123,10 @@ pub fn pages_are_the_whole_list()
     ensures whole { (list : TaskList) (count limit : ℕ) (after : Option (List ℕ)) (rows : List Row) → HaveOwnIds rows → 0 < limit
         → length rows ≤ count → pages count after limit (listed list rows) ≡ behind after (listed list rows) }
 {}
+
+/// The tables of a farm's tasks may go to another thread.
+pub fn tables_cross_threads()
+    ensures sent { IsSend the_row }
+{
+    rows_cross_threads();
+}

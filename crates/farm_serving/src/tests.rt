@@ -5,7 +5,7 @@ ghost use Rattle.shared_desk.specs.Standing.{fresh_token};
 ghost use Rattle.farm_machine.specs.State.{State};
 
 use super::*;
-use farm_core::Bare;
+use farm_core::{Bare, bare_farms_cross_threads};
 use farm_machine::config::Config;
 use farm_machine::grants::Grants;
 use farm_server::NoGate;
@@ -114,6 +114,7 @@ fn one_worker(rt: HostRuntime) -> Result<(), Fail> {
     coming.push(link(alloc, &[PING], &[1], &[])?)?;
     coming.push(link(alloc, &[PING, PING, LAST_PING, PING], &[], &[])?)?;
     let mut workers = [worker(alloc, coming, &[1])?];
+    bare_farms_cross_threads();
     let (token, ended) = serve(&rt, alloc, &shared, token, &mut workers, 6);
     assert_eq!(rt;
         ended,
@@ -162,6 +163,7 @@ fn four_workers(rt: HostRuntime) -> Result<(), Fail> {
         pinged(alloc, 3)?,
         pinged(alloc, 4)?,
     ];
+    bare_farms_cross_threads();
     let (token, ended) = serve(&rt, alloc, &shared, token, &mut workers, 3);
     assert_eq!(rt;
         ended,

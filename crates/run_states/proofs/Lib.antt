@@ -3,3 +3,4 @@ pub mod RunLemmas
 pub mod NameLemmas
 pub mod ClaimLemmas
 pub mod ServeLemmas
+pub mod CrossingLemmas

@@ -1,6 +1,8 @@
-//! Laws of a task: empty functions, whose contracts are the laws.
+//! Laws of a task: the functions do nothing, and their contracts are the laws.
 ghost use Rattle.std.specs.Prelude.{◌≡◌, ℕ, List, true, false};
+ghost use Rattle.std.specs.Thread.{IsSend};
 ghost use Rattle.task_defs.specs.declared.choices.Requires.{Requires};
+ghost use Rattle.run_states.specs.contracts.row.TaskRow.{the_row};
 ghost use Rattle.run_states.specs.declared.reasons.ReasonResolved.{ReasonResolved};
 ghost use Rattle.run_states.specs.declared.run.Claim.{Claim};
 ghost use Rattle.run_states.specs.Reasons.{resolved_name};
@@ -8,6 +10,8 @@ ghost use Rattle.run_states.specs.Rows.{Row, is_unscheduled, is_resolved, is_run
 ghost use Rattle.run_states.specs.Moves.{claimed, reclaimed, resolved, expired, canceled, run_again};
 ghost use Rattle.run_states.specs.Later.{RowLater, RowsLater};
 ghost use Rattle.run_states.specs.Serving.{was_completed, serves};
+
+use task_defs::definitions_cross_threads;
 
 /// Whatever happens to a task, its runs stay, made as they were made, with their claims, of which only the end moves, and once they have
 /// an outcome unchanged.
@@ -58,3 +62,10 @@ pub fn a_schedule_serves_nobody()
     ensures same { (needs : Requires) (number at : ℕ) (row : Row) → serves needs (scheduled number at row) ≡ serves needs row }
     ensures none { (needs : Requires) (row : Row) → is_unscheduled row ≡ true → serves needs row ≡ false }
 {}
+
+/// The row of a task may go to another thread.
+pub fn rows_cross_threads()
+    ensures sent { IsSend the_row }
+{
+    definitions_cross_threads();
+}

@@ -16,7 +16,7 @@ mod serving;
 
 pub use laws::{
     a_deadline_resolves, a_schedule_serves_nobody, later_goes_on, reasons_have_names_of_their_own,
-    runs_stay, what_is_served_stays,
+    rows_cross_threads, runs_stay, what_is_served_stays,
 };
 pub use reasons::{ReasonCreated, ReasonResolved, RunState};
 pub use refusal::Refusal;

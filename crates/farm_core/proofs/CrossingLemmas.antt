@@ -1,0 +1,35 @@
+-- A farm may go to another thread where its tables and its disk may.
+use denote.RattleType.{RattleType}
+use denote.Param.Send.{IsSend, sendable, view_send}
+use denote.Param.SendFields.{declared_send}
+use Rattle.std.proofs.Crossing.{crosses}
+use Rattle.std.proofs.MapsCrossing as maps
+use Rattle.disk_base.specs.declared.disk.Disk as disks
+use Rattle.farm_machine.specs.contracts.config.Config as config
+use Rattle.farm_machine.specs.contracts.tables.Tables as tables
+use Rattle.farm_core.specs.contracts.bare.Bare as bare
+use Rattle.farm_core.specs.contracts.bare.Bare.TheInside as bare_inside
+use Rattle.farm_core.specs.contracts.farm.Farm as farm
+use Rattle.farm_core.specs.contracts.records.Records as records
+use Rattle.farm_core.specs.contracts.records.Records.TheInside as records_inside
+
+config_send : IsSend config.the_row
+config_send = search (crosses, maps.crosses, sendable) depth 60 fits 50000
+
+module _ (D : RattleType) (Disk : disks.Ghosts D.Denot) where
+  records_send : IsSend D → IsSend (records.the_row D Disk)
+  records_send sent = view_send _ _ _ _ _ (declared_send (records_inside.the_type D Disk) (
+    search (crosses, sendable) depth 40 fits 50000,
+    (
+      search (crosses, sendable) depth 40 fits 50000,
+      (search (crosses, sendable) depth 40 fits 50000, tt),
+    ),
+  ))
+
+  pub farm_send : IsSend D → IsSend tables.the_row → IsSend (farm.the_row D Disk)
+  farm_send sent kept = declared_send (farm.the_type D Disk)
+      (search (crosses, sendable) depth 40 fits 50000, (config_send, (kept, (records_send sent, tt))))
+
+pub bare_send : IsSend tables.the_row → IsSend bare.the_row
+bare_send kept = view_send _ _ _ _ _ (declared_send bare_inside.the_type
+    (search (crosses, sendable) depth 40 fits 50000, (config_send, (kept, tt))))
