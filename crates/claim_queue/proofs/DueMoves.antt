@@ -1,14 +1,16 @@
 -- What `add`, `shift` and `remove` leave of rows that fall due, by what the calls in them tell.
-use Rattle.std.proofs.Common.{◌≡◌, ℕ, ◌+◌, ◌<◌, List, length, Option, Some, None, refl, sym, ap, ◌∙◌, subst, slice_get, slice_set, arith}
+use Rattle.std.proofs.Common.{◌≡◌, ℕ, ◌+◌, ◌<◌, Bool, true, false, nat_le, List, [], ◌∷◌, length, Option, Some, None, refl, sym, ap, ◌∙◌, subst, slice_get, slice_set, slice_index_or, arith}
+use Rattle.std.proofs.lemmas.Bool.{leb-true, leb-false}
 use Rattle.claim_queue.specs.declared.turns.Turn.{Turn}
 use Rattle.claim_queue.specs.Held.{held}
 use Rattle.claim_queue.specs.Dues.{Dues, first_due_of}
 use Rattle.claim_queue.specs.Firsts.{IsHeld, IsFirstDue}
-use Rattle.claim_queue.specs.Heaps.{HasNoTurn, HasTurn, IsKept, IsPut, IsTaken}
-use Rattle.claim_queue.specs.DueHeaps.{due_turn, AreDue}
-use Rattle.claim_queue.proofs.HeldLemmas.{within-held, held-added}
+use Rattle.claim_queue.specs.Heaps.{turn_at, HasNoTurn, HasTurn, IsKept, IsPut, IsTaken}
+use Rattle.claim_queue.specs.DueHeaps.{due_turn, due_by, AreDue}
+use Rattle.claim_queue.specs.WaitHeaps.{top_row}
+use Rattle.claim_queue.proofs.HeldLemmas.{within-held, held-added, index-held}
 use Rattle.claim_queue.proofs.TableLemmas.{held-within, held-kept, held-gone}
-use Rattle.claim_queue.proofs.DueLemmas.{due-absent, due-held, due-put, due-taken}
+use Rattle.claim_queue.proofs.DueLemmas.{due-absent, due-held, due-put, due-taken, top-held, top-due, top-late, none-due}
 use Rattle.claim_queue.proofs.LeastLemmas.{first-due-is, first-due-one}
 
 module _ (rows : List (Option ℕ)) (heap : List Turn) (places given : List ℕ) (due : AreDue rows heap places) (same : given ≡ places) where
@@ -57,3 +59,37 @@ module _ (rows : List (Option ℕ)) (heap : List Turn) (places given : List ℕ)
 pub first-shown : (moment : ℕ) (rows : List (Option ℕ)) (dues : Dues) (first : Option (ℕ × ℕ)) → rows ≡ dues.rows → IsFirstDue moment rows first → first ≡ first_due_of moment dues
 first-shown moment rows dues first same is =
     first-due-one moment dues.rows first (first_due_of moment dues) (subst (λ (l : List (Option ℕ)). IsFirstDue moment l first) same is) (first-due-is moment dues)
+
+top-there : (heap : List Turn) (row : ℕ) → Some row ≡ top_row heap → (0 < length heap) × (row ≡ (turn_at heap 0).row)
+top-there [] row is = let both : Some row ≡ None = is in absurd (cc)
+top-there (turn ∷ turns) row is = (omega arith, let both : Some row ≡ Some turn.row = is in cc)
+
+top-none : (heap : List Turn) → None ≡ top_row heap → length heap ≡ 0
+top-none [] is = refl
+top-none (turn ∷ turns) is = let both : None ≡ Some turn.row = is in cc
+
+module _ (rows : List (Option ℕ)) (heap : List Turn) (places : List ℕ) (due : AreDue rows heap places) where
+  -- what is held of the row at the top
+  top-is : (row : ℕ) → Some row ≡ top_row heap → IsHeld rows row (turn_at heap 0).first
+  top-is row is = let t = top-there heap row is in subst (λ n. IsHeld rows n (turn_at heap 0).first) (sym t.1) (top-held rows heap places due t.0)
+
+  pub top-within : (row : ℕ) → Some row ≡ top_row heap → row < length rows
+  top-within row is = held-within rows row (turn_at heap 0).first (top-is row is)
+
+  pub top-shown : (moment row : ℕ) (read : Option ℕ) (dues : Dues) → rows ≡ dues.rows → Some row ≡ top_row heap → read ≡ slice_index_or rows row read → due_by moment read row ≡ first_due_of moment dues
+  top-shown moment row read dues same is here = ap (λ (o : Option ℕ). due_by moment o row) read_is ∙ by (nat_le (turn_at heap 0).first moment) refl where
+    read_is : read ≡ Some (turn_at heap 0).first
+    read_is = here ∙ index-held rows row (Some (turn_at heap 0).first) read (top-is row is)
+
+    by : (t : Bool) → nat_le (turn_at heap 0).first moment ≡ t → due_by moment (Some (turn_at heap 0).first) row ≡ first_due_of moment dues
+    by true le =
+        let t = top-there heap row is in
+        let there = top-due rows heap places due moment t.0 (leb-true (turn_at heap 0).first moment le) in
+        let first_is : IsFirstDue moment rows (Some ((turn_at heap 0).first, row)) = subst (λ n. IsFirstDue moment rows (Some ((turn_at heap 0).first, n))) (sym t.1) there in
+        rw le (first-shown moment rows dues (Some ((turn_at heap 0).first, row)) same first_is)
+    by false late =
+        let t = top-there heap row is in
+        rw late (first-shown moment rows dues None same (top-late rows heap places due moment t.0 (leb-false (turn_at heap 0).first moment late)))
+
+  pub none-shown : (moment : ℕ) (dues : Dues) → rows ≡ dues.rows → None ≡ top_row heap → None ≡ first_due_of moment dues
+  none-shown moment dues same is = first-shown moment rows dues None same (none-due rows heap places due moment (top-none heap is))

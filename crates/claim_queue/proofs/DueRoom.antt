@@ -7,16 +7,14 @@ use Rattle.claim_queue.specs.Heaps.{IsWider}
 use Rattle.claim_queue.specs.DueHeaps.{AreDue, HaveRoom}
 use Rattle.claim_queue.proofs.WiderLemmas.{due-wider, due-roomier}
 
-pub same-places : (places : List ℕ) → IsWider places places
-same-places places = (omega arith, λ row lt. refl)
+-- all stays, with more memory, and there may be more places
+pub due-stays : (rows after : List (Option ℕ)) (heap later : List Turn) (places wider : List ℕ) → AreDue rows heap places → after ≡ rows → later ≡ heap → IsWider places wider → AreDue after later wider
+due-stays rows after heap later places wider due is same w =
+    subst (λ (h : List Turn). AreDue after h wider) (sym same) (subst (λ (r : List (Option ℕ)). AreDue r heap wider) (sym is) (due-roomier rows heap places wider due w))
 
--- the heap stays, with more memory, and there may be more places
-pub due-stays : (rows : List (Option ℕ)) (heap later : List Turn) (places wider : List ℕ) → AreDue rows heap places → later ≡ heap → IsWider places wider → AreDue rows later wider
-due-stays rows heap later places wider due same w = subst (λ (h : List Turn). AreDue rows h wider) (sym same) (due-roomier rows heap places wider due w)
-
-pub have-stays : (rows : List (Option ℕ)) (heap later : List Turn) (room old new : ℕ) → HaveRoom rows heap room old → later ≡ heap → old ≤ new → HaveRoom rows later room new
-have-stays rows heap later room old new have same more = record {
-  small = have.small;
+pub have-stays : (rows after : List (Option ℕ)) (heap later : List Turn) (room old new : ℕ) → HaveRoom rows heap room old → length after < 2 ^ 32 → later ≡ heap → old ≤ new → HaveRoom after later room new
+have-stays rows after heap later room old new have small same more = record {
+  small = small;
   within = let w = have.within in omega (arith, ap length same);
   taken = let t = have.taken in omega arith;
 }

@@ -197,6 +197,66 @@ module _ (heap mid : List Turn) (places between : List ℕ) (hole last : ℕ) (k
     others = λ other none. m.others other none;
   }
 
+-- ---- the turn of a row goes that stands last
+
+module _ (heap : List Turn) (places : List ℕ) (last : ℕ) (kept : IsKept heap places) (end : last + 1 ≡ length heap) where
+  abbrev shorter : List Turn
+  shorter = take last heap
+
+  long-shorter : length shorter ≡ last
+  long-shorter = let f = length-take last heap in omega arith
+
+  shorter-at : (place : ℕ) → place < last → turn_at shorter place ≡ turn_at heap place
+  shorter-at place lt = get_or-take last heap place (record { first = 0; second = 0; row = 0 }) lt
+
+  shorter-ordered : IsOrdered shorter
+  shorter-ordered parent place below lt =
+      let lt_last : place < last = omega (arith, long-shorter) in
+      follows-too heap shorter parent place parent place (shorter-at parent (omega arith)) (shorter-at place lt_last) (kept.0 parent place below (omega arith))
+
+  shorter-known : KnowsPlaces shorter places
+  shorter-known place lt =
+      let lt_last : place < last = omega (arith, long-shorter) in
+      let known = kept.1 place (omega arith) in
+      let same : row_at heap place ≡ row_at shorter place = ap (λ (t : Turn). t.row) (sym (shorter-at place lt_last)) in
+      subst (λ r. (r < length places) × (slice_index places r ≡ place)) same known
+
+  pub shorter-kept : IsKept shorter places
+  shorter-kept = (shorter-ordered, shorter-known)
+
+  in-shorter : (other : Turn) → IsIn other heap → other.row ≢ row_at heap last → IsIn other shorter
+  in-shorter other in_ ne =
+      let lt = in_.1 in
+      let not : in_.0 ≢ last = λ same. ne (sym (ap (λ (t : Turn). t.row) in_.2) ∙ ap (row_at heap) same) in
+      let lt_last : in_.0 < last = omega arith in
+      (in_.0, omega (arith, long-shorter), shorter-at in_.0 lt_last ∙ in_.2)
+
+  of-shorter : (other : Turn) → IsIn other shorter → IsIn other heap × (other.row ≢ row_at heap last)
+  of-shorter other in_ =
+      let lt = in_.1 in
+      let f = long-shorter in
+      let lt_last : in_.0 < last = omega arith in
+      let lt_heap : in_.0 < length heap = omega arith in
+      let last_heap : last < length heap = omega arith in
+      let is : turn_at heap in_.0 ≡ other = sym (shorter-at in_.0 lt_last) ∙ in_.2 in (
+        (in_.0, lt_heap, is),
+        λ same. let end_ : in_.0 ≡ last = one-turn heap places in_.0 last kept.1 lt_heap last_heap (ap (λ (t : Turn). t.row) is ∙ same) in omega arith,
+      )
+
+  pub shorter-taken : IsTaken (row_at heap last) heap shorter places places
+  shorter-taken = record { stay = λ other in_ ne. in-shorter other in_ ne; come = λ other in_. of-shorter other in_; others = λ other none. refl }
+
+-- what is left where the turn of a row stood last, by what the call tells
+pub pop-leaves : (heap front : List Turn) (places : List ℕ) (gone place len : ℕ) → IsKept heap places → HasTurn gone heap places → place ≡ slice_index places gone → place + 1 ≡ len → len ≡ length heap → front ≡ take (len - 1) heap
+    → IsKept front places × IsTaken gone heap front places places
+pop-leaves heap front places gone place len kept held at last long left =
+    let end_ : place + 1 ≡ length heap = omega arith in
+    let count : len - 1 ≡ place = omega arith in
+    let front_is : front ≡ take place heap = left ∙ ap (λ n. take n heap) count in
+    let row_is : row_at heap place ≡ gone = ap (row_at heap) at ∙ held.2 in
+    subst (λ (l : List Turn). IsKept l places × IsTaken gone heap l places places) (sym front_is)
+    (shorter-kept heap places place kept end_, subst (λ r. IsTaken r heap (take place heap) places places) row_is (shorter-taken heap places place kept end_))
+
 -- moves after that
 pub taken-moved : (heap mid later : List Turn) (places between moved : List ℕ) (gone : ℕ) → IsTaken gone heap mid places between → AreMoved mid later between moved → IsTaken gone heap later places moved
 taken-moved heap mid later places between moved gone t m = record {

@@ -15,3 +15,4 @@ pub mod ReserveLemmas
 pub mod DueMoves
 pub mod WaitMoves
 pub mod DueRoom
+pub mod WaitRoom

@@ -108,6 +108,13 @@ no-spare name queues waits is none spare =
     let left : 1 ≤ 0 - count_in name waits = subst P zero_ spare in
     omega arith
 
+-- and no room is left in it
+pub spare-none : (name : List ℕ) (queues : List Queue) (waits : Waits) → queues ≡ waits.queues → ((place : ℕ) → place < length queues → bytes_eq (name_at place queues) name ≡ false) → 0 ≡ spare_in name waits
+spare-none name queues waits same none =
+    let zero_ : room_in name waits.queues ≡ 0 = ap (room_in name) (sym same) ∙ no-room name queues none in
+    let left : 0 - count_in name waits ≡ 0 = omega arith in
+    sym (ap (λ n. n - count_in name waits) zero_ ∙ left)
+
 -- a row that is told stands among the entries
 pub told-within : (queues : List Queue) (rows : List (Option Entry)) (waits : Waits) (row : ℕ) → waits.rows ≡ told_rows queues rows → slice_get waits.rows row ≡ Some None → row < length rows
 told-within queues rows waits row is absent =
@@ -143,34 +150,42 @@ count-shown name queues seen rows found waits count told_ same_queues same_rows 
     ∙ (ap (count_by (λ row. waits_in name (option_map (told queues) row))) same_rows
     ∙ (count-map (option_map (told queues)) (waits_in name) rows ∙ ap (count_by (waits_in name)) told_)))
 
+-- nothing is changed
+pub stays-shown : (queues later : List Queue) (rows after : List (Option Entry)) (waits : Waits) → later ≡ queues → after ≡ rows → waits_of queues (told_rows queues rows) ≡ waits → waits_of later (told_rows later after) ≡ waits
+stays-shown queues later rows after waits same_queues same_rows seen =
+    ap (λ (k : List Queue). waits_of k (told_rows k after)) same_queues ∙ (ap (λ (r : List (Option Entry)). waits_of queues (told_rows queues r)) same_rows ∙ seen)
+
 -- room is made in a queue that is known
-pub room-known : (name : List ℕ) (more below room : ℕ) (queues after : List Queue) (rows later : List (Option Entry)) (waits : Waits) → ArePlaced (length queues) rows → queues ≡ waits.queues → told_rows queues rows ≡ waits.rows
-    → room ≡ count_in name waits + more → knows name queues ≡ true → after ≡ map (raised name room) queues → later ≡ up_to below rows → waits_of after (told_rows after later) ≡ roomier name more below waits
-room-known name more below room queues after rows later waits placed same told_ room_is known after_is later_is =
-    let known_ : knows name waits.queues ≡ true = ap (knows name) (sym same) ∙ known in
-    let wanted : with_room name (count_in name waits + more) waits.queues ≡ map (raised name (count_in name waits + more)) waits.queues = rw known_ refl in
-    let new_queues : after ≡ with_room name (count_in name waits + more) waits.queues =
-    after_is ∙ (ap (λ n. map (raised name n) queues) room_is ∙ (ap (map (raised name (count_in name waits + more))) same ∙ sym wanted)) in
+pub wider-shown : (name : List ℕ) (room below : ℕ) (queues after : List Queue) (rows later : List (Option Entry)) (waits : Waits) → ArePlaced (length queues) rows → queues ≡ waits.queues → told_rows queues rows ≡ waits.rows
+    → after ≡ map (raised name room) queues → later ≡ up_to below rows → waits_of after (told_rows after later) ≡ waits_of (map (raised name room) waits.queues) (up_to below waits.rows)
+wider-shown name room below queues after rows later waits placed same told_ after_is later_is =
     let new_rows : told_rows after later ≡ up_to below waits.rows =
     ap (told_rows after) later_is ∙ (ap (λ (k : List Queue). told_rows k (up_to below rows)) after_is
     ∙ (told-raised name room queues (up_to below rows) (placed-more (length queues) rows (below - length rows) placed)
     ∙ (told-up_to queues below rows ∙ ap (up_to below) told_))) in
-    waits-same after (with_room name (count_in name waits + more) waits.queues) (told_rows after later) (up_to below waits.rows) new_queues new_rows
+    waits-same after (map (raised name room) waits.queues) (told_rows after later) (up_to below waits.rows) (after_is ∙ ap (map (raised name room)) same) new_rows
+
+pub known-roomier : (name : List ℕ) (more below room : ℕ) (waits : Waits) → room ≡ count_in name waits + more → knows name waits.queues ≡ true → waits_of (map (raised name room) waits.queues) (up_to below waits.rows) ≡ roomier name more below waits
+known-roomier name more below room waits room_is known =
+    let wanted : with_room name (count_in name waits + more) waits.queues ≡ map (raised name (count_in name waits + more)) waits.queues = rw known refl in
+    ap (λ (k : List Queue). waits_of k (up_to below waits.rows)) (ap (λ n. map (raised name n) waits.queues) room_is ∙ sym wanted)
 
 -- room is made in a queue that was not known
-pub room-new : (name : List ℕ) (more below room : ℕ) (queues after : List Queue) (rows later : List (Option Entry)) (waits : Waits) → ArePlaced (length queues) rows → queues ≡ waits.queues → told_rows queues rows ≡ waits.rows
-    → room ≡ count_in name waits + more → knows name queues ≡ false → after ≡ queues ++ record { name = name; room = room } ∷ [] → later ≡ up_to below rows → waits_of after (told_rows after later) ≡ roomier name more below waits
-room-new name more below room queues after rows later waits placed same told_ room_is known after_is later_is =
-    let known_ : knows name waits.queues ≡ false = ap (knows name) (sym same) ∙ known in
-    let made : ℕ → Queue = λ n. record { name = name; room = n } in
-    let wanted : with_room name (count_in name waits + more) waits.queues ≡ waits.queues ++ made (count_in name waits + more) ∷ [] = rw known_ refl in
-    let new_queues : after ≡ with_room name (count_in name waits + more) waits.queues =
-    after_is ∙ (ap (λ n. queues ++ made n ∷ []) room_is ∙ (ap (λ (k : List Queue). k ++ made (count_in name waits + more) ∷ []) same ∙ sym wanted)) in
+pub new-shown : (name : List ℕ) (room below : ℕ) (queues after : List Queue) (rows later : List (Option Entry)) (waits : Waits) → ArePlaced (length queues) rows → queues ≡ waits.queues → told_rows queues rows ≡ waits.rows
+    → after ≡ queues ++ record { name = name; room = room } ∷ [] → later ≡ up_to below rows → waits_of after (told_rows after later) ≡ waits_of (waits.queues ++ record { name = name; room = room } ∷ []) (up_to below waits.rows)
+new-shown name room below queues after rows later waits placed same told_ after_is later_is =
+    let made : Queue = record { name = name; room = room } in
     let new_rows : told_rows after later ≡ up_to below waits.rows =
     ap (told_rows after) later_is ∙ (ap (λ (k : List Queue). told_rows k (up_to below rows)) after_is
-    ∙ (told-wider queues (made room ∷ []) (up_to below rows) (placed-more (length queues) rows (below - length rows) placed)
+    ∙ (told-wider queues (made ∷ []) (up_to below rows) (placed-more (length queues) rows (below - length rows) placed)
     ∙ (told-up_to queues below rows ∙ ap (up_to below) told_))) in
-    waits-same after (with_room name (count_in name waits + more) waits.queues) (told_rows after later) (up_to below waits.rows) new_queues new_rows
+    waits-same after (waits.queues ++ made ∷ []) (told_rows after later) (up_to below waits.rows) (after_is ∙ ap (λ (k : List Queue). k ++ made ∷ []) same) new_rows
+
+pub new-roomier : (name : List ℕ) (more below room : ℕ) (waits : Waits) → room ≡ count_in name waits + more → knows name waits.queues ≡ false → waits_of (waits.queues ++ record { name = name; room = room } ∷ []) (up_to below waits.rows) ≡ roomier name more below waits
+new-roomier name more below room waits room_is known =
+    let made : ℕ → Queue = λ n. record { name = name; room = n } in
+    let wanted : with_room name (count_in name waits + more) waits.queues ≡ waits.queues ++ made (count_in name waits + more) ∷ [] = rw known refl in
+    ap (λ (k : List Queue). waits_of k (up_to below waits.rows)) (ap (λ n. waits.queues ++ made n ∷ []) room_is ∙ sym wanted)
 
 pub placed-after : (places wider : ℕ) (rows later : List (Option Entry)) (below : ℕ) → ArePlaced places rows → places ≤ wider → later ≡ up_to below rows → ArePlaced wider later
 placed-after places wider rows later below placed le is =

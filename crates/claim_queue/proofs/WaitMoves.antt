@@ -1,22 +1,23 @@
 -- What the calls of rows that wait see, and what they leave, by what the calls in them tell.
-use Rattle.std.proofs.Common.{◌≡◌, ◌≢◌, ℕ, ◌+◌, ◌-◌, ◌<◌, ◌≤◌, false, List, [], ◌∷◌, length, Option, Some, None, Vec, vec_capacity, refl, sym, ap, ◌∙◌, subst, slice_get, slice_set, slice_index_or, arith}
+use Rattle.std.proofs.Common.{◌≡◌, ◌≢◌, ℕ, ◌+◌, ◌-◌, ◌<◌, ◌≤◌, false, List, [], ◌∷◌, length, Option, Some, None, IsSome, Vec, vec_capacity, refl, sym, ap, ◌∙◌, subst, slice_get, slice_set, slice_index_or, arith}
 use Rattle.std.specs.Global.{Global}
+use Rattle.std.specs.Option.{option_map_or}
 use Rattle.std.specs.List.{count_by}
 use Rattle.std.specs.Str.{bytes_eq}
 use Rattle.claim_queue.specs.declared.entries.Entry.{Entry}
 use Rattle.claim_queue.specs.declared.queues.Queue.{Queue}
 use Rattle.claim_queue.specs.declared.turns.Turn.{Turn}
-use Rattle.claim_queue.specs.Waits.{Waiting, Waits, room_in, waits_in, count_in, spare_in, best_of}
-use Rattle.claim_queue.specs.Places.{name_at, told_rows, ArePlaced}
+use Rattle.claim_queue.specs.Waits.{Waiting, Waits, room_in, waits_in, count_in, queue_of, spare_in, best_of}
+use Rattle.claim_queue.specs.Places.{name_at, told, told_rows, ArePlaced}
 use Rattle.claim_queue.specs.Firsts.{IsHeld, IsBest}
 use Rattle.claim_queue.specs.Counts.{AreFew}
 use Rattle.claim_queue.specs.Heaps.{turn_at, HasNoTurn, HasTurn, IsKept, IsPut, IsTaken}
 use Rattle.claim_queue.specs.WaitHeaps.{entry_turn, top_row, heap_at, memory_at, room_at, is_at, AreQueued, HaveHeaps}
-use Rattle.claim_queue.proofs.HeldLemmas.{within-held}
+use Rattle.claim_queue.proofs.HeldLemmas.{within-held, index-held}
 use Rattle.claim_queue.proofs.LeastLemmas.{best-is, best-one}
-use Rattle.claim_queue.proofs.TableLemmas.{held-within}
+use Rattle.claim_queue.proofs.TableLemmas.{held-within, held-some}
 use Rattle.claim_queue.proofs.WaitLemmas.{heap-here, wait-absent, wait-held, wait-put, wait-taken}
-use Rattle.claim_queue.proofs.QueueLemmas.{count-place, room-here, best-unknown, best-none, best-top}
+use Rattle.claim_queue.proofs.QueueLemmas.{count-place, room-here, told-held, held-told, best-unknown, best-none, best-top}
 use Rattle.claim_queue.proofs.ReserveLemmas.{have-more}
 
 -- the best row is what the queue's definition says
@@ -66,6 +67,15 @@ module _ (queues : List Queue) (rows : List (Option Entry)) (heaps : List (Vec T
 
   pub best-no-queue : (name : List ℕ) (waits : Waits) → queues ≡ waits.queues → told_rows queues rows ≡ waits.rows → ((place : ℕ) → place < length queues → bytes_eq (name_at place queues) name ≡ false) → None ≡ best_of name waits
   best-no-queue name waits same told_ none = best-shown name queues (told_rows queues rows) waits None same told_ (best-unknown queues rows heaps places name placed queued none)
+
+  -- for how many more rows there is room
+  pub spare-some : (place : ℕ) (name : List ℕ) (waits : Waits) (v : Vec Turn Global) → queues ≡ waits.queues → told_rows queues rows ≡ waits.rows → place < length queues → name_at place queues ≡ name → v ≡ slice_index_or heaps place v
+      → room_in name queues - length v.items ≡ spare_in name waits
+  spare-some place name waits v same told_ within named here =
+      let in_heaps : place < length heaps = let e = have.long in omega arith in
+      let is : heap_at place heaps ≡ v.items = (heap-here heaps place v v in_heaps here).0 in
+      let count : length v.items ≡ count_in name waits = sym (ap length is) ∙ count-heap place name waits told_ within named in
+      ap (λ n. room_in name queues - n) count ∙ ap (λ (k : List Queue). room_in name k - count_in name waits) same
 
   -- ---- the heap of the queue of an entry, as it is borrowed
 
@@ -125,3 +135,37 @@ module _ (queues : List Queue) (rows : List (Option Entry)) (heaps : List (Vec T
 
     pub wait-memory : (next : Vec Turn Global) → vec_capacity v ≤ vec_capacity next → HaveHeaps queues (slice_set heaps entry.queue next)
     wait-memory next more = have-more queues heaps have entry.queue (name_at entry.queue queues) 0 next within refl (subst (λ n. n ≤ vec_capacity next) (sym memory_is) more)
+
+-- ---- the entry of a row that waits, as it is read
+
+module _ (queues : List Queue) (rows : List (Option Entry)) (waits : Waits) (row : ℕ) (told_ : told_rows queues rows ≡ waits.rows) where
+  entry-held : IsSome (slice_index_or waits.rows row None) → (entry : Entry) × IsHeld rows row entry
+  entry-held some =
+      let was = held-some waits.rows row some in
+      let e = told-held queues rows row was.0 (subst (λ (l : List (Option Waiting)). IsHeld l row was.0) (sym told_) was.1) in
+      (e.0, e.1)
+
+  pub entry-here : (read : Option Entry) (entry : Entry) → IsSome (slice_index_or waits.rows row None) → read ≡ slice_index_or rows row read → read ≡ Some entry → IsHeld rows row entry
+  entry-here read entry some here is =
+      let e = entry-held some in
+      let there : slice_index_or rows row read ≡ Some e.0 = index-held rows row (Some e.0) read e.1 in
+      let both : Some e.0 ≡ Some entry = sym there ∙ (sym here ∙ is) in
+      let same : e.0 ≡ entry = cc in
+      subst (λ (x : Entry). IsHeld rows row x) same e.1
+
+  pub entry-there : (read : Option Entry) → IsSome (slice_index_or waits.rows row None) → read ≡ slice_index_or rows row read → read ≡ None → ⊥
+  entry-there read some here is =
+      let e = entry-held some in
+      let there : slice_index_or rows row read ≡ Some e.0 = index-held rows row (Some e.0) read e.1 in
+      let both : Some e.0 ≡ None = sym there ∙ (sym here ∙ is) in
+      cc
+
+  pub entry-within : IsSome (slice_index_or waits.rows row None) → row < length rows
+  entry-within some = let e = entry-held some in held-within rows row e.0 e.1
+
+  -- the queue in which the row waits is that of its entry
+  pub entry-queue : (entry : Entry) → IsHeld rows row entry → name_at entry.queue queues ≡ queue_of row waits
+  entry-queue entry is =
+      let seen_ : IsHeld waits.rows row (told queues entry) = subst (λ (l : List (Option Waiting)). IsHeld l row (told queues entry)) told_ (held-told queues rows row entry is) in
+      let read : slice_index_or waits.rows row None ≡ Some (told queues entry) = index-held waits.rows row (Some (told queues entry)) None seen_ in
+      sym (ap (λ (o : Option Waiting). option_map_or (λ (w : Waiting). w.queue) o []) read)

@@ -1,5 +1,5 @@
 -- How rows that fall due are kept. The contracts of private functions alone speak of these.
-use Rattle.std.specs.Prelude.{◌≡◌, ℕ, ◌<◌, ◌≤◌, ◌^◌, List, length, Option}
+use Rattle.std.specs.Prelude.{◌≡◌, ℕ, ◌<◌, ◌≤◌, ◌^◌, nat_le, List, length, Option, Some, None, if◌then◌else◌}
 use Rattle.claim_queue.specs.declared.turns.Turn.{Turn}
 use Rattle.claim_queue.specs.Held.{held}
 use Rattle.claim_queue.specs.Firsts.{IsHeld}
@@ -8,6 +8,11 @@ use Rattle.claim_queue.specs.Heaps.{IsIn, IsKept}
 -- the turn of a row that falls due at a moment
 abbrev pub due_turn : ℕ → ℕ → Turn
 due_turn at row = record { first = at; second = 0; row = row }
+
+-- a row with its moment, if it is held and falls due by then
+abbrev pub due_by : ℕ → Option ℕ → ℕ → Option (ℕ × ℕ)
+due_by moment None row = None
+due_by moment (Some at) row = if nat_le at moment then Some (at, row) else None
 
 -- each row that is held has the turn of its moment in the heap, and no other row has one
 pub record AreDue (rows : List (Option ℕ)) (heap : List Turn) (places : List ℕ) : Type 0 where

@@ -2,13 +2,13 @@
 ghost use Rattle.std.specs.Prelude.{◌≡◌, ◌≤◌, ◌<◌, ◌^◌, Some, None, IsSome, slice_get, slice_set, slice_index_or, MatchResult};
 ghost use Rattle.claim_queue.specs.Held.{held};
 ghost use Rattle.claim_queue.specs.Dues.{no_dues, spare_of, roomier, first_due_of};
-ghost use Rattle.claim_queue.specs.DueHeaps.{due_turn};
+ghost use Rattle.claim_queue.specs.DueHeaps.{due_turn, due_by};
 ghost use Rattle.claim_queue.specs.Counts.{AreFew};
 
 use crate::heap_edits::{insert, remove, replace};
-use crate::room::{make_places, make_rows};
+use crate::room::make_room;
 use crate::steps::Steps;
-use crate::turns::Turn;
+use crate::turns::{Turn, top_row};
 use farm_text::Moment;
 use std::alloc::{AllocError, Global};
 use std::marker::Model;
@@ -76,10 +76,15 @@ impl DueRows {
     pub fn reserve(&mut self, more: u32, below: u32) -> Result<(), AllocError>
         ensures { MatchResult result (λ _. self.new ≡ roomier more below self.old) (λ _. self.new ≡ self.old) }
     {
-        self.heap.reserve(more as usize)?;
-        make_places(&mut self.places, below)?;
-        make_rows(&mut self.rows, below)?;
-        self.room = self.room.max(self.heap.len() + more as usize);
+        let room = self.heap.len() + more as usize;
+        make_room(
+            &mut self.heap,
+            &mut self.places,
+            &mut self.rows,
+            room,
+            below,
+        )?;
+        self.room = self.room.max(room);
         Ok(())
     }
 
@@ -124,14 +129,20 @@ impl DueRows {
         ensures row { result ≡ first_due_of moment self.now }
         ensures steps { steps.new ≡ steps.old }
     {
-        if self.heap.is_empty() {
-            return None;
+        match top_row(&self.heap) {
+            Some(row) => due_by(moment, self.rows[row as usize], row),
+            None => None,
         }
-        let row = self.heap[0].row;
-        match self.rows[row as usize] {
-            Some(at) if at <= moment => Some((at, row)),
-            _ => None,
-        }
+    }
+}
+
+/// A row with its moment, if it is held and falls due by then.
+fn due_by(moment: Moment, at: Option<Moment>, row: u32) -> Option<(Moment, u32)>
+    ensures { result ≡ due_by moment at row }
+{
+    match at {
+        Some(at) if at <= moment => Some((at, row)),
+        _ => None,
     }
 }
 

@@ -1,12 +1,15 @@
 //! Rows that wait for a worker, each in its queue.
-ghost use Rattle.std.specs.Prelude.{◌≡◌, ◌≤◌, Some, None, IsSome, is_some, option_map, slice_get, slice_set, slice_index_or, MatchResult};
-ghost use Rattle.claim_queue.specs.Waits.{no_waits, spare_in, count_in, queue_of, roomier, best_of};
+ghost use Rattle.std.specs.Prelude.{◌≡◌, ℕ, ◌≤◌, ◌<◌, ◌++◌, ◌∷◌, [], false, length, map, Some, None, IsSome, is_some, option_map, slice_get, slice_set, slice_index_or, MatchResult};
+ghost use Rattle.std.specs.Str.{bytes_eq};
+ghost use Rattle.claim_queue.specs.Held.{up_to};
+ghost use Rattle.claim_queue.specs.Waits.{no_waits, spare_in, count_in, queue_of, raised, roomier, best_of};
+ghost use Rattle.claim_queue.specs.Places.{name_at};
 ghost use Rattle.claim_queue.specs.Counts.{AreFew};
 
 use crate::entries::{Entry, count_in, entry_turn};
 use crate::heap_edits::{insert, remove};
 use crate::queues::{Queue, place_of, raise, room_in};
-use crate::room::{make_places, make_rows, make_turns};
+use crate::room::make_room;
 use crate::steps::Steps;
 use crate::turns::{Turn, top_row};
 use farm_text::Text;
@@ -70,20 +73,53 @@ impl Pending {
         ensures { MatchResult result (λ _. self.new ≡ roomier name.now more below self.old) (λ _. self.new ≡ self.old) }
     {
         let room = count_in(&self.queues, &self.rows, name) + more as usize;
-        if let Some(queue) = place_of(&self.queues, name) {
-            make_turns(&mut self.heaps[queue], room)?;
-            make_places(&mut self.places, below)?;
-            make_rows(&mut self.rows, below)?;
-            raise(&mut self.queues, name, room);
-            return Ok(());
+        match place_of(&self.queues, name) {
+            Some(queue) => self.make_wider(queue, name, room, below),
+            None => self.make_queue(name, room, below),
         }
+    }
+
+    /// Makes room for so many rows in the queue at a place, and for all rows below a number.
+    fn make_wider(
+        &mut self,
+        queue: usize,
+        name: &Text,
+        room: usize,
+        below: u32,
+    ) -> Result<(), AllocError>
+        requires place { queue < length self.old.queues }
+        requires named { name_at queue self.old.queues ≡ name.now }
+        ensures { let made = map (raised name.now room) self.old.queues in
+          MatchResult result (λ _. self.new ≡ record { queues = made; rows = up_to below self.old.rows }) (λ _. self.new ≡ self.old) }
+    {
+        make_room(
+            &mut self.heaps[queue],
+            &mut self.places,
+            &mut self.rows,
+            room,
+            below,
+        )?;
+        raise(&mut self.queues, name, room);
+        Ok(())
+    }
+
+    /// Makes room for so many rows in a queue that comes behind the others, and for all rows below a number.
+    fn make_queue(&mut self, name: &Text, room: usize, below: u32) -> Result<(), AllocError>
+        requires { (place : ℕ) → place < length self.old.queues → bytes_eq (name_at place self.old.queues) name.now ≡ false }
+        ensures { let made = self.old.queues ++ record { name = name.now; room = room } ∷ [] in
+          MatchResult result (λ _. self.new ≡ record { queues = made; rows = up_to below self.old.rows }) (λ _. self.new ≡ self.old) }
+    {
         let name = name.clone()?;
         let mut heap = Vec::new(*self.heaps.allocator());
-        make_turns(&mut heap, room)?;
         self.queues.reserve(1)?;
         self.heaps.reserve(1)?;
-        make_places(&mut self.places, below)?;
-        make_rows(&mut self.rows, below)?;
+        make_room(
+            &mut heap,
+            &mut self.places,
+            &mut self.rows,
+            room,
+            below,
+        )?;
         if self.queues.push(Queue { name, room }).is_err() || self.heaps.push(heap).is_err() {
             unreachable!();
         }

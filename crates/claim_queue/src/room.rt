@@ -7,7 +7,7 @@ use crate::turns::Turn;
 use std::alloc::AllocError;
 
 /// Makes room for all rows below a number. Where memory runs out, all stays as it was.
-pub(crate) fn make_rows<T: Copy>(rows: &mut Vec<Option<T>>, below: u32) -> Result<(), AllocError>
+fn make_rows<T: Copy>(rows: &mut Vec<Option<T>>, below: u32) -> Result<(), AllocError>
     requires { length rows.old.items < 2 ^ 32 }
     ensures rows { MatchResult result (λ _. rows.new.items ≡ up_to below rows.old.items) (λ _. rows.new.items ≡ rows.old.items) }
     ensures small { length rows.new.items < 2 ^ 32 }
@@ -20,7 +20,7 @@ pub(crate) fn make_rows<T: Copy>(rows: &mut Vec<Option<T>>, below: u32) -> Resul
 }
 
 /// Makes room for the places of all rows below a number. Where memory runs out, all stays as it was.
-pub(crate) fn make_places(places: &mut Vec<usize>, below: u32) -> Result<(), AllocError>
+fn make_places(places: &mut Vec<usize>, below: u32) -> Result<(), AllocError>
     ensures wider { IsWider places.old.items places.new.items }
     ensures below { OnOk result (below ≤ length places.new.items) }
 {
@@ -32,10 +32,32 @@ pub(crate) fn make_places(places: &mut Vec<usize>, below: u32) -> Result<(), All
 }
 
 /// Makes room for so many turns. Where memory runs out, all stays as it was.
-pub(crate) fn make_turns(heap: &mut Vec<Turn>, room: usize) -> Result<(), AllocError>
+fn make_turns(heap: &mut Vec<Turn>, room: usize) -> Result<(), AllocError>
     ensures turns { heap.new.items ≡ heap.old.items }
     ensures memory { vec_capacity heap.old ≤ vec_capacity heap.new }
     ensures room { OnOk result (room ≤ vec_capacity heap.new) }
 {
     heap.reserve(room.saturating_sub(heap.len()))
+}
+
+/// Makes room for so many turns, and for the places and the rows below a number. Where memory runs out, all stays as it was.
+pub(crate) fn make_room<T: Copy>(
+    heap: &mut Vec<Turn>,
+    places: &mut Vec<usize>,
+    rows: &mut Vec<Option<T>>,
+    room: usize,
+    below: u32,
+) -> Result<(), AllocError>
+    requires { length rows.old.items < 2 ^ 32 }
+    ensures turns { heap.new.items ≡ heap.old.items }
+    ensures memory { vec_capacity heap.old ≤ vec_capacity heap.new }
+    ensures room { OnOk result (room ≤ vec_capacity heap.new) }
+    ensures places { IsWider places.old.items places.new.items }
+    ensures below { OnOk result (below ≤ length places.new.items) }
+    ensures rows { MatchResult result (λ _. rows.new.items ≡ up_to below rows.old.items) (λ _. rows.new.items ≡ rows.old.items) }
+    ensures small { length rows.new.items < 2 ^ 32 }
+{
+    make_turns(heap, room)?;
+    make_places(places, below)?;
+    make_rows(rows, below)
 }

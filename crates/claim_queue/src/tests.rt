@@ -5,6 +5,7 @@ use super::*;
 use farm_text::{Moment, Text};
 use std::alloc::{AllocError, Global};
 use std::marker::Brand;
+use std::process::Abort;
 use std::sync::ledger::{Blank, Ledger};
 use std::test::Fail;
 use task_defs::Priority;
@@ -48,16 +49,16 @@ fn three_dues<L: Ledger>(alloc: Global, steps: &mut Steps<L>) -> Result<DueRows,
 
 #[test]
 fn without_room_nothing_is_held(rt: HostRuntime) -> Result<(), Fail> {
-    hold_by_room::<Brand>(rt, Blank::new(1))
+    hold_by_room::<Brand>(&rt, rt.alloc(), Blank::new(1))
 }
 
-fn hold_by_room<L: Ledger>(rt: HostRuntime, blank: Blank) -> Result<(), Fail>
+fn hold_by_room<L: Ledger>(rt: &impl Abort, alloc: Global, blank: Blank) -> Result<(), Fail>
     requires name { blank.name ≡ L.name }
     requires parts { blank.parts ≡ L.parts }
     requires some { 0 < blank.parts }
 {
-    let steps = &mut Steps::new(blank);
-    let mut dues = Deadlines::new(rt.alloc());
+    let steps = &mut Steps::<L>::new(blank);
+    let mut dues = Deadlines::new(alloc);
     assert!(rt; !hold(&mut dues, 0, 5, steps));
     dues.reserve(1, 2)?;
     assert!(rt; hold(&mut dues, 1, 5, steps));
@@ -70,16 +71,16 @@ fn hold_by_room<L: Ledger>(rt: HostRuntime, blank: Blank) -> Result<(), Fail>
 
 #[test]
 fn the_first_due_is_the_earliest_and_of_these_the_least_row(rt: HostRuntime) -> Result<(), Fail> {
-    ask_first_due::<Brand>(rt, Blank::new(1))
+    ask_first_due::<Brand>(&rt, rt.alloc(), Blank::new(1))
 }
 
-fn ask_first_due<L: Ledger>(rt: HostRuntime, blank: Blank) -> Result<(), Fail>
+fn ask_first_due<L: Ledger>(rt: &impl Abort, alloc: Global, blank: Blank) -> Result<(), Fail>
     requires name { blank.name ≡ L.name }
     requires parts { blank.parts ≡ L.parts }
     requires some { 0 < blank.parts }
 {
-    let steps = &mut Steps::new(blank);
-    let mut dues = three_dues(rt.alloc(), steps)?;
+    let steps = &mut Steps::<L>::new(blank);
+    let mut dues = three_dues(alloc, steps)?;
     assert!(rt; dues.first_due(moment(19), steps) == None);
     assert!(rt; dues.first_due(moment(20), steps) == Some((moment(20), 3)));
     assert!(rt; dues.first_due(moment(40), steps) == Some((moment(20), 3)));
@@ -138,18 +139,18 @@ fn takes<L: Ledger>(pending: &mut Pending, queue: &Text, row: u32, steps: &mut S
 fn the_best_is_of_the_first_priority_and_then_the_least_number(
     rt: HostRuntime,
 ) -> Result<(), Fail> {
-    take_best::<Brand>(rt, Blank::new(1))
+    take_best::<Brand>(&rt, rt.alloc(), Blank::new(1))
 }
 
-fn take_best<L: Ledger>(rt: HostRuntime, blank: Blank) -> Result<(), Fail>
+fn take_best<L: Ledger>(rt: &impl Abort, alloc: Global, blank: Blank) -> Result<(), Fail>
     requires name { blank.name ≡ L.name }
     requires parts { blank.parts ≡ L.parts }
     requires some { 0 < blank.parts }
 {
-    let steps = &mut Steps::new(blank);
-    let queue = Text::from_str(rt.alloc(), "prov/wt")?;
-    let other = Text::from_str(rt.alloc(), "prov/other")?;
-    let mut pending = Pending::new(rt.alloc());
+    let steps = &mut Steps::<L>::new(blank);
+    let queue = Text::from_str(alloc, "prov/wt")?;
+    let other = Text::from_str(alloc, "prov/other")?;
+    let mut pending = Pending::new(alloc);
     assert!(rt; pending.best(&queue, steps) == None);
     pending.reserve(&queue, 3, 4)?;
     pending.reserve(&other, 1, 4)?;
@@ -164,18 +165,18 @@ fn take_best<L: Ledger>(rt: HostRuntime, blank: Blank) -> Result<(), Fail>
 
 #[test]
 fn each_queue_has_room_of_its_own(rt: HostRuntime) -> Result<(), Fail> {
-    wait_by_room::<Brand>(rt, Blank::new(1))
+    wait_by_room::<Brand>(&rt, rt.alloc(), Blank::new(1))
 }
 
-fn wait_by_room<L: Ledger>(rt: HostRuntime, blank: Blank) -> Result<(), Fail>
+fn wait_by_room<L: Ledger>(rt: &impl Abort, alloc: Global, blank: Blank) -> Result<(), Fail>
     requires name { blank.name ≡ L.name }
     requires parts { blank.parts ≡ L.parts }
     requires some { 0 < blank.parts }
 {
-    let steps = &mut Steps::new(blank);
-    let queue = Text::from_str(rt.alloc(), "prov/wt")?;
-    let other = Text::from_str(rt.alloc(), "prov/other")?;
-    let mut pending = Pending::new(rt.alloc());
+    let steps = &mut Steps::<L>::new(blank);
+    let queue = Text::from_str(alloc, "prov/wt")?;
+    let other = Text::from_str(alloc, "prov/other")?;
+    let mut pending = Pending::new(alloc);
     pending.reserve(&queue, 1, 9)?;
     assert!(rt; !wait(&mut pending, 0, &other, Priority::Low, 0, steps));
     assert!(rt; wait(&mut pending, 0, &queue, Priority::Low, 0, steps));
@@ -189,16 +190,16 @@ fn wait_by_room<L: Ledger>(rt: HostRuntime, blank: Blank) -> Result<(), Fail>
 /// Rows of which each falls due before all those that were added before it rise to the top, and leave in their order.
 #[test]
 fn the_last_added_rises_to_the_top(rt: HostRuntime) -> Result<(), Fail> {
-    rise_to_the_top::<Brand>(rt, Blank::new(1))
+    rise_to_the_top::<Brand>(&rt, rt.alloc(), Blank::new(1))
 }
 
-fn rise_to_the_top<L: Ledger>(rt: HostRuntime, blank: Blank) -> Result<(), Fail>
+fn rise_to_the_top<L: Ledger>(rt: &impl Abort, alloc: Global, blank: Blank) -> Result<(), Fail>
     requires name { blank.name ≡ L.name }
     requires parts { blank.parts ≡ L.parts }
     requires some { 0 < blank.parts }
 {
-    let steps = &mut Steps::new(blank);
-    let mut dues = Leases::new(rt.alloc());
+    let steps = &mut Steps::<L>::new(blank);
+    let mut dues = Leases::new(alloc);
     dues.reserve(9, 9)?;
     for row in 0..9 {
         assert!(rt; hold(&mut dues, row, 90 - 10 * row as u64, steps));
@@ -226,7 +227,7 @@ fn add_to_none<L: Ledger>(alloc: Global, blank: Blank) -> Result<Steps<L>, Alloc
     requires some { 0 < blank.parts }
     ensures { IfOk result (λ steps. steps ≡ 0) }
 {
-    let mut steps = Steps::new(blank);
+    let mut steps = Steps::<L>::new(blank);
     let mut leases = Leases::new(alloc);
     leases.reserve(1, 1)?;
     leases.add(0, Moment::FIRST, &mut steps);
