@@ -1,5 +1,5 @@
 -- Room that is made for rows that wait.
-use Rattle.std.proofs.Common.{◌≡◌, ℕ, ◌+◌, ◌-◌, ◌<◌, ◌≤◌, ◌^◌, false, List, [], ◌∷◌, ◌++◌, length, map, Option, Vec, vec_capacity, refl, sym, ap, ◌∙◌, subst, slice_set, slice_index_or, arith, length-append}
+use Rattle.std.proofs.Common.{◌≡◌, ℕ, ◌+◌, ◌-◌, ◌<◌, ◌≤◌, ◌^◌, false, List, [], ◌∷◌, ◌++◌, length, map, Option, Result, Ok, Err, MatchResult, Vec, vec_capacity, refl, sym, ap, ◌∙◌, subst, slice_set, slice_index_or, arith, length-append}
 use Rattle.std.specs.Global.{Global}
 use Rattle.std.specs.Str.{bytes_eq}
 use Rattle.std.proofs.lemmas.List.{length-map}
@@ -7,7 +7,7 @@ use Rattle.claim_queue.specs.declared.entries.Entry.{Entry}
 use Rattle.claim_queue.specs.declared.queues.Queue.{Queue}
 use Rattle.claim_queue.specs.declared.turns.Turn.{Turn}
 use Rattle.claim_queue.specs.Held.{up_to}
-use Rattle.claim_queue.specs.Waits.{raised}
+use Rattle.claim_queue.specs.Waits.{Waits, raised}
 use Rattle.claim_queue.specs.Places.{name_at, ArePlaced}
 use Rattle.claim_queue.specs.Heaps.{IsWider}
 use Rattle.claim_queue.specs.WaitHeaps.{heap_at, memory_at, AreQueued, HaveHeaps}
@@ -72,3 +72,9 @@ module _ (queues : List Queue) (rows : List (Option Entry)) (heaps : List (Vec T
         subst (λ (h : List (Vec Turn Global)). AreQueued grown h wider) (sym next_is) queued,
         subst (λ (h : List (Vec Turn Global)). HaveHeaps later h) (sym next_is) have,
       )
+
+-- ---- what a call tells, by what it left and what was there
+
+pub told-result : {A E : Type 0} (result : Result A E) (new made seen wanted old : Waits) → MatchResult result (λ _. new ≡ made) (λ _. new ≡ seen) → made ≡ wanted → seen ≡ old → MatchResult result (λ _. new ≡ wanted) (λ _. new ≡ old)
+told-result (Ok x) new made seen wanted old p q r = p ∙ q
+told-result (Err e) new made seen wanted old p q r = p ∙ r

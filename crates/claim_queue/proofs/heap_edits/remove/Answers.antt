@@ -1,7 +1,7 @@
-use Rattle.std.proofs.Common.{◌≡◌, ◌+◌, ◌*◌, ◌^◌, ◌≤◌, ◌++◌, ℕ, List, ◌∙◌, sym, ap, subst, length, take, drop, slice_index, arith}
+use Rattle.std.proofs.Common.{◌≡◌, ◌+◌, ◌*◌, ◌^◌, ◌≤◌, ◌++◌, ℕ, List, ◌∙◌, refl, sym, ap, subst, length, take, drop, slice_index, rules, arith}
 use Rattle.claim_queue.specs.declared.turns.Turn.{Turn}
 use Rattle.claim_queue.specs.Heaps.{IsOrderedBut, KnowsPlaces, IsKept, IsTaken, AreMoved}
-use Rattle.claim_queue.proofs.EditLemmas.{taken-moved, few-settled, written}
+use Rattle.claim_queue.proofs.EditLemmas.{pop-leaves, taken-moved, few-settled, written}
 use Rattle.claim_queue.proofs.heap_edits.remove.Goals as goal
 
 pub settle-requires-clause-ordered : goal.settle-requires-clause-ordered
@@ -38,3 +38,22 @@ returns-clause-steps g c =
     let shorter : length c.deref_mut.result.now ≡ length c.put_last.new.heap.items = ap length c.deref_mut.ensures.value in
     let levels : 2 ^ steps.0 ≤ length heap = omega (arith, steps.1) in
     few-settled steps.0 (length heap) c.args.steps.now c.settle.new.steps levels (omega (arith, steps.2.0, c.put_last.ensures.step), omega (arith, steps.2.1, c.put_last.ensures.step))
+
+pub returns-then-place-heap-clause-kept : goal.returns-then-place-heap-clause-kept
+returns-then-place-heap-clause-kept g c =
+    let heap = c.args.heap.now in
+    let place = slice_index c.args.places.now c.args.row in
+    let long : heap.len ≡ length heap.items = search rules in
+    let is : place + 1 ≡ heap.len = search rules in
+    (pop-leaves heap.items c.pop.new.self.items c.args.places.now c.args.row place heap.len c.requires.kept c.requires.held refl is long c.pop.ensures.rest).0
+
+pub returns-then-place-heap-clause-taken : goal.returns-then-place-heap-clause-taken
+returns-then-place-heap-clause-taken g c =
+    let heap = c.args.heap.now in
+    let place = slice_index c.args.places.now c.args.row in
+    let long : heap.len ≡ length heap.items = search rules in
+    let is : place + 1 ≡ heap.len = search rules in
+    (pop-leaves heap.items c.pop.new.self.items c.args.places.now c.args.row place heap.len c.requires.kept c.requires.held refl is long c.pop.ensures.rest).1
+
+pub returns-then-place-heap-clause-steps : goal.returns-then-place-heap-clause-steps
+returns-then-place-heap-clause-steps g c = (0, omega arith, (omega arith, omega arith))

@@ -11,7 +11,7 @@ returns-in-Some-clause-row g c =
     let place = rw c.in-Some.is at c.place_of.ensures.place in
     let here : c.in-Some.queue < length p.queues.items = rw (← c.deref.ensures.value) place.0 in
     let named : name_at c.in-Some.queue p.queues.items ≡ c.args.name.now = ap (name_at c.in-Some.queue) (sym c.deref.ensures.value) ∙ place.1 in
-    c.top_row.ensures ∙ (ap top_row c.deref-2.ensures.value
+    c.top_row.ensures ∙ (ap top_row c.deref-in-Some.ensures.value
     ∙ best-some p.queues.items p.rows.items p.heaps.items p.places.items c.self.invariant.1 c.self.invariant.2 c.self.invariant.3 c.in-Some.queue c.args.name.now c.args.self.now c.index.result.now
     (ap (λ (w : Waits). w.queues) c.self.view_is) (ap (λ (w : Waits). w.rows) c.self.view_is) here named c.index.ensures)
 
