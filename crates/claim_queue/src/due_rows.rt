@@ -76,7 +76,8 @@ impl DueRows {
     pub fn reserve(&mut self, more: u32, below: u32) -> Result<(), AllocError>
         ensures { MatchResult result (λ _. self.new ≡ roomier more below self.old) (λ _. self.new ≡ self.old) }
     {
-        let room = self.heap.len() + more as usize;
+        let held = self.heap.len();
+        let room = held + more as usize;
         make_room(
             &mut self.heap,
             &mut self.places,

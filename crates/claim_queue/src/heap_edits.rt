@@ -66,7 +66,8 @@ pub(crate) fn remove<L: Ledger>(
     ensures steps { AreFew (length heap.old.items) steps.old steps.new }
 {
     let place = places[row as usize];
-    if place + 1 == heap.len() {
+    let last = heap.len() - 1;
+    if place == last {
         heap.pop();
         return;
     }

@@ -9,7 +9,7 @@ ghost use Rattle.claim_queue.specs.Counts.{AreFew};
 use crate::entries::{Entry, count_in, entry_turn};
 use crate::heap_edits::{insert, remove};
 use crate::queues::{Queue, place_of, raise, room_in};
-use crate::room::make_room;
+use crate::room::{make_heap, make_room};
 use crate::steps::Steps;
 use crate::turns::{Turn, top_row};
 use farm_text::Text;
@@ -110,17 +110,18 @@ impl Pending {
           MatchResult result (λ _. self.new ≡ record { queues = made; rows = up_to below self.old.rows }) (λ _. self.new ≡ self.old) }
     {
         let name = name.clone()?;
-        let mut heap = Vec::new(*self.heaps.allocator());
-        self.queues.reserve(1)?;
-        self.heaps.reserve(1)?;
-        make_room(
-            &mut heap,
+        let heap = make_heap(
+            &mut self.queues,
+            &mut self.heaps,
             &mut self.places,
             &mut self.rows,
             room,
             below,
         )?;
-        if self.queues.push(Queue { name, room }).is_err() || self.heaps.push(heap).is_err() {
+        if self.queues.push(Queue { name, room }).is_err() {
+            unreachable!();
+        }
+        if self.heaps.push(heap).is_err() {
             unreachable!();
         }
         Ok(())

@@ -39,21 +39,23 @@ returns-clause-steps g c =
     let levels : 2 ^ steps.0 ≤ length heap = omega (arith, steps.1) in
     few-settled steps.0 (length heap) c.args.steps.now c.settle.new.steps levels (omega (arith, steps.2.0, c.put_last.ensures.step), omega (arith, steps.2.1, c.put_last.ensures.step))
 
-pub returns-then-place-heap-clause-kept : goal.returns-then-place-heap-clause-kept
-returns-then-place-heap-clause-kept g c =
+pub returns-then-place-last-clause-kept : goal.returns-then-place-last-clause-kept
+returns-then-place-last-clause-kept g c =
     let heap = c.args.heap.now in
     let place = slice_index c.args.places.now c.args.row in
     let long : heap.len ≡ length heap.items = search rules in
-    let is : place + 1 ≡ heap.len = search rules in
+    let within = c.requires.held.1 in
+    let is : place + 1 ≡ heap.len = omega (arith, c.if-place-last.true, c.len-last.ensures) in
     (pop-leaves heap.items c.pop.new.self.items c.args.places.now c.args.row place heap.len c.requires.kept c.requires.held refl is long c.pop.ensures.rest).0
 
-pub returns-then-place-heap-clause-taken : goal.returns-then-place-heap-clause-taken
-returns-then-place-heap-clause-taken g c =
+pub returns-then-place-last-clause-taken : goal.returns-then-place-last-clause-taken
+returns-then-place-last-clause-taken g c =
     let heap = c.args.heap.now in
     let place = slice_index c.args.places.now c.args.row in
     let long : heap.len ≡ length heap.items = search rules in
-    let is : place + 1 ≡ heap.len = search rules in
+    let within = c.requires.held.1 in
+    let is : place + 1 ≡ heap.len = omega (arith, c.if-place-last.true, c.len-last.ensures) in
     (pop-leaves heap.items c.pop.new.self.items c.args.places.now c.args.row place heap.len c.requires.kept c.requires.held refl is long c.pop.ensures.rest).1
 
-pub returns-then-place-heap-clause-steps : goal.returns-then-place-heap-clause-steps
-returns-then-place-heap-clause-steps g c = (0, omega arith, (omega arith, omega arith))
+pub returns-then-place-last-clause-steps : goal.returns-then-place-last-clause-steps
+returns-then-place-last-clause-steps g c = (0, omega arith, (omega arith, omega arith))

@@ -11,7 +11,7 @@ overflow_add-room c =
     let short = count_by-le-length is_some c.self.inside.rows.items in
     let count = c.self.invariant.0.count in
     let small = c.self.invariant.1.small in
-    let long : c.len-room.result ≡ length c.self.inside.heap.items = search rules in
+    let long : c.len-held.result ≡ length c.self.inside.heap.items = search rules in
     omega arith
 
 pub make_room-requires : goal.make_room-requires
@@ -38,11 +38,11 @@ invariant_of-self-2 c =
     let d = c.self.inside in
     let new = c.make_room.new in
     let told = c.make_room.ensures in
-    let made = c.len-room.result + c.args.more in
+    let made = c.len-held.result + c.args.more in
     let grown : new.rows.items ≡ up_to c.args.below d.rows.items = search rules in
-    let long : c.len-room.result ≡ length d.heap.items = search rules in
-    let enough : made ≤ vec_capacity new.heap = search rules in
-    let wide : c.args.below ≤ length new.places.items = search rules in
+    let long : c.len-held.result ≡ length d.heap.items = search rules in
+    let enough : made ≤ vec_capacity new.heap = c.in_ok-make_room.ensures.room in
+    let wide : c.args.below ≤ length new.places.items = c.in_ok-make_room.ensures.below in
     let room : c.max-self-inside.result ≡ max d.room made = search rules in
     let fits : length d.heap.items ≤ made = omega arith in (
       due-made d.rows.items new.rows.items d.heap.items new.heap.items d.places.items new.places.items c.args.below c.self.invariant.0 told.turns told.places wide grown,
@@ -53,10 +53,10 @@ invariant_of-self-2 c =
 pub returns : goal.returns
 returns c =
     let d = c.self.inside in
-    let made = c.len-room.result + c.args.more in
+    let made = c.len-held.result + c.args.more in
     let grown : c.make_room.new.rows.items ≡ up_to c.args.below d.rows.items = search rules in
-    let long : c.len-room.result ≡ length d.heap.items = search rules in
+    let long : c.len-held.result ≡ length d.heap.items = search rules in
     let room : c.max-self-inside.result ≡ max d.room made = search rules in
     ap (λ n. let seen : Dues = record { room = n; rows = c.make_room.new.rows.items } in seen) room
-    ∙ made-shown d.rows.items c.make_room.new.rows.items d.room c.len-room.result c.args.more c.args.below c.args.self.now (ap (λ (e : Dues). e.room) c.self.view_is) (ap (λ (e : Dues). e.rows) c.self.view_is)
+    ∙ made-shown d.rows.items c.make_room.new.rows.items d.room c.len-held.result c.args.more c.args.below c.args.self.now (ap (λ (e : Dues). e.room) c.self.view_is) (ap (λ (e : Dues). e.rows) c.self.view_is)
     (long ∙ c.self.invariant.0.count) grown

@@ -41,7 +41,7 @@ invariant_of-self-2 c =
     let named : name_at c.args.queue p.queues.items ≡ c.args.name.now = ap (λ (w : Waits). name_at c.args.queue w.queues) c.self.view_is ∙ c.requires.named in
     let grown : c.make_room.new.rows.items ≡ up_to c.args.below p.rows.items = search rules in
     well-wider p.queues.items p.rows.items p.heaps.items p.places.items c.make_room.new.places.items c.self.invariant c.make_room.ensures.places c.args.queue c.index_mut.result.now c.make_room.new.heap within c.index_mut.ensures.value
-    c.make_room.ensures.turns c.make_room.ensures.memory c.args.name.now c.args.room c.args.below c.raise.new.queues.items c.make_room.new.rows.items named c.raise.ensures grown c.make_room.ensures.small (search rules) (search rules)
+    c.make_room.ensures.turns c.make_room.ensures.memory c.args.name.now c.args.room c.args.below c.raise.new.queues.items c.make_room.new.rows.items named c.raise.ensures grown c.make_room.ensures.small c.in_ok-make_room.ensures.below c.in_ok-make_room.ensures.room
 
 pub returns : goal.returns
 returns c =

@@ -20,9 +20,9 @@ returns-in-Some c =
     let named : name_at c.in-Some.queue p.queues.items ≡ c.args.name.now = ap (name_at c.in-Some.queue) (sym c.deref.ensures.value) ∙ place.1 in
     let room : c.room_in.result ≡ room_in c.args.name.now p.queues.items = c.room_in.ensures ∙ ap (room_in c.args.name.now) c.deref-in-Some.ensures.value in
     let count : c.len.result ≡ length c.index.result.now.items = search rules in
-    ap (λ n. n - c.len.result) room ∙ (ap (λ n. room_in c.args.name.now p.queues.items - n) count
+    c.saturating_sub.ensures ∙ (ap (λ n. n - c.len.result) room ∙ (ap (λ n. room_in c.args.name.now p.queues.items - n) count
     ∙ spare-some p.queues.items p.rows.items p.heaps.items p.places.items c.self.invariant.1 c.self.invariant.2 c.self.invariant.3 c.in-Some.queue c.args.name.now c.args.self.now c.index.result.now
-    (ap (λ (w : Waits). w.queues) c.self.view_is) (ap (λ (w : Waits). w.rows) c.self.view_is) here named c.index.ensures)
+    (ap (λ (w : Waits). w.queues) c.self.view_is) (ap (λ (w : Waits). w.rows) c.self.view_is) here named c.index.ensures))
 
 pub returns-in-None : goal.returns-in-None
 returns-in-None c =
