@@ -6,6 +6,7 @@ ghost use Rattle.farm_machine.specs.Law.{opened};
 ghost use Rattle.farm_machine.specs.Step.{farm_rules};
 ghost use Rattle.farm_server.specs.declared.served.TheConstants.{REQUESTS};
 
+use hook_fire::HookBook;
 use super::*;
 use farm_core::Bare;
 use farm_desk::{Desk, Object, Solo, Spare};
@@ -106,6 +107,7 @@ fn config(alloc: Global) -> Result<Config, Fail> {
         max_tasks: 1_000_000,
         roles: Grants::new(alloc, roles)?,
         clients,
+        hooks: HookBook::new(alloc),
     })
 }
 

@@ -4,6 +4,7 @@ ghost use Rattle.farm_server.specs.declared.served.TheConstants.{REQUESTS};
 ghost use Rattle.shared_desk.specs.Standing.{fresh_token};
 ghost use Rattle.farm_machine.specs.State.{State};
 
+use hook_fire::HookBook;
 use super::*;
 use farm_core::{Bare, bare_farms_cross_threads};
 use farm_machine::config::Config;
@@ -77,6 +78,7 @@ fn config(alloc: Global) -> Result<Config, Fail> {
         max_tasks: 1_000_000,
         roles: Grants::new(alloc, roles)?,
         clients,
+        hooks: HookBook::new(alloc),
     })
 }
 

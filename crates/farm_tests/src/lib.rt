@@ -6,6 +6,8 @@
 #[cfg(test)]
 mod files;
 #[cfg(test)]
+mod hook_files;
+#[cfg(test)]
 mod machine;
 #[cfg(test)]
 mod routes;

@@ -9,6 +9,7 @@ use farm_machine::question::{Call, Caller, Question, WorkRequest};
 use farm_record::{Creation, Report, Resolution, RunName};
 use farm_text::{Doc, LAST_TOLD_MOMENT, Moment, SlugId, Text};
 use hawk_auth::ClientBook;
+use hook_fire::HookBook;
 use role_expand::{Role, RoleSet};
 use scope_sets::Scope;
 use std::alloc::Global;
@@ -43,6 +44,7 @@ pub(crate) fn config(alloc: Global) -> Result<Config, Fail> {
         max_tasks: 1_000_000,
         roles: Grants::new(alloc, roles(alloc)?)?,
         clients,
+        hooks: HookBook::new(alloc),
     })
 }
 

@@ -2,6 +2,7 @@
 use super::tasks::{CREATED, FIRST_STATUS, FIRST_TASK, PLAIN, STATUS, THREE_SCOPES, written_at};
 use super::*;
 use hawk_auth::Client;
+use hook_fire::HookBook;
 use role_expand::Role;
 use scope_sets::Scope;
 
@@ -140,6 +141,7 @@ fn farm(alloc: Global) -> Result<Solo<Bare>, Fail> {
         max_tasks: 1_000_000,
         roles: Grants::new(alloc, roles(alloc)?)?,
         clients: clients(alloc)?,
+        hooks: HookBook::new(alloc),
     };
     Ok(Solo::new(Bare::new(alloc, config)))
 }

@@ -1,4 +1,5 @@
 //! Tasks that are made and asked for over connections in memory, with replies worked out by hand.
+use hook_fire::HookBook;
 use super::*;
 use role_expand::Role;
 use scope_sets::Scope;
@@ -110,6 +111,7 @@ pub(super) fn farm(alloc: Global, scopes: &[&str], max_tasks: u32) -> Result<Sol
         max_tasks,
         roles: Grants::new(alloc, roles)?,
         clients,
+        hooks: HookBook::new(alloc),
     };
     Ok(Solo::new(Bare::new(alloc, config)))
 }
