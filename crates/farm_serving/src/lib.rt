@@ -19,6 +19,3 @@ pub use memory::{MemoryListener, Returned};
 pub use serving::serve;
 pub use share::{Serve, Share};
 pub use worker::Worker;
-
-#[cfg(test)]
-mod tests;

@@ -1,5 +1,5 @@
 //! A farm in memory, and farms over disks, asked directly.
-use super::*;
+use farm_core::Bare;
 use farm_desk::Object;
 use farm_machine::question::{Call, Caller, Question};
 use farm_text::{Moment, SlugId};

@@ -1,12 +1,15 @@
 //! Runs of `serve` over houses in memory, at a door and its twins.
 
-use crate::disk_tests::{CREATION, NONE, case, checked, house_with};
-use crate::memory_house::MemoryHouse;
-use crate::tests::{Case, PING, outcome_in};
+use crate::disks::{CREATION, NONE, case, checked, house_with};
+use crate::houses::{Case, PING, outcome_in};
+use crate::rows::{failing, is_outcome, unescaped};
+use farm_cli::memory_house::MemoryHouse;
 use farm_serving::{MemoryListener, Returned};
 use http_wire::{Joined, MemoryLink, MemorySink, MemorySource};
 use std::alloc::{AllocError, Global};
+use std::sync::Wait;
 use std::test::Fail;
+use std::thread::Threads;
 
 /// What a ping is answered.
 const ALIVE: &[u8] =
@@ -149,37 +152,43 @@ fn four_workers_serve(rt: HostRuntime) -> Result<(), Fail> {
     Ok(())
 }
 
+/// What fails while one worker serves: where it listens, the disk's bytes, the first link's, the number of the accept that fails, whether the first
+/// write fails, and then the status, the output and the notes.
+const FAULTS: &str =
+    r"there||GET /api/queue/v1/ping HTTP/1.1\r\n\r\n|-|-|4||the listener failed: there: entity not found\n
+here||GET /api/queue/v1/ping HTTP/1.1\r\n\r\n|accept|-|4|ready\nserved 1\n|the listener failed: here\n
+here||none\r\n\r\n|-|-|8|ready\nserved 1\n|the input is refused: a connection sent what is no request, or ended inside one\n
+here|damaged|GET /api/queue/v1/ping HTTP/1.1\r\n\r\n|-|-|9||the disk is damaged: farm.disk: at byte 0\n
+here||GET /api/queue/v1/ping HTTP/1.1\r\n\r\n|-|write|6||a write failed: of a connection, or of standard output\n";
+
+/// An open gate, and a length that the file does not have.
+const DAMAGED: &[u8] = &[0xa5, 0, 0, 0, 9, 1, 2, 3];
+
+/// Whether such a row holds.
+fn fault_holds(rt: &(impl Threads + Wait + Sync), alloc: Global, row: &str) -> Result<bool, Fail> {
+    let (address, rest) = row.split_once('|').ok_or("an address")?;
+    let (disk, rest) = rest.split_once('|').ok_or("the disk")?;
+    let (first, rest) = rest.split_once('|').ok_or("the first link")?;
+    let (accept, rest) = rest.split_once('|').ok_or("the accept")?;
+    let (write, rest) = rest.split_once('|').ok_or("the write")?;
+    let (code, told) = rest.split_once('|').ok_or("the status")?;
+    let words = serve("farm.disk", address);
+    let case = Case {
+        failing_writes: failing(write, "write"),
+        ..case(&words, &[])
+    };
+    let bytes = if disk == "damaged" { DAMAGED } else { &[] };
+    let first = unescaped(alloc, first)?;
+    let door = door(alloc, PING, first.as_slice(), failing(accept, "accept"))?;
+    let mut house = house(alloc, &case, bytes, door)?;
+    let done = outcome_in(rt, alloc, &case, &mut house)?;
+    is_outcome(alloc, &done, code, told)
+}
+
 #[test]
 fn what_fails_while_serving_ends_with_its_status(rt: HostRuntime) -> Result<(), Fail> {
-    let alloc = rt.alloc();
-    let here = serve("farm.disk", "here");
-    let there = serve("farm.disk", "there");
-    let unwritten = Case {
-        failing_writes: &[0],
-        ..case(&here, &[])
-    };
-    let damaged: &[u8] = &[0xa5, 0, 0, 0, 9, 1, 2, 3];
-    let ready: &[u8] = b"ready\nserved 1\n";
-    let refused: &[u8] = b"the listener failed: there: entity not found\n";
-    let broken: &[u8] = b"the listener failed: here\n";
-    let cut: &[u8] =
-        b"the input is refused: a connection sent what is no request, or ended inside one\n";
-    let harmed: &[u8] = b"the disk is damaged: farm.disk: at byte 0\n";
-    let unsaid: &[u8] = b"a write failed: of a connection, or of standard output\n";
-    let rows: [(Case, &[u8], &[u8], &[u64], u8, &[u8], &[u8]); 5] = [
-        (case(&there, &[]), &[], PING, &[], 4, &[], refused),
-        (case(&here, &[]), &[], PING, &[0], 4, ready, broken),
-        (case(&here, &[]), &[], b"none\r\n\r\n", &[], 8, ready, cut),
-        (case(&here, &[]), damaged, PING, &[], 9, &[], harmed),
-        (unwritten, &[], PING, &[], 6, &[], unsaid),
-    ];
-    for (case, bytes, first, failing, code, output, note) in rows {
-        let door = door(alloc, PING, first, failing)?;
-        let mut house = house(alloc, &case, bytes, door)?;
-        let done = outcome_in(&rt, alloc, &case, &mut house)?;
-        assert_eq!(rt; done.status.code(), code);
-        assert_eq!(rt; done.output.as_slice(), output);
-        assert_eq!(rt; done.notes.as_slice(), note);
+    for row in FAULTS.lines() {
+        assert!(rt; fault_holds(&rt, rt.alloc(), row)?, "{row}");
     }
     Ok(())
 }

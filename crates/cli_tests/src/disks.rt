@@ -1,9 +1,9 @@
 //! Runs over houses in memory with a disk.
 
-use crate::memory_house::MemoryHouse;
-use crate::status::Status;
-use crate::tests::{Case, Outcome, PING, house_of, outcome_in};
+use crate::houses::{Case, Outcome, PING, house_of, outcome_in};
 use disk_base::MemoryDisk;
+use farm_cli::memory_house::MemoryHouse;
+use farm_cli::status::Status;
 use std::alloc::{AllocError, Global};
 use std::sync::Wait;
 use std::test::Fail;

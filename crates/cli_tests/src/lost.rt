@@ -1,10 +1,10 @@
 //! A task whose run is lost, over a disk: what `check` counts of each image.
 
-use crate::disk_tests::{ANSWER, OPEN_TO_ALL, checked};
-use crate::memory_house::MemoryHouse;
-use crate::run;
-use crate::status::Status;
+use crate::disks::{ANSWER, OPEN_TO_ALL, checked};
 use disk_base::MemoryDisk;
+use farm_cli::memory_house::MemoryHouse;
+use farm_cli::run;
+use farm_cli::status::Status;
 use farm_text::{ListClock, ListDraws, Moment};
 use http_wire::{Joined, MemorySink, MemorySource};
 use std::alloc::Global;

@@ -1,6 +1,6 @@
 //! Tasks that are made and asked for over connections in memory, with replies worked out by hand.
-use hook_fire::HookBook;
 use super::*;
+use hook_fire::HookBook;
 use role_expand::Role;
 use scope_sets::Scope;
 

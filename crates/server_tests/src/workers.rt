@@ -4,14 +4,14 @@ ghost use Rattle.farm_server.specs.declared.served.TheConstants.{REQUESTS};
 ghost use Rattle.shared_desk.specs.Standing.{fresh_token};
 ghost use Rattle.farm_machine.specs.State.{State};
 
-use hook_fire::HookBook;
-use super::*;
 use farm_core::{Bare, bare_farms_cross_threads};
 use farm_machine::config::Config;
 use farm_machine::grants::Grants;
 use farm_server::NoGate;
+use farm_serving::{Ended, MemoryListener, Returned, Worker, serve};
 use farm_text::{ListClock, ListDraws, Text};
 use hawk_auth::ClientBook;
+use hook_fire::HookBook;
 use http_wire::{Joined, MemoryLink, MemorySink, MemorySource};
 use role_expand::RoleSet;
 use shared_desk::{Shared, Token};

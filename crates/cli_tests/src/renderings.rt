@@ -1,6 +1,6 @@
 //! Runs of `render`, with values of JSON-e's reference (https://json-e.js.org/language.html).
 
-use crate::tests::{Case, Outcome, outcome_of};
+use crate::houses::{Case, Outcome, outcome_of};
 use std::alloc::{AllocError, Global};
 use std::sync::Wait;
 use std::test::Fail;

@@ -1,8 +1,8 @@
 //! Stops and failed calls of the disk, in each of its calls: what was acknowledged is there when the farm is opened again.
-use crate::tests::calls::{config, question};
-use crate::{Counts, Farm};
+use crate::disks::calls::{config, question};
 use disk_base::{Disk, MemoryDisk};
 use disk_journal::OpenFault;
+use farm_core::{Counts, Farm};
 use farm_desk::Object;
 use std::alloc::{AllocError, Global};
 use std::test::Fail;

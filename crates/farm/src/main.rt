@@ -1,52 +1,17 @@
-//! The farm as a program: what its words ask for is run over what the system lends.
+//! The program: what its words ask for is run over what the system lends.
 #![tactic(auto)]
 
-mod checking;
-mod commands;
-mod crew;
-#[cfg(test)]
-mod disk_tests;
-mod disks;
-mod ended;
-mod expanding;
-mod farm_file;
-mod giving_back;
-mod host_house;
-mod house;
-mod inputs;
-mod laws;
-mod lending;
-mod loading;
-#[cfg(test)]
-mod lost_tests;
-mod memory_doors;
-mod memory_house;
-#[cfg(test)]
-mod note_tests;
-mod rendering;
-#[cfg(test)]
-mod rendering_tests;
-mod run;
-mod serve;
-#[cfg(test)]
-mod serve_tests;
-mod serving;
-mod signing;
-mod status;
-#[cfg(test)]
-mod tests;
-mod writing;
-
 use causes::{Failed, FaultCount};
-use ended::Ended;
-use host_house::HostHouse;
-use status::Status;
+use farm_cli::ended::Ended;
+use farm_cli::host_house::HostHouse;
+use farm_cli::run::run;
+use farm_cli::status::Status;
 use std::process::ExitCode;
 use std::{env, io};
 
 fn main(rt: HostRuntime) -> ExitCode {
     let status = match begin(rt) {
-        Ok((words, mut house)) => run::run(&rt, rt.alloc(), words.as_slice(), &mut house),
+        Ok((words, mut house)) => run(&rt, rt.alloc(), words.as_slice(), &mut house),
         Err(ended) => {
             let note = ended.note(rt.alloc(), None);
             let _ = eprint!(rt; "{}", ended.line(&note));
