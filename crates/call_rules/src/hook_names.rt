@@ -91,8 +91,8 @@ pub struct HookName {
     pub id: HookId,
 }
 
-/// Whether a text is the id of a group of hooks.
-fn is_hook_group_id(text: &[u8]) -> bool
+/// Whether a text is the id of a group of hooks: 1 to 1,000 of `[A-Za-z0-9_-]`.
+pub fn is_hook_group_id(text: &[u8]) -> bool
     ensures { IsTrue result ↔ IsHookGroupId text.now }
 {
     !text.is_empty() && text.len() <= 1000 && text.iter().all(|b| is_group_byte(*b))
@@ -104,8 +104,8 @@ fn is_group_byte(b: u8) -> bool
     b.is_ascii_alphanumeric() || b == b'_' || b == b'-'
 }
 
-/// Whether a text is the id of a hook in its group.
-fn is_hook_id(text: &[u8]) -> bool
+/// Whether a text is the id of a hook in its group: 1 to 1,000 of `[A-Za-z0-9_/-]`.
+pub fn is_hook_id(text: &[u8]) -> bool
     ensures { IsTrue result ↔ IsHookId text.now }
 {
     !text.is_empty() && text.len() <= 1000 && text.iter().all(|b| is_hook_byte(*b))

@@ -15,6 +15,3 @@ pub use due_rows::{Deadlines, DueRows, Leases};
 pub use entries::rank;
 pub use laws::{the_best_is_one, the_first_due_is_one};
 pub use pending::Pending;
-
-#[cfg(test)]
-mod tests;

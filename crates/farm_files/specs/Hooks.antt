@@ -1,8 +1,8 @@
 -- What the rows of `[[hook]]` say, and which rules they break (this project's own format, in TOML 1.1).
-use Rattle.std.specs.Prelude.{◌≡◌, ℕ, ◌⊎◌, true, List, [], ◌∷◌, ◌++◌, Option, codes}
+use Rattle.std.specs.Prelude.{◌≡◌, ℕ, true, List, [], ◌∷◌, Option, codes}
 use Rattle.farm_text.specs.Document.{Document, data_of}
 use Rattle.farm_text.specs.Reading.{IsJson, unwhole}
-use Rattle.task_defs.specs.Forms.{HasForm, IsIdentifierByte}
+use Rattle.call_rules.specs.HookNames.{hook_name, IsHookGroupId, IsHookId}
 use Rattle.hook_fire.specs.Hooks.{HookData}
 use Rattle.toml.specs.Data.{Data, Members, get_member}
 use Rattle.farm_files.specs.Rows.{Kind, said_in}
@@ -36,26 +36,14 @@ pub record HasHookKinds (ms : Members) : Type 0 where
   pub id : passes is_text (get_member (codes "id") ms) ≡ true
   pub task : passes is_text (get_member (codes "task") ms) ≡ true
 
--- the class `[A-Za-z0-9_/-]`
-abbrev pub IsHookByte : ℕ → Type 0
-IsHookByte b = IsIdentifierByte b ⊎ (b ≡ 47)
-
--- a group of hooks: 1 to 1,000 of `[A-Za-z0-9_-]`
-abbrev pub IsHookGroup : List ℕ → Type 0
-IsHookGroup text = HasForm 1000 IsIdentifierByte text
-
--- the id of a hook in its group: 1 to 1,000 of `[A-Za-z0-9_/-]`
-abbrev pub IsHookId : List ℕ → Type 0
-IsHookId text = HasForm 1000 IsHookByte text
-
 -- what a row says is of a hook's form
 pub record HasRowHookForm (text : HookText) : Type 0 where
-  pub group : IsHookGroup text.group
+  pub group : IsHookGroupId text.group
   pub id : IsHookId text.id
 
 -- a hook's name: its group, a slash and its id; a group has no slash, so the name tells both
 abbrev pub name_of : HookText → List ℕ
-name_of text = text.group ++ 47 ∷ text.id
+name_of text = hook_name text.group text.id
 
 -- the template that a text is: JSON of whole numbers
 pub record IsTemplateText (text : List ℕ) (template : Document) : Type 0 where

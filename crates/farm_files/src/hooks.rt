@@ -1,11 +1,10 @@
 //! The hooks of `[[hook]]`.
 ghost use Rattle.std.specs.Prelude.{◌≡◌, ◌↔◌, ℕ, ◌+◌, ◌++◌, ◌∷◌, [], map, IfOk, IsTrue, MatchResult, codes, string_bytes, vec_len};
 ghost use Rattle.farm_text.specs.Doc.{document};
-ghost use Rattle.task_defs.specs.Forms.{IsIdentifierByte};
 ghost use Rattle.hook_fire.specs.Hooks.{hook_data, hooks_data};
 ghost use Rattle.toml.specs.Data.{get_member};
 ghost use Rattle.toml.specs.View.{view, table_view};
-ghost use Rattle.farm_files.specs.Hooks.{hook_keys, hook_in, hook_rows, hooks_in, AreHooks, IsHookByte, IsHookFrom, IsHookGroup, IsHookId, IsTemplateText};
+ghost use Rattle.farm_files.specs.Hooks.{hook_keys, hook_in, hook_rows, hooks_in, AreHooks, IsHookFrom, IsTemplateText};
 ghost use Rattle.farm_files.specs.Rows.{RowAtBreaks, RowsBreak, says_of};
 ghost use Rattle.farm_files.specs.Parts.{HasRow, IsSoundRow, RefusesJson, RefusesKeys, RefusesRowBehind, RefusesRows, said_by};
 ghost use Rattle.farm_files.specs.Values.{has_all, has_only};
@@ -16,14 +15,12 @@ use crate::earlier::{add_id, has_id};
 use crate::fault::{FileFault, RowFault, Rule, Table};
 use crate::rows::MOST_ROWS;
 use crate::values::{has_key, has_only, text_or};
+use call_rules::{is_hook_group_id, is_hook_id};
 use farm_text::{Doc, ReadFault, Text};
 use hook_fire::{Hook, HookBook};
 use std::alloc::{AllocError, Global};
 use std::collections::BTreeSet;
 use toml::Value;
-
-/// The greatest number of bytes of a hook's group, and of its id.
-const LONGEST_NAME: usize = 1000;
 
 /// What a row says of a hook, with its template as it is written.
 #[derive(Clone, Copy)]
@@ -67,32 +64,6 @@ fn read_keys(row: &toml::Table) -> Result<Said<'_>, Rule>
         return Err(Rule::WrongKind);
     };
     Ok(Said { group, id, task })
-}
-
-fn is_group_byte(byte: u8) -> bool
-    ensures { IsTrue result ↔ IsIdentifierByte byte }
-{
-    byte.is_ascii_alphanumeric() || byte == b'_' || byte == b'-'
-}
-
-fn is_id_byte(byte: u8) -> bool
-    ensures { IsTrue result ↔ IsHookByte byte }
-{
-    is_group_byte(byte) || byte == b'/'
-}
-
-/// Whether a text is a group of hooks: 1 to 1,000 of `[A-Za-z0-9_-]`.
-pub(crate) fn is_hook_group(text: &[u8]) -> bool
-    ensures { IsTrue result ↔ IsHookGroup text.now }
-{
-    !text.is_empty() && text.len() <= LONGEST_NAME && text.iter().all(|byte| is_group_byte(*byte))
-}
-
-/// Whether a text is the id of a hook in its group: 1 to 1,000 of `[A-Za-z0-9_/-]`.
-pub(crate) fn is_hook_id(text: &[u8]) -> bool
-    ensures { IsTrue result ↔ IsHookId text.now }
-{
-    !text.is_empty() && text.len() <= LONGEST_NAME && text.iter().all(|byte| is_id_byte(*byte))
 }
 
 /// A hook's name: its group, a slash and its id.
@@ -150,7 +121,7 @@ fn read_row(
     if row >= MOST_ROWS {
         return Err(RowFault::Breaks(Rule::OutOfForm));
     }
-    if !is_hook_group(said.group.as_bytes()) || !is_hook_id(said.id.as_bytes()) {
+    if !is_hook_group_id(said.group.as_bytes()) || !is_hook_id(said.id.as_bytes()) {
         return Err(RowFault::Breaks(Rule::OutOfForm));
     }
     let name = match name_of(alloc, said.group, said.id) {

@@ -12,6 +12,3 @@ pub use book::HookBook;
 pub use fault::FireFault;
 pub use firing::{Hook, fire};
 pub use laws::{hooks_cross_threads, late_moments_are_not_read, the_firing_is_one};
-
-#[cfg(test)]
-mod tests;

@@ -2,6 +2,7 @@
 ghost use Rattle.std.specs.Prelude.{◌≡◌, ◌≢◌, ◌<◌, ◌↔◌, length, IfOk, None, Some};
 ghost use Rattle.std.specs.Io.{ReadsAtMost, WritesAtMost};
 ghost use Rattle.std.specs.Io.KnownBytes.{ReadConsumes, WriteAppends};
+ghost use Rattle.std.specs.declared.io.ErrorKind.TheVariants.{Interrupted};
 ghost use Rattle.causes.specs.Causes.{HasCause};
 ghost use Rattle.http_wire.specs.Host.{untold};
 
@@ -16,7 +17,7 @@ pub struct HostSource<R> {
     inner: R,
     faults: FaultCount,
     why: Option<ErrorKind>,
-    ghost told: { ((faults ≡ 0) ↔ (why ≡ None)) × (why ≢ Some ErrorKind.Interrupted) },
+    ghost told: { ((faults ≡ 0) ↔ (why ≡ None)) × (why ≢ Some Interrupted) },
 }
 
 impl<R: Read> HostSource<R> {
@@ -36,7 +37,7 @@ impl<R: Read> HostSource<R> {
     /// that a signal interrupted it.
     pub fn why(&self) -> Option<ErrorKind>
         ensures told { (⟦<HostSource<R> as Source>⟧.faults self.now ≡ 0) ↔ (result ≡ None) }
-        ensures again { result ≢ Some ErrorKind.Interrupted }
+        ensures again { result ≢ Some Interrupted }
     {
         self.why
     }
@@ -65,7 +66,7 @@ pub struct HostSink<W> {
     inner: W,
     faults: FaultCount,
     why: Option<ErrorKind>,
-    ghost told: { ((faults ≡ 0) ↔ (why ≡ None)) × (why ≢ Some ErrorKind.Interrupted) },
+    ghost told: { ((faults ≡ 0) ↔ (why ≡ None)) × (why ≢ Some Interrupted) },
 }
 
 impl<W: Write> HostSink<W> {
@@ -85,7 +86,7 @@ impl<W: Write> HostSink<W> {
     /// that a signal interrupted it.
     pub fn why(&self) -> Option<ErrorKind>
         ensures told { (⟦<HostSink<W> as Sink>⟧.faults self.now ≡ 0) ↔ (result ≡ None) }
-        ensures again { result ≢ Some ErrorKind.Interrupted }
+        ensures again { result ≢ Some Interrupted }
     {
         self.why
     }

@@ -3,7 +3,8 @@ use Rattle.std.specs.List.{list_any}
 use Rattle.std.specs.Str.{bytes_eq}
 use Rattle.toml.specs.View.{view, table_view}
 use Rattle.farm_files.specs.Earlier.{AreIdsOf}
-use Rattle.farm_files.specs.Hooks.{HookText, hook_in, hook_rows, name_of, IsHookGroup, IsHookId}
+use Rattle.call_rules.specs.HookNames.{IsHookGroupId, IsHookId}
+use Rattle.farm_files.specs.Hooks.{HookText, hook_in, hook_rows, name_of}
 use Rattle.farm_files.specs.Parts.{said_by}
 use Rattle.farm_files.specs.Rows.{HasRowForm}
 use Rattle.farm_files.proofs.HookLemmas.{row_made}
@@ -17,8 +18,8 @@ returns-then-has_id c =
     let form : HasRowForm hook_rows c.args.row (hook_in ms) = record {
       within = c.if-row-ge-MOST_ROWS.false;
       form = record {
-        group = subst IsHookGroup (c.as_bytes.ensures.value ∙ ap (λ (t : HookText). t.group) same) (c.if-not-is_hook_group.ensures.0 refl);
-        id = subst IsHookId (c.as_bytes-else-not-is_hook_group.ensures.value ∙ ap (λ (t : HookText). t.id) same) (c.if-not-is_hook_id.ensures.0 refl);
+        group = subst IsHookGroupId (c.as_bytes.ensures.value ∙ ap (λ (t : HookText). t.group) same) (c.if-not-is_hook_group_id.ensures.0 refl);
+        id = subst IsHookId (c.as_bytes-else-not-is_hook_group_id.ensures.value ∙ ap (λ (t : HookText). t.id) same) (c.if-not-is_hook_id.ensures.0 refl);
       };
     } in
     let e : c.as_str.result.now ≡ name_of (hook_in ms) = c.as_str.ensures.value ∙ c.in-Ok-name_of.ensures ∙ ap name_of same in
@@ -32,8 +33,8 @@ returns c =
     let form : HasRowForm hook_rows c.args.row (hook_in ms) = record {
       within = c.if-row-ge-MOST_ROWS.false;
       form = record {
-        group = subst IsHookGroup (c.as_bytes.ensures.value ∙ ap (λ (t : HookText). t.group) same) (c.if-not-is_hook_group.ensures.0 refl);
-        id = subst IsHookId (c.as_bytes-else-not-is_hook_group.ensures.value ∙ ap (λ (t : HookText). t.id) same) (c.if-not-is_hook_id.ensures.0 refl);
+        group = subst IsHookGroupId (c.as_bytes.ensures.value ∙ ap (λ (t : HookText). t.group) same) (c.if-not-is_hook_group_id.ensures.0 refl);
+        id = subst IsHookId (c.as_bytes-else-not-is_hook_group_id.ensures.value ∙ ap (λ (t : HookText). t.id) same) (c.if-not-is_hook_id.ensures.0 refl);
       };
     } in
     let e : c.as_str.result.now ≡ name_of (hook_in ms) = c.as_str.ensures.value ∙ c.in-Ok-name_of.ensures ∙ ap name_of same in

@@ -1,7 +1,7 @@
 //! Functions of texts.
 use super::{all_give, gives};
-use crate::context::Context;
 use farm_text::Entries;
+use jsone_eval::context::Context;
 use std::test::Fail;
 
 const TEXTS: &str = r#"str(1) ~ "1"

@@ -1,8 +1,8 @@
 //! What expressions cost, and that the dearest end soon.
-use crate::context::Context;
-use crate::evaluator::{Cost, eval};
-use crate::tests::read;
+use super::read;
 use farm_text::{Doc, Entries};
+use jsone_eval::context::Context;
+use jsone_eval::evaluator::{Cost, eval};
 use jsone_expr::parse;
 use std::alloc::{AllocError, Global};
 use std::test::Fail;

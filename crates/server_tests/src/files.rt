@@ -1,7 +1,7 @@
 //! Tests: a disk in memory with each stop of a small write, and a file of the host.
 
-use crate::{Disk, FileDisk, MemoryDisk};
 use causes::Failed;
+use disk_base::{Disk, FileDisk, MemoryDisk};
 use std::fs;
 use std::test::Fail;
 

@@ -1,10 +1,10 @@
 //! Statuses against rows that were worked by hand.
-use crate::{definition_doc, status_doc};
 use farm_text::{Doc, Moment, SlugId, Text};
 use run_states::{Claim, ReasonResolved, TaskRow};
 use std::alloc::Global;
 use std::test::Fail;
 use task_defs::{Identifier, read_task};
+use task_statuses::{definition_doc, status_doc};
 
 /// 2024-01-01T00:00:00.000Z.
 const CREATED: u64 = 1_704_067_200_000;

@@ -1,7 +1,7 @@
 //! Expressions against values and faults that were worked by hand from the language's reference and the rules of this project.
-use crate::context::Context;
-use crate::evaluator::{Cost, EvalFault, eval};
 use farm_text::Doc;
+use jsone_eval::context::Context;
+use jsone_eval::evaluator::{Cost, EvalFault, eval};
 use jsone_expr::parse;
 use std::alloc::{AllocError, Global};
 use std::process::Abort;

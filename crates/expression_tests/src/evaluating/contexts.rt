@@ -1,6 +1,6 @@
 //! Names in contexts of several maps, and in contexts without a moment.
 use super::{gives, read};
-use crate::context::Context;
+use jsone_eval::context::Context;
 use std::test::Fail;
 
 #[test]

@@ -1,5 +1,5 @@
 //! The collections, against answers that were worked by hand.
-use super::*;
+use claim_queue::{Deadlines, DueRows, Leases, Pending};
 use farm_text::{Moment, Text};
 use std::alloc::Global;
 use std::test::Fail;

@@ -1,6 +1,6 @@
 //! Firings that were worked by hand.
-use crate::{FireFault, Hook, fire};
 use farm_text::{Doc, Moment, SlugId, Text};
+use hook_fire::{FireFault, Hook, fire};
 use std::alloc::{AllocError, Global};
 use std::process::Abort;
 use std::test::Fail;

@@ -1,7 +1,7 @@
 //! Stops of appends and of openings, image by image.
 
-use crate::{DiskFault, Frame, Journal, OpenFault, frame, frame_tick};
 use disk_base::{Disk, MemoryDisk};
+use disk_journal::{DiskFault, Frame, Journal, OpenFault, frame, frame_tick};
 use std::alloc::{AllocError, Global};
 use std::test::Fail;
 

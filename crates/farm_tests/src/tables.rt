@@ -1,5 +1,5 @@
 //! The routes of the Taskcluster reference, "queue" and "hooks", and paths that none has.
-use crate::{Found, Route, Table};
+use route_table::{Found, Route, Table};
 use std::test::Fail;
 
 /// A method and a path, with the route that they have and the parts that stand for its parameters.
