@@ -6,6 +6,8 @@
 #[cfg(test)]
 mod disks;
 #[cfg(test)]
+mod host;
+#[cfg(test)]
 mod houses;
 #[cfg(test)]
 mod limits;

@@ -14,7 +14,7 @@ mod giving_back;
 pub mod host_house;
 pub mod house;
 mod inputs;
-mod laws;
+pub mod laws;
 mod lending;
 mod loading;
 mod memory_doors;

@@ -13,4 +13,6 @@ mod files;
 #[cfg(test)]
 mod journals;
 #[cfg(test)]
+mod sockets;
+#[cfg(test)]
 mod workers;
