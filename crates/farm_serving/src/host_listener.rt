@@ -1,5 +1,5 @@
 //! A door of the system: a TCP socket that is listened at.
-ghost use Rattle.std.specs.Prelude.{◌≡◌, ◌≤◌, IfOk, None};
+ghost use Rattle.std.specs.Prelude.{◌≡◌, ◌≤◌, ◌↔◌, IfOk, None};
 ghost use Rattle.causes.specs.Causes.{Rose};
 
 use crate::door::Listener;
@@ -26,6 +26,7 @@ pub struct HostListener<R: Clock + Copy> {
     accepts: u64,
     faults: FaultCount,
     why: Option<ErrorKind>,
+    ghost told: { (faults ≡ 0) ↔ (why ≡ None) },
 }
 
 impl<R: Clock + Copy> HostListener<R> {
@@ -61,8 +62,10 @@ impl<R: Clock + Copy> HostListener<R> {
         }
     }
 
-    /// Why the last accept or twin failed that did, as the system told it.
-    pub fn why(&self) -> Option<ErrorKind> {
+    /// Why the last accept or twin failed that did, as the system told it. It is none just where none has.
+    pub fn why(&self) -> Option<ErrorKind>
+        ensures { (⟦<HostListener<R> as Listener>⟧.faults self.now ≡ 0) ↔ (result ≡ None) }
+    {
         self.why
     }
 
@@ -106,6 +109,7 @@ impl<R: Clock + Copy> Listener for HostListener<R> {
         self.accepts = self.accepts.saturating_add(1);
         if self.out == u64::MAX {
             self.faults.raise();
+            self.why = Some(ErrorKind::QuotaExceeded);
             return Err(Failed);
         }
         match accepted(&self.listener) {
