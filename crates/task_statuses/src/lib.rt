@@ -6,6 +6,7 @@ mod laws;
 mod names;
 mod runs;
 mod status;
+
 pub use definition::definition_doc;
 pub use laws::moments_have_texts;
 pub use runs::moment_doc;
