@@ -25,6 +25,8 @@ const LAST_PING: &[u8] = b"GET /api/queue/v1/ping HTTP/1.1\r\nConnection: close\
 const ALIVE: &[u8] =
     b"HTTP/1.1 200 OK\r\nContent-Length: 14\r\nContent-Type: application/json\r\n\r\n{\"alive\":true}";
 
+mod gates;
+
 /// A worker with a door in memory.
 type MemoryWorker = Worker<MemoryListener, ListClock, ListDraws, NoGate>;
 

@@ -2,25 +2,25 @@
 use super::read;
 use farm_text::{Doc, Entries};
 use jsone_eval::context::Context;
-use jsone_eval::evaluator::{Cost, eval};
+use jsone_eval::evaluator::{Cost, EvalFault, eval};
 use jsone_expr::parse;
 use std::alloc::{AllocError, Global};
 use std::test::Fail;
 
-/// What was paid for the expression where so much was paid before; nothing, where it has no value.
+/// What was paid for the expression where so much was paid before; nothing, where more than the limit would be paid.
 fn cost_of(
     alloc: Global,
     expression: &str,
     context: &Context,
     spent: u64,
-) -> Result<Option<u64>, AllocError> {
-    let Ok(tree) = parse(alloc, expression.as_bytes()) else {
-        return Ok(None);
-    };
+) -> Result<Option<u64>, Fail> {
+    let tree = parse(alloc, expression.as_bytes()).ok().ok_or("a tree")?;
     let mut cost = Cost { spent };
     match eval(alloc, &tree, context, &mut cost) {
         Ok(_) => Ok(cost.spent.checked_sub(spent)),
-        Err(_) => Ok(None),
+        Err(EvalFault::TooMuchWork) => Ok(None),
+        Err(EvalFault::Fault(_)) => Err(Fail::new("a fault")),
+        Err(EvalFault::NoMemory) => Err(Fail::new("no memory")),
     }
 }
 
@@ -81,16 +81,16 @@ fn many(alloc: Global, character: char, count: usize) -> Result<String, AllocErr
     Ok(text)
 }
 
-/// A line is an expression and its cost, or that it has no value.
+/// A line is an expression and its cost, or that it costs more than the limit.
 const DEAREST: &str = "needle in long ~ 500004
 len(split(long, needle)) ~ 800006
 len(split(long, 'a')) ~ 600006
 len(split(long, '')) ~ 900004
-len(join(range(0, 150000), long)) ~ none
-len(long + long + long) ~ none
-range(0, 9223372036854775807) ~ none
+len(join(range(0, 150000), long)) ~ too much
+len(long + long + long) ~ too much
+range(0, 9223372036854775807) ~ too much
 len(range(0, 999990)) ~ 999994
-[long, long, long] ~ none
+[long, long, long] ~ too much
 long == long ~ 600003
 uppercase(long)[-1] ~ 600006";
 

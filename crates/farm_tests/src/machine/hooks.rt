@@ -48,29 +48,46 @@ fn role(alloc: Global, id: &str, lines: &str) -> Result<Role, Fail> {
     Ok(Role { id, scopes })
 }
 
-/// A book of hook `g/h`, whose tasks go to this queue, a JSON text.
+/// The hook of this id in group `g` with this template, a JSON text.
+fn hook(alloc: Global, id: &str, text: &str) -> Result<Hook, Fail> {
+    let template = Doc::read(alloc, text.as_bytes()).ok().ok_or("a template")?;
+    Ok(Hook {
+        group: Text::from_str(alloc, "g")?,
+        id: Text::from_str(alloc, id)?,
+        template,
+    })
+}
+
+/// A book of hooks `g/h`, `g/dear` and `g/wide`: the tasks of the first and the last go to this queue, a JSON text, and the template of the
+/// second costs more than may be paid.
 fn hooks(alloc: Global, queue: &str) -> Result<HookBook, Fail> {
     let text = format!(in alloc; "{TEMPLATE}{queue}}}")?;
-    let template = Doc::read(alloc, text.as_bytes()).ok().ok_or("a template")?;
-    let group = Text::from_str(alloc, "g")?;
-    let id = Text::from_str(alloc, "h")?;
     let mut hooks = HookBook::new(alloc);
+    hooks.push(alloc, hook(alloc, "h", text.as_str())?)?;
     hooks.push(
         alloc,
-        Hook {
-            group,
-            id,
-            template,
-        },
+        hook(alloc, "dear", r#"{"$eval":"len(range(0,2000000))"}"#)?,
     )?;
+    hooks.push(alloc, hook(alloc, "wide", text.as_str())?)?;
     Ok(hooks)
 }
 
-/// A farm in which anyone may trigger the hook, which has these scopes.
+/// The role of hook `g/wide`, with as many scopes as one may have beside its own.
+fn wide_role(alloc: Global) -> Result<Role, Fail> {
+    let mut scopes = Vec::new(alloc);
+    for place in 0..10_000 {
+        scopes.push(Scope::new(format!(in alloc; "s{place}")?).ok_or("a scope")?)?;
+    }
+    let id = String::from_str(alloc, "hook-id:g/wide")?;
+    Ok(Role { id, scopes })
+}
+
+/// A farm in which anyone may trigger the hooks, of which `g/h` has these scopes.
 fn farm(alloc: Global, scopes: &str, queue: &str) -> Result<Config, Fail> {
-    let anyone = role(alloc, "anonymous", "hooks:trigger-hook:g/h")?;
+    let anyone = role(alloc, "anonymous", "hooks:trigger-hook:g/*")?;
     let hook = role(alloc, "hook-id:g/h", scopes)?;
-    let roles = RoleSet::build(alloc, vec![in alloc; anyone, hook]?)
+    let wide = wide_role(alloc)?;
+    let roles = RoleSet::build(alloc, vec![in alloc; anyone, hook, wide]?)
         .ok()
         .ok_or("roles")?;
     let clients = ClientBook::build(alloc, Vec::new(alloc))
@@ -115,6 +132,9 @@ fn reply(alloc: Global, config: &Config, id: &str, payload: &str) -> Result<Repl
 /// The hook's id, the payload, the status of the reply, and its body.
 const ROWS: &str =
     r#"h|{"x":"one"}|403|{"code":"HookInsufficientScopes","details":{"missing":{"AllOf":["queue:route:r.one"]}},"message":"the hook's scopes are missing"}
+h|{"w":"0123456789012345678901234567890123456789012345678901234567890123456789012345678901234567890123456789","x":"one"}|403|{"code":"HookInsufficientScopes","details":{"missing":{"AllOf":["queue:route:r.one"]}},"message":"the hook's scopes are missing"}
+dear|{}|400|{"code":"InputError","details":{"rule":19},"message":"the request breaks a rule"}
+wide|{"x":"one"}|403|{"code":"ExpansionLimit","details":{"limit":10000},"message":"too many scopes are derivable"}
 h|{}|400|{"code":"InputError","details":{"fault":6,"path":"/routes/0","rule":18},"message":"the request breaks a rule"}
 h|[]|400|{"code":"InputError","details":{"rule":25},"message":"the request breaks a rule"}
 i|{}|404|{"code":"ResourceNotFound","details":{"kind":"hook","name":"g/i"},"message":"nothing has that name"}"#;
