@@ -49,12 +49,8 @@ fn door(
     let mut coming = Vec::new(alloc);
     coming.push(link(alloc, second)?)?;
     coming.push(link(alloc, first)?)?;
-    Ok(MemoryListener::new(
-        alloc,
-        coming,
-        Vec::from_slice(alloc, failing)?,
-        Vec::new(alloc),
-    ))
+    let failing = Vec::from_slice(alloc, failing)?;
+    MemoryListener::new(alloc, coming, failing, Vec::new(alloc))
 }
 
 /// A house with a farm file that is open to all, a disk of these bytes, and this door at `here`.
@@ -139,7 +135,7 @@ fn four_workers_serve(rt: HostRuntime) -> Result<(), Fail> {
     twins.push(pinged(alloc, 4)?)?;
     twins.push(pinged(alloc, 3)?)?;
     twins.push(pinged(alloc, 2)?)?;
-    let door = MemoryListener::new(alloc, pinged(alloc, 1)?, Vec::new(alloc), twins);
+    let door = MemoryListener::new(alloc, pinged(alloc, 1)?, Vec::new(alloc), twins)?;
     let mut house = house(alloc, &case, &[], door)?;
     let done = outcome_in(&rt, alloc, &case, &mut house)?;
     assert_eq!(rt; done.status.code(), 0);

@@ -58,7 +58,7 @@ fn worker(
             coming,
             Vec::from_slice(alloc, failing)?,
             Vec::new(alloc),
-        ),
+        )?,
         clock: ListClock::new(Vec::new(alloc)),
         draws: ListDraws::new(Vec::new(alloc)),
         gate: NoGate,

@@ -54,7 +54,7 @@ fn turned<'a>(
     let mut coming = Vec::new(alloc);
     coming.push(link(alloc, &[PING], &[], &[])?)?;
     Ok(Worker {
-        door: MemoryListener::new(alloc, coming, Vec::new(alloc), Vec::new(alloc)),
+        door: MemoryListener::new(alloc, coming, Vec::new(alloc), Vec::new(alloc))?,
         clock: ListClock::new(Vec::new(alloc)),
         draws: ListDraws::new(Vec::new(alloc)),
         gate: Turnstile {
