@@ -1,5 +1,5 @@
-//! Tests of definitions, records, runs, rows, queues, statuses, scopes and hooks of tasks: of `task_defs`, `farm_record`, `run_states`,
-//! `claim_queue`, `farm_rows`, `task_statuses`, `call_rules`, `hook_fire`.
+//! Tests of definitions, records, runs, rows, statuses, scopes and hooks of tasks: of `task_defs`, `farm_record`, `run_states`,
+//! `farm_rows`, `task_statuses`, `call_rules`, `hook_fire`.
 //!
 //! They stand in a crate of their own since the gate proves a crate's tests together with the crate: here it proves the tests alone.
 #![tactic(auto)]
@@ -8,8 +8,6 @@
 mod definitions;
 #[cfg(test)]
 mod hooks;
-#[cfg(test)]
-mod queues;
 #[cfg(test)]
 mod records;
 #[cfg(test)]
