@@ -118,7 +118,7 @@ kept-behind None id ids noted kept = tt
 kept-behind (Some places) id ids noted kept = record {
   at =
       λ place other here. elim (behind ids id place other here) [
-        inl before ↦ kept.at place other before
+        | inl before ↦ kept.at place other before
         | inr last ↦ ap (kept_of places) last.1 ∙ (noted-at (kept_of places id) (length ids) noted ∙ ap Some (sym last.0))
       ];
 }

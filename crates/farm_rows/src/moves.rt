@@ -14,7 +14,13 @@ use run_states::{Claim as RunClaim, ReasonResolved, TaskRow};
 use slug_places::places::Places;
 
 /// The task becomes pending, where it is unscheduled.
-pub(crate) fn schedule(rows: &mut [TaskRow], places: Option<&Places>, id: SlugId, at: Moment, number: u64)
+pub(crate) fn schedule(
+    rows: &mut [TaskRow],
+    places: Option<&Places>,
+    id: SlugId,
+    at: Moment,
+    number: u64,
+)
     requires { ArePlaced (option_copied places) rows.old }
     ensures { rows.new ≡ change_row id (scheduled number at) rows.old }
 {
@@ -25,7 +31,13 @@ pub(crate) fn schedule(rows: &mut [TaskRow], places: Option<&Places>, id: SlugId
 }
 
 /// The task is run again, where it may be.
-pub(crate) fn rerun(rows: &mut [TaskRow], places: Option<&Places>, id: SlugId, at: Moment, number: u64)
+pub(crate) fn rerun(
+    rows: &mut [TaskRow],
+    places: Option<&Places>,
+    id: SlugId,
+    at: Moment,
+    number: u64,
+)
     requires { ArePlaced (option_copied places) rows.old }
     ensures { rows.new ≡ change_row id (run_again number at) rows.old }
 {
@@ -69,7 +81,13 @@ pub(crate) fn reclaim(rows: &mut [TaskRow], places: Option<&Places>, reclaim: Re
 }
 
 /// The run of a task ends, as its worker reports.
-pub(crate) fn resolve(rows: &mut [TaskRow], places: Option<&Places>, resolution: &Resolution, at: Moment, number: u64)
+pub(crate) fn resolve(
+    rows: &mut [TaskRow],
+    places: Option<&Places>,
+    resolution: &Resolution,
+    at: Moment,
+    number: u64,
+)
     requires { ArePlaced (option_copied places) rows.old }
     ensures { let r = resolution.now in rows.new ≡ change_row r.id (resolved r.run (reason_of r.reason) number at) rows.old }
 {

@@ -14,12 +14,7 @@ use slug_places::places::Places;
 use task_defs::Requires;
 
 /// Makes each task pending that is ready, in the order of creation, the first with this number. Answers how many there were.
-pub(crate) fn settle(
-    rows: &mut [TaskRow],
-    places: Option<&Places>,
-    at: Moment,
-    first: u64,
-) -> u64
+pub(crate) fn settle(rows: &mut [TaskRow], places: Option<&Places>, at: Moment, first: u64) -> u64
     requires placed { ArePlaced (option_copied places) rows.old }
     requires few { length rows.old ≤ 1_000_000 }
     requires drawn { first ≤ 50_000_001 }

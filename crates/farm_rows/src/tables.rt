@@ -257,7 +257,8 @@ impl TaskTables {
             Kind::Schedule(id) => may_schedule(&self.by_ids(), *id),
             Kind::Rerun(id) => may_rerun(&self.by_ids(), *id, at),
             Kind::Cancel(id) => may_cancel(&self.by_ids(), *id),
-            Kind::Reclaim(r) => may_keep(at, r.taken_until) && is_running(&self.by_ids(), r.id, r.run),
+            Kind::Reclaim(r) => may_keep(at, r.taken_until)
+                && is_running(&self.by_ids(), r.id, r.run),
             Kind::Resolve(r) => is_running(&self.by_ids(), r.id, r.run),
             Kind::Tick => false,
         }
@@ -315,7 +316,14 @@ impl TaskTables {
         requires lawful { may_apply self.old (change_of at deed.now) ≡ true }
         ensures { self.new ≡ applied self.old (change_of at deed.now) }
     {
-        let drawn = change(&mut self.rows, self.places.as_ref(), at, self.next, deed, claims);
+        let drawn = change(
+            &mut self.rows,
+            self.places.as_ref(),
+            at,
+            self.next,
+            deed,
+            claims,
+        );
         self.soonest = soonest(&self.rows);
         self.next += drawn;
         self.last = at;

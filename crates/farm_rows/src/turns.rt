@@ -43,12 +43,7 @@ pub(crate) fn resolve_due(
 
 /// Resolves all that is due at this moment, each at its own moment, after which the tasks settle each time; and answers the number that is
 /// drawn next.
-fn take_turns(
-    rows: &mut [TaskRow],
-    places: Option<&Places>,
-    first: u64,
-    moment: Moment,
-) -> u64
+fn take_turns(rows: &mut [TaskRow], places: Option<&Places>, first: u64, moment: Moment) -> u64
     requires placed { ArePlaced (option_copied places) rows.old }
     requires few { length rows.old ≤ 1_000_000 }
     requires fit { list_all fits rows.old ≡ true }
