@@ -24,7 +24,7 @@ impl<'a> Model for Rows<'a> {
     ghost use Rattle.std.specs.Coded.{codes};
     ghost use Rattle.task_defs.specs.Codes.{members_code};
     ghost use Rattle.run_states.specs.Rows.{Row};
-    ghost use Rattle.farm_rows.specs.Placed.{is_noted, holds_place, MayBeKept, ArePlaced};
+    ghost use Rattle.farm_rows.specs.Placed.{ArePlaced};
 
     ghost Value = { List Row };
 

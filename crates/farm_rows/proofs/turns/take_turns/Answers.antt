@@ -1,8 +1,8 @@
-use Rattle.std.proofs.Common.{◌≡◌, ◌+◌, List, length, Some, ap, sym, ◌∙◌, arith}
+use Rattle.std.proofs.Common.{length, ap, sym, ◌∙◌, arith}
 use Rattle.std.specs.Prelude.{option_copied}
 use Rattle.std.specs.List.{list_all}
 use Rattle.farm_rows.specs.Contents.{Contents}
-use Rattle.farm_rows.specs.Due.{all_due_moments, first_due, resolved_at}
+use Rattle.farm_rows.specs.Due.{all_due_moments, resolved_at}
 use Rattle.farm_rows.specs.Sweep.{numbered, all_turns, runs_made, fits}
 use Rattle.farm_rows.proofs.FitLemmas.{made-few}
 use Rattle.farm_rows.proofs.PlacedLemmas.{ids_of, placed-same}

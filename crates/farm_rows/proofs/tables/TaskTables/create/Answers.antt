@@ -1,7 +1,6 @@
-use Rattle.std.proofs.Common.{◌≡◌, ◌+◌, false, List, [], length, ap, sym, subst, ◌∙◌, arith, rules, vec_len, vec_capacity}
+use Rattle.std.proofs.Common.{◌≡◌, ◌+◌, false, List, length, ap, sym, subst, ◌∙◌, arith, rules, vec_len, vec_capacity}
 use Rattle.std.specs.List.{list_any}
 use Rattle.run_states.specs.declared.run.Run.{Run}
-use Rattle.run_states.specs.Rows.{new_row}
 use Rattle.farm_record.specs.declared.change.Creation.{Creation}
 use Rattle.farm_rows.specs.Contents.{Contents}
 use Rattle.farm_rows.specs.Changes.{creating}

@@ -1,5 +1,4 @@
 use Rattle.std.proofs.Common.{◌≡◌, ℕ, ◌+◌, ◌≤◌, max, false, length, ap, sym, subst, ◌∙◌, rules, vec_capacity}
-use Rattle.run_states.specs.Rows.{Row}
 use Rattle.farm_rows.specs.Contents.{Contents}
 use Rattle.farm_rows.specs.Plans.{room_for}
 use Rattle.farm_rows.specs.Ready.{has_ready, settled_row}
