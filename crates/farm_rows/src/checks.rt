@@ -5,7 +5,7 @@ ghost use Rattle.run_states.specs.Rows.{is_unscheduled, is_resolved, is_running_
 ghost use Rattle.run_states.specs.Moves.{may_rerun};
 ghost use Rattle.farm_rows.specs.Changes.{on_row, may_keep, kept_scheduler, may_join};
 
-use crate::moves::row_with;
+use crate::places::Rows;
 use farm_record::Creation;
 use farm_text::{Moment, SlugId};
 use run_states::{MOST_RUNS, TaskRow};
@@ -22,10 +22,10 @@ pub(crate) fn may_keep(at: Moment, until: Moment) -> bool
 }
 
 /// Whether the task with this id stands and may be run again.
-pub(crate) fn may_rerun(rows: &[TaskRow], id: SlugId, at: Moment) -> bool
+pub(crate) fn may_rerun(rows: &Rows<'_>, id: SlugId, at: Moment) -> bool
     ensures { result ≡ on_row (may_rerun at) id rows.now }
 {
-    match row_with(rows, id) {
+    match rows.with(id) {
         Some(row) => row_may_rerun(row, at),
         None => false,
     }
@@ -38,30 +38,30 @@ fn row_may_rerun(row: &TaskRow, at: Moment) -> bool
 }
 
 /// Whether the task with this id stands and is not resolved.
-pub(crate) fn may_cancel(rows: &[TaskRow], id: SlugId) -> bool
+pub(crate) fn may_cancel(rows: &Rows<'_>, id: SlugId) -> bool
     ensures { result ≡ on_row (λ row. not (is_resolved row)) id rows.now }
 {
-    match row_with(rows, id) {
+    match rows.with(id) {
         Some(row) => !row.is_resolved(),
         None => false,
     }
 }
 
 /// Whether the run of a task is there and running.
-pub(crate) fn is_running(rows: &[TaskRow], id: SlugId, run: u8) -> bool
+pub(crate) fn is_running(rows: &Rows<'_>, id: SlugId, run: u8) -> bool
     ensures { result ≡ on_row (is_running_at run) id rows.now }
 {
-    match row_with(rows, id) {
+    match rows.with(id) {
         Some(row) => row.is_running_at(run),
         None => false,
     }
 }
 
 /// Whether the task with this id stands and is unscheduled.
-pub(crate) fn may_schedule(rows: &[TaskRow], id: SlugId) -> bool
+pub(crate) fn may_schedule(rows: &Rows<'_>, id: SlugId) -> bool
     ensures { result ≡ on_row is_unscheduled id rows.now }
 {
-    match row_with(rows, id) {
+    match rows.with(id) {
         Some(row) => row.is_unscheduled(),
         None => false,
     }

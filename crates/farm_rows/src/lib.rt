@@ -11,6 +11,7 @@ mod laws;
 mod lists;
 mod moves;
 mod picks;
+mod places;
 mod plan;
 mod room;
 mod settle;
