@@ -23,7 +23,7 @@ use Rattle.farm_machine.specs.Calls.CreateTask.{create_task}
 use Rattle.farm_machine.specs.Calls.TriggerHook.{hook_at, of_hook, trigger_hook, Fired, unless_lacking, by_access, HookMay, fault_answer, Follows, ComesTo, case_after}
 use Rattle.farm_machine.specs.Case.{Setting, Case}
 use Rattle.farm_machine.specs.Entry.{Asking, Entry, call, finished}
-use Rattle.farm_machine.specs.HookLaws.{TellsExactly, Triggered, Grants}
+use Rattle.farm_machine.specs.HookLaws.{TellsExactly, DeniesHookExactly, Triggered, Grants}
 use Rattle.farm_machine.specs.Judgement.{Judgement, only_answer}
 use Rattle.farm_machine.specs.Laws.{setting_behind}
 use Rattle.farm_machine.specs.Order.{asks_then, IsFirst, GoesOn, ending, in_order}
@@ -182,13 +182,13 @@ module _ (opening : State) (before after : List Entry) (asking : Asking) (judgem
         let one : found.0 ≡ fired = ComesTo-one trigger at found.0 (by_access made (Has granted)) found.1 comes_so ∙ same in
         subst (λ (f : Fired). IsFirst (ending at (case_after f at)) judgement) one found.2
 
-    pub hooks-exact : TellsExactly hook_insufficient_scopes granted (create_policy definition) judgement.answer
+    pub hooks-exact : DeniesHookExactly granted (create_policy definition) judgement.answer
     hooks-exact = by (holds granted (create_policy definition)) refl where
-      by : (test : Bool) → holds granted (create_policy definition) ≡ test → TellsExactly hook_insufficient_scopes granted (create_policy definition) judgement.answer
+      by : (test : Bool) → holds granted (create_policy definition) ≡ test → DeniesHookExactly granted (create_policy definition) judgement.answer
       by true held_so =
           let status = made-status at made judgement (ends (Ok made) (rw held_so refl)) in
           record {
-            held = λ held lack. other-status judgement.answer status hook_insufficient_scopes (λ l. refl) lack;
+            held = λ held. status;
             lacked = λ not_held. absurd (not_held held_so);
           }
       by false lacking =

@@ -23,6 +23,11 @@ pub record TellsExactly (tell : Expression → Answer) (scopes : List (List ℕ)
   pub held : IsTrue (holds scopes policy) → (lack : Expression) → answer ≢ tell lack
   pub lacked : ¬ IsTrue (holds scopes policy) → (lack : Expression) × (missing scopes policy ≡ Some lack) × HasNoEmptyAllOf lack × (answer ≡ tell lack)
 
+-- The hook is denied exactly where its scopes do not hold the expression: then the answer tells what is missing, which is something.
+pub record DeniesHookExactly (scopes : List (List ℕ)) (policy : Expression) (answer : Answer) : Type 0 where
+  pub held : IsTrue (holds scopes policy) → answer.status ≢ 403
+  pub lacked : ¬ IsTrue (holds scopes policy) → (lack : Expression) × (missing scopes policy ≡ Some lack) × HasNoEmptyAllOf lack × (answer ≡ hook_insufficient_scopes lack)
+
 -- In a legal history this hook was triggered by a caller who has these scopes.
 pub record Triggered (opening : State) (before after : List Entry) (asking : Asking) (judgement : Judgement) (trigger : Trigger) (hook : HookData) (scopes : List (List ℕ)) : Type 0 where
   pub ended : Finished opening before after asking judgement
@@ -42,11 +47,11 @@ CallersAreExact =
     → Triggered opening before after asking judgement trigger hook scopes
     → TellsExactly insufficient_scopes scopes (trigger_policy trigger.hook) judgement.answer
 
--- And where they hold it, the hook is exactly where its own scopes do not hold what a createTask of its definition asks.
+-- And where they hold it, the hook is exactly where its own scopes do not hold what a createTask of its definition asks: else no answer is a denial.
 abbrev pub HooksAreExact : Type 0
 HooksAreExact =
     (opening : State) (before after : List Entry) (asking : Asking) (judgement : Judgement) (trigger : Trigger) (hook : HookData) (scopes : List (List ℕ)) (definition : TaskDef) (granted : List (List ℕ))
     → Triggered opening before after asking judgement trigger hook scopes
     → IsTrue (holds scopes (trigger_policy trigger.hook))
     → Grants opening (setting_behind opening before asking) trigger hook definition granted
-    → TellsExactly hook_insufficient_scopes granted (create_policy definition) judgement.answer
+    → DeniesHookExactly granted (create_policy definition) judgement.answer
