@@ -56,9 +56,17 @@ impl TaskTables {
         ensures plan { IfOk result (λ p. IsPlanOn self.old p) }
         ensures same { self.new ≡ self.old }
     {
-        self.note_next(creation.id)?;
-        self.note_group(creation.definition.task_group_id)?;
+        self.note_places(&creation)?;
         self.plan_creation(alloc, at, creation)
+    }
+
+    /// Notes the place of a task that is to be created, by its id, and for its group.
+    fn note_places(&mut self, creation: &Creation) -> Result<(), AllocError>
+        requires { row_with creation.now.id self.old.rows ≡ None }
+        ensures { self.new ≡ self.old }
+    {
+        self.note_next(creation.id)?;
+        self.note_group(creation.definition.task_group_id)
     }
 
     /// Notes the place of a task that is to be created.
