@@ -24,11 +24,7 @@ pub(crate) fn first_of<'a>(
 }
 
 /// The task at the place that is kept of a group, where it is of that group.
-fn standing_first<'a>(
-    rows: &'a [TaskRow],
-    groups: &Places,
-    group: SlugId,
-) -> Option<&'a TaskRow>
+fn standing_first<'a>(rows: &'a [TaskRow], groups: &Places, group: SlugId) -> Option<&'a TaskRow>
     requires { AreFirst groups.now (groups_of rows.now) }
     ensures { option_copied result ≡ find (in_group group) rows.now }
 {
