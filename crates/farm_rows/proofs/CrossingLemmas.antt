@@ -14,7 +14,7 @@ tables_send sent = view_send _ _ _ _ _ (declared_send inside_type (
     search (crosses, sendable) depth 40 fits 50000,
     (
       search (crosses, sendable) depth 40 fits 50000,
-      (search (crosses, sendable) depth 40 fits 50000, (search (crosses, maps.crosses, sendable) depth 40 fits 50000, tt)),
+      (search (crosses, sendable) depth 40 fits 50000, (search (crosses, maps.crosses, sendable) depth 40 fits 50000, (search (crosses, maps.crosses, sendable) depth 40 fits 50000, tt))),
     ),
   ),
 ))

@@ -9,6 +9,7 @@ pub mod ClaimLemmas
 pub mod FitLemmas
 pub mod PlaceLemmas
 pub mod PlacedLemmas
+pub mod GroupLemmas
 pub mod KeptLemmas
 pub mod TableLemmas
 pub mod IdLemmas

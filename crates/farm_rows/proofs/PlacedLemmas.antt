@@ -34,7 +34,7 @@ found-at test (x ∷ xs) place first =
     let at = position-Some test (x ∷ xs) place x first in
     record { item = get_or (x ∷ xs) place x; is = slice_get-get_or (x ∷ xs) place x at.0; passes = at.1 }
 
-none-passes : {A : Type 0} (test : A → Bool) (xs : List A) (place : ℕ) → list_any test xs ≡ false → option_map_or test (slice_get xs place) false ≡ false
+pub none-passes : {A : Type 0} (test : A → Bool) (xs : List A) (place : ℕ) → list_any test xs ≡ false → option_map_or test (slice_get xs place) false ≡ false
 none-passes test xs place none = by (slice_get xs place) refl where
   by : (o : Option _) → slice_get xs place ≡ o → option_map_or test o false ≡ false
   by None at = refl
@@ -108,7 +108,7 @@ behind (x ∷ ids) id zero other here = inl here
 behind (x ∷ ids) id (suc place) other here =
     elim (behind ids id place other here) [ inl before ↦ inl before | inr last ↦ (let next : suc place ≡ length (x ∷ ids) = ap suc last.0 in inr (next, last.1)) ]
 
-noted-at : (kept : Option ℕ) (place : ℕ) → holds_place kept place ≡ true → kept ≡ Some place
+pub noted-at : (kept : Option ℕ) (place : ℕ) → holds_place kept place ≡ true → kept ≡ Some place
 noted-at None place holds = cc
 noted-at (Some other) place holds = ap Some (eqb-true other place holds)
 

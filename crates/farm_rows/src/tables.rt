@@ -18,6 +18,7 @@ use crate::checks::{
     is_running, kept_scheduler, may_cancel, may_join, may_keep, may_rerun, may_schedule,
 };
 use crate::counts::RowCounts;
+use crate::groups::keep_first;
 use crate::lists::{Page, TaskList, lists, page_behind};
 use crate::picks::{may_claim, pending, picks};
 use crate::places::{Rows, keep_noted};
@@ -51,6 +52,8 @@ pub struct TaskTables {
     soonest: Option<Moment>,
     /// The place of each task by its id, where these are kept.
     places: Option<Places>,
+    /// The place of the first task of each group, where these are kept.
+    groups: Option<Places>,
 }
 
 impl Model for TaskTables {
@@ -66,7 +69,7 @@ impl Model for TaskTables {
 
     ghost view = { λ t. record { rows = t.rows.items; last = t.last; next = t.next } };
 
-    ghost invariant = { λ t. AreTables t.rows.items t.last t.next t.soonest (vec_capacity t.rows) t.places };
+    ghost invariant = { λ t. AreTables t.rows.items t.last t.next t.soonest (vec_capacity t.rows) t.places t.groups };
 }
 
 impl TaskTables {
@@ -80,6 +83,7 @@ impl TaskTables {
             next: 0,
             soonest: None,
             places: Some(BTreeMap::new(alloc)),
+            groups: Some(BTreeMap::new(alloc)),
         }
     }
 
@@ -180,7 +184,7 @@ impl TaskTables {
     pub fn kept_scheduler(&self, group: SlugId) -> Option<&Identifier>
         ensures { option_copied result ≡ kept_scheduler group self.now.rows }
     {
-        kept_scheduler(&self.rows, group)
+        kept_scheduler(&self.rows, self.groups.as_ref(), group)
     }
 
     /// The first task that a new one waits for, in the order of its definition, that is not the task itself and does not stand.
@@ -271,7 +275,7 @@ impl TaskTables {
         self.row(creation.id).is_none()
             && at < creation.definition.deadline
             && waits_well(&self.by_ids(), creation)
-            && may_join(&self.rows, creation)
+            && may_join(&self.rows, self.groups.as_ref(), creation)
             && self.rows.len() < MOST_TASKS
     }
 
@@ -303,6 +307,7 @@ impl TaskTables {
         let drawn = row.runs().len() as u64;
         let place = self.rows.len();
         keep_noted(&mut self.places, row.id(), place);
+        keep_first(&mut self.groups, &self.rows, row.definition().task_group_id);
         add(&mut self.rows, grown, row);
         self.soonest = soonest;
         self.next += drawn;

@@ -7,6 +7,7 @@ ghost use Rattle.farm_rows.specs.Plans.{named_rows, IsPlanOn};
 ghost use Rattle.farm_rows.specs.Deeds.{kind_of, change_of, row_of, claims_of, rows_after};
 
 use crate::copies::claims;
+use crate::groups::note_first;
 use crate::places::note_new;
 use crate::plan::{Deed, TaskPlan};
 use crate::room::grown;
@@ -43,7 +44,7 @@ impl TaskTables {
         }
     }
 
-    /// The plan of a creation that may be made. The place that the task will have is noted.
+    /// The plan of a creation that may be made. The place that the task will have is noted, and for its group, where it is the first.
     fn plan_new(
         &mut self,
         alloc: Global,
@@ -55,8 +56,17 @@ impl TaskTables {
         ensures plan { IfOk result (λ p. IsPlanOn self.old p) }
         ensures same { self.new ≡ self.old }
     {
-        self.note_next(creation.id)?;
+        self.note_places(&creation)?;
         self.plan_creation(alloc, at, creation)
+    }
+
+    /// Notes the place of a task that is to be created, by its id, and for its group.
+    fn note_places(&mut self, creation: &Creation) -> Result<(), AllocError>
+        requires { row_with creation.now.id self.old.rows ≡ None }
+        ensures { self.new ≡ self.old }
+    {
+        self.note_next(creation.id)?;
+        self.note_group(creation.definition.task_group_id)
     }
 
     /// Notes the place of a task that is to be created.
@@ -66,6 +76,13 @@ impl TaskTables {
     {
         let place = self.rows.len() as u32;
         note_new(&mut self.places, id, place)
+    }
+
+    /// Notes the place of a task that is to be created for its group, where that has no task yet.
+    fn note_group(&mut self, group: SlugId) -> Result<(), AllocError>
+        ensures { self.new ≡ self.old }
+    {
+        note_first(&mut self.groups, &self.rows, group)
     }
 
     /// The plan of a creation that may be made.

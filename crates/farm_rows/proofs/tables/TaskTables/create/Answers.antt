@@ -1,13 +1,17 @@
-use Rattle.std.proofs.Common.{◌≡◌, ◌+◌, false, List, length, ap, sym, subst, ◌∙◌, arith, rules, vec_len, vec_capacity}
+use Rattle.std.proofs.Common.{◌≡◌, ◌+◌, false, List, [], ◌∷◌, ◌++◌, length, ap, sym, subst, ◌∙◌, arith, rules, vec_len, vec_capacity}
 use Rattle.std.specs.List.{list_any}
+use Rattle.task_defs.specs.declared.task_def.TaskDef.{TaskDef}
+use Rattle.run_states.specs.Rows.{Row}
 use Rattle.run_states.specs.declared.run.Run.{Run}
 use Rattle.farm_record.specs.declared.change.Creation.{Creation}
 use Rattle.farm_rows.specs.Contents.{Contents}
 use Rattle.farm_rows.specs.Changes.{creating}
 use Rattle.farm_rows.specs.Ready.{is_ready, has_ready}
 use Rattle.farm_rows.specs.Sweep.{fits, IsKept}
+use Rattle.farm_rows.specs.Placed.{groups_of, MayBeFirst}
 use Rattle.farm_rows.proofs.CreateLemmas.{new-is}
 use Rattle.farm_rows.proofs.FitLemmas.{made-few}
+use Rattle.farm_rows.proofs.GroupLemmas.{grouped-more}
 use Rattle.farm_rows.proofs.IdLemmas.{applied-none}
 use Rattle.farm_rows.proofs.PlacedLemmas.{placed-more}
 use Rattle.farm_rows.proofs.TableLemmas.{Fits, contents_of, plan-fits, kept-more, named, planned-unknown, applied-made}
@@ -56,6 +60,10 @@ invariant_of-self c =
       placed =
           placed-more c.self.inside.places c.keep_noted.new.places rows.items c.add.new.rows.items row c.id.result c.len-place.result c.keep_noted.ensures
           c.add.ensures.items c.id.ensures long c.self.invariant.placed;
+      grouped =
+          grouped-more c.keep_first.new.groups rows.items c.add.new.rows.items row c.definition.result.now.task_group_id
+          (subst (λ (rs : List Row). MayBeFirst c.keep_first.new.groups (groups_of rs ++ c.definition.result.now.task_group_id ∷ [])) c.deref.ensures.value c.keep_first.ensures)
+          c.add.ensures.items (ap (λ (d : TaskDef). d.task_group_id) c.definition.ensures);
     }
 
 pub returns : goal.returns

@@ -22,4 +22,5 @@ invariant_of-result-2 c =
         soonest_is = refl;
       };
       placed = record { at = λ place id here. cc };
+      grouped = record { at = λ place group first. cc };
     })

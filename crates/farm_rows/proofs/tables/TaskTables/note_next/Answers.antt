@@ -8,4 +8,4 @@ pub invariant_of-self : goal.invariant_of-self
 invariant_of-self c =
     let rows = c.self.inside.rows.items in
     let none : row_with c.args.id rows ≡ None = ap (λ (k : Contents). row_with c.args.id k.rows) c.self.view_is ∙ c.requires in
-    record { kept = c.self.invariant.kept; placed = c.note_new.ensures (ids_of rows) (other-ids c.args.id rows none) c.self.invariant.placed }
+    record { kept = c.self.invariant.kept; placed = c.note_new.ensures (ids_of rows) (other-ids c.args.id rows none) c.self.invariant.placed; grouped = c.self.invariant.grouped }
