@@ -4,12 +4,13 @@ pub mod DueLemmas
 pub mod ReadyLemmas
 pub mod TurnLemmas
 pub mod AdvanceLemmas
-pub mod SweepLemmas
-pub mod ClaimLemmas
 pub mod FitLemmas
 pub mod PlaceLemmas
 pub mod PlacedLemmas
 pub mod GroupLemmas
+pub mod DatedLemmas
+pub mod FirstLemmas
+pub mod IndexLemmas
 pub mod KeptLemmas
 pub mod TableLemmas
 pub mod IdLemmas

@@ -13,3 +13,5 @@ pub mod Deeds
 pub mod Sweep
 pub mod Settling
 pub mod Placed
+pub mod Dated
+pub mod Indexed

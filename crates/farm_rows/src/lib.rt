@@ -7,7 +7,9 @@
 mod checks;
 mod copies;
 mod counts;
+mod dues;
 mod groups;
+mod index;
 mod laws;
 mod lists;
 mod moves;
@@ -15,13 +17,14 @@ mod picks;
 mod places;
 mod plan;
 mod room;
+mod rows;
 mod settle;
 mod shown;
 mod summary;
-mod sweep;
 mod tables;
 mod turns;
 mod waits;
+mod walks;
 mod work;
 
 pub use counts::RowCounts;

@@ -1,21 +1,19 @@
 use Rattle.std.proofs.Common.{◌≡◌, ◌+◌, false, List, length, add-one, ap, sym, ◌∙◌, arith}
 use Rattle.std.specs.List.{list_any}
 use Rattle.run_states.specs.Rows.{Row, is_unscheduled}
-use Rattle.std.specs.Prelude.{option_copied}
 use Rattle.farm_rows.specs.Ready.{is_ready}
 use Rattle.farm_rows.specs.Settling.{one_if, is_ready_at, settled_at}
-use Rattle.farm_rows.proofs.PlacedLemmas.{ids_of, placed-same}
 use Rattle.farm_rows.proofs.SettleLemmas.{upto, counted, upto-ids, upto-all, counted-all, counted-few, one-few, settle-rows, settle-count, settle-none, count-busy}
 use Rattle.farm_rows.proofs.settle.settle.Goals as goal
 
 pub returns-then-not-any_unscheduled-clause-rows : goal.returns-then-not-any_unscheduled-clause-rows
 returns-then-not-any_unscheduled-clause-rows c =
-    let busy : list_any is_unscheduled c.args.rows.now ≡ false = sym c.any_unscheduled.ensures ∙ c.if-not-any_unscheduled.true in
+    let busy : list_any is_unscheduled c.args.rows.now ≡ false = sym c.any_unscheduled.ensures.any ∙ c.if-not-any_unscheduled.true in
     settle-none c.args.rows.now c.args.first c.args.at busy
 
 pub returns-then-not-any_unscheduled-clause-drawn : goal.returns-then-not-any_unscheduled-clause-drawn
 returns-then-not-any_unscheduled-clause-drawn c =
-    let busy : list_any is_unscheduled c.args.rows.now ≡ false = sym c.any_unscheduled.ensures ∙ c.if-not-any_unscheduled.true in
+    let busy : list_any is_unscheduled c.args.rows.now ≡ false = sym c.any_unscheduled.ensures.any ∙ c.if-not-any_unscheduled.true in
     count-busy c.args.rows.now busy
 
 pub overflow_add-first : goal.overflow_add-first
@@ -26,11 +24,6 @@ overflow_add-first c =
     let drawn = c.requires.drawn in
     let here = c.loop-place-test.true in
     omega arith
-
-pub settle_at-drawn-requires-clause-placed : goal.settle_at-drawn-requires-clause-placed
-settle_at-drawn-requires-clause-placed c =
-    let all = c.args.rows.now in
-    placed-same (option_copied c.args.places) all c.loop-place.rows (ap ids_of c.loop-place.invariant.rows ∙ upto-ids (is_ready all) c.args.first c.args.at c.loop-place.place all) c.requires.placed
 
 pub overflow_add-drawn : goal.overflow_add-drawn
 overflow_add-drawn c =
@@ -51,6 +44,7 @@ loop-place-preserved c =
     let rows = c.loop-place.invariant.rows in
     let drawn = c.loop-place.invariant.drawn in
     record {
+      indexed = c.settle_at-drawn.ensures.index;
       rows =
           c.settle_at-drawn.ensures.rows
           ∙ (ap (λ (rs : List Row). settled_at k (first + c.loop-place.drawn) at rs) rows

@@ -1,5 +1,5 @@
 use Rattle.farm_rows.proofs.TableLemmas.{soonest-step}
-use Rattle.farm_rows.proofs.sweep.soonest.Goals as goal
+use Rattle.farm_rows.proofs.walks.soonest.Goals as goal
 
 pub loop-row-preserved : goal.loop-row-preserved
 loop-row-preserved c =
