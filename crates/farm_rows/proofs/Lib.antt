@@ -8,7 +8,6 @@ pub mod FitLemmas
 pub mod PlaceLemmas
 pub mod PlacedLemmas
 pub mod GroupLemmas
-pub mod DatedLemmas
 pub mod FirstLemmas
 pub mod IndexLemmas
 pub mod KeptLemmas

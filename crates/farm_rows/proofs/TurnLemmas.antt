@@ -43,9 +43,6 @@ pub first-lost : (contents : Contents) (moment at : ℕ) → first_due contents 
 first-lost contents moment at is none =
     some-lost at contents.rows (first-from contents moment at is) (reduce-any at (all_due_moments contents.rows) (first-some moment at (all_due_moments contents.rows) is).0) none
 
-pub first-reached : (contents : Contents) (moment at : ℕ) → first_due contents moment ≡ Some at → nat_le at moment ≡ true
-first-reached contents moment at is = (first-some moment at (all_due_moments contents.rows) is).1
-
 -- what is first due up to a moment is so up to a later one
 pub first-later : (contents : Contents) (early late at : ℕ) → early ≤ late → first_due contents early ≡ Some at → first_due contents late ≡ Some at
 first-later contents early late at le is =
@@ -252,20 +249,3 @@ unfolding all_turns
 all-none contents moment none = turns-none (length (all_due_moments contents.rows)) moment contents none
 
 -- ---- where no task is unscheduled, none settles
-
-pub busy-exceeded : (at : ℕ) (rows : List Row) → list_any is_unscheduled rows ≡ false → list_any is_unscheduled (change_first (meets_deadline at) (exceeded at) rows) ≡ false
-busy-exceeded at rows busy = busy-change (meets_deadline at) (exceeded at) (exceeded-later at) rows busy
-
-pub busy-expired : (number at : ℕ) (rows : List Row) → list_any is_unscheduled rows ≡ false → list_any is_unscheduled (change_first (loses_claim at) (expired number at) rows) ≡ false
-busy-expired number at rows busy = busy-change (loses_claim at) (expired number at) (expired-later number at) rows busy
-
-pub busy-resolved : (contents : Contents) (at : ℕ) → list_any is_unscheduled contents.rows ≡ false → list_any is_unscheduled (resolved_at contents at).rows ≡ false
-busy-resolved contents at busy = by (list_any (meets_deadline at) contents.rows) refl where
-  by : (b : Bool) → list_any (meets_deadline at) contents.rows ≡ b → list_any is_unscheduled (resolved_at contents at).rows ≡ false
-  by true some_ = ap (λ (c : Contents). list_any is_unscheduled c.rows) (deadline-resolved contents at some_) ∙ busy-exceeded at contents.rows busy
-  by false none = ap (λ (c : Contents). list_any is_unscheduled c.rows) (claim-resolved contents at none) ∙ busy-expired contents.next at contents.rows busy
-
--- then a turn is what falls due first alone
-pub busy-step : (contents : Contents) (moment at : ℕ) → list_any is_unscheduled contents.rows ≡ false → first_due contents moment ≡ Some at → all_turns contents moment ≡ all_turns (resolved_at contents at) moment
-busy-step contents moment at busy is =
-    all-step contents moment at is ∙ ap (λ (c : Contents). all_turns c moment) (settled-busy (resolved_at contents at) at (busy-resolved contents at busy))
