@@ -247,5 +247,3 @@ turns-none (suc count) moment contents none = turns-none count moment (turn mome
 pub all-none : (contents : Contents) (moment : ℕ) → has_ready contents ≡ false → has_ready (all_turns contents moment) ≡ false
 unfolding all_turns
 all-none contents moment none = turns-none (length (all_due_moments contents.rows)) moment contents none
-
--- ---- where no task is unscheduled, none settles
