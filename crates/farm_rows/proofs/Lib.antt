@@ -30,3 +30,4 @@ pub mod ListLemmas
 pub mod ServedLemmas
 pub mod SummaryLemmas
 pub mod CrossingLemmas
+pub mod DependencyLemmas

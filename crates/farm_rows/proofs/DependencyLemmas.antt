@@ -1,0 +1,186 @@
+-- What a graph of the tasks tells of them: which is ready first, and what becomes of it where one of them changes.
+use Rattle.std.proofs.Common.{◌≡◌, ◌≢◌, ℕ, zero, suc, ◌+◌, ◌≤◌, ◌<◌, min, inl, inr, Bool, true, false, not, ◌&&◌, ◌||◌, cond, List, [], ◌∷◌, map, filter, length, slice_get, find, Option, Some, None, option_map, bytes_eq, refl, ap, sym, ◌∙◌, subst, arith, ◌==◌}
+use Rattle.std.specs.List.{fold, reduce, list_any, list_all, position, position_from, position_or_len}
+use Rattle.std.specs.Option.{option_map_or, ForSome}
+use Rattle.std.proofs.lemmas.Bool.Decides.{eqb_tells}
+use Rattle.std.proofs.lemmas.Iterator.Adapters.{position_from-zero}
+use Rattle.std.proofs.lemmas.List.Folds.{find_at}
+use Rattle.std.proofs.lemmas.List.Quantifiers.{position-Some}
+use Rattle.task_defs.specs.declared.choices.Requires.{Requires}
+use Rattle.task_defs.specs.declared.choices.Requires.TheVariants.{AllCompleted, AllResolved}
+use Rattle.task_defs.specs.declared.task_def.TaskDef.{TaskDef}
+use Rattle.run_states.specs.Runs.{change_at}
+use Rattle.run_states.specs.Rows.{Row, is_unscheduled}
+use Rattle.run_states.specs.Serving.{serves}
+use Rattle.run_states.specs.Later.{RowLater}
+use Rattle.dep_graph.specs.declared.node.Progress.{Progress}
+use Rattle.dep_graph.specs.Nodes.{Task, rows_of, is_in, moved}
+use Rattle.dep_graph.specs.Ready.{row_serves, ready_row}
+use Rattle.dep_graph.specs.Ready as judged
+use Rattle.dep_graph.proofs.TaskLemmas.{none-serves, moved-rows, moved-none}
+use Rattle.farm_rows.specs.Changes.{has_id}
+use Rattle.farm_rows.specs.Ready.{id_serves, is_ready}
+use Rattle.farm_rows.specs.Dependencies.{needs_of, progress_of, ids_of, place_in, places_in, task_at, tasks_from, depends_on_these, AreDependencies, AreDependenciesBut}
+
+-- ---- numbers that are the same, and that are not
+
+pub equal : (a b : ℕ) → a ≡ b → (a == b) ≡ true
+equal a b is = elim (eqb_tells a b) [
+  | inl same ↦ same.0
+  | inr other ↦ absurd (other.1 is)
+]
+
+pub unequal : (a b : ℕ) → a ≢ b → (a == b) ≡ false
+unequal a b differ = elim (eqb_tells a b) [
+  | inl same ↦ absurd (differ same.1)
+  | inr other ↦ other.0
+]
+
+-- ---- the rows of the tasks
+
+-- the tasks from a place on have none before it
+pub rows-before : (ids : List (List ℕ)) (row place : ℕ) (rows : List Row) → row < place → is_in (rows_of (tasks_from ids place rows)) row ≡ false
+rows-before ids row place [] less = refl
+rows-before ids row place (r ∷ rows) less = rw (unequal place row (omega arith)) (rows-before ids row (place + 1) rows (omega arith))
+
+-- and they have each from it on
+pub rows-in : (ids : List (List ℕ)) (from i row : ℕ) (rows : List Row) → row ≡ from + i → i < length rows → is_in (rows_of (tasks_from ids from rows)) row ≡ true
+rows-in ids from i row [] at less = absurd (omega arith)
+rows-in ids from zero row (r ∷ rows) at less = rw (equal from row (omega arith)) refl
+rows-in ids from (suc i) row (r ∷ rows) at less = rw (unequal from row (omega arith)) (rows-in ids (from + 1) i row rows (omega arith) (omega arith))
+
+-- the task at a place is one of them
+pub known-row : (tasks : List Task) (rows : List Row) (place : ℕ) (progress : Progress) → AreDependencies (moved place progress tasks) rows → place < length rows → is_in (rows_of tasks) place ≡ true
+known-row tasks rows place progress are within =
+    ap (λ (rs : List ℕ). is_in rs place) (sym (moved-rows place progress tasks) ∙ ap rows_of are.all)
+    ∙ rows-in (ids_of rows) 0 place place rows (omega arith) within
+
+-- ---- a task that changes
+
+moved-task : (ids : List (List ℕ)) (place : ℕ) (row new : Row) → new.definition ≡ row.definition → record (task_at ids place row) { progress = progress_of new } ≡ task_at ids place new
+moved-task ids place row new same =
+    ap (λ (d : TaskDef). let t : Task = record { row = place; needs = needs_of d.requires_; dependencies = places_in ids d.dependencies; progress = progress_of new } in t) (sym same)
+
+moved-from : (ids : List (List ℕ)) (f : Row → Row) → ((row : Row) → RowLater row (f row)) → (from i place : ℕ) (rows : List Row) (row : Row) → place ≡ from + i → slice_get rows i ≡ Some row
+    → moved place (progress_of (f row)) (tasks_from ids from rows) ≡ tasks_from ids from (change_at i f rows)
+moved-from ids f later from zero place [] row at is = cc
+moved-from ids f later from (suc i) place [] row at is = cc
+moved-from ids f later from zero place (r ∷ rows) row at is = subst P here base where
+  here : r ≡ row
+  here = let e : Some r ≡ Some row = is in cc
+
+  P : Row → Type 0
+  P x = moved place (progress_of (f x)) (tasks_from ids from (r ∷ rows)) ≡ tasks_from ids from (f r ∷ rows)
+
+  base : P r
+  base =
+      rw (equal from place (omega arith))
+      (ap (λ (ts : List Task). record (task_at ids from r) { progress = progress_of (f r) } ∷ ts) (sym (moved-none place (progress_of (f r)) (tasks_from ids (from + 1) rows) (rows-before ids place (from + 1) rows (omega arith))))
+      ∙ ap (λ (t : Task). t ∷ tasks_from ids (from + 1) rows) (moved-task ids from r (f r) (later r).definition))
+moved-from ids f later from (suc i) place (r ∷ rows) row at is =
+    rw (unequal from place (omega arith)) (ap (λ (ts : List Task). task_at ids from r ∷ ts) (moved-from ids f later (from + 1) i place rows row (omega arith) is))
+
+pub change-ids : (f : Row → Row) → ((row : Row) → RowLater row (f row)) → (place : ℕ) (rows : List Row) → ids_of (change_at place f rows) ≡ ids_of rows
+change-ids f later zero [] = refl
+change-ids f later (suc place) [] = refl
+change-ids f later zero (row ∷ rows) = ap (λ (id : List ℕ). id ∷ ids_of rows) (later row).id
+change-ids f later (suc place) (row ∷ rows) = ap (λ (ids : List (List ℕ)). row.id ∷ ids) (change-ids f later place rows)
+
+pub change-length : (f : Row → Row) (place : ℕ) (rows : List Row) → length (change_at place f rows) ≡ length rows
+change-length f zero [] = refl
+change-length f (suc place) [] = refl
+change-length f zero (row ∷ rows) = refl
+change-length f (suc place) (row ∷ rows) = ap suc (change-length f place rows)
+
+change-get : (f : Row → Row) (place : ℕ) (rows : List Row) → slice_get (change_at place f rows) place ≡ option_map f (slice_get rows place)
+change-get f zero [] = refl
+change-get f (suc place) [] = refl
+change-get f zero (row ∷ rows) = refl
+change-get f (suc place) (row ∷ rows) = change-get f place rows
+
+change-stands : (ids : List (List ℕ)) (f : Row → Row) → ((row : Row) → RowLater row (f row)) → (place : ℕ) (rows : List Row)
+    → list_all (depends_on_these ids) (change_at place f rows) ≡ list_all (depends_on_these ids) rows
+change-stands ids f later zero [] = refl
+change-stands ids f later (suc place) [] = refl
+change-stands ids f later zero (row ∷ rows) =
+    ap (λ (d : TaskDef). list_all (λ id. list_any (λ other. bytes_eq other id) ids) d.dependencies && list_all (depends_on_these ids) rows) (later row).definition
+change-stands ids f later (suc place) (row ∷ rows) = ap (λ b. depends_on_these ids row && b) (change-stands ids f later place rows)
+
+-- a graph of the tasks is one of those with a task that changed, once that has come as far
+pub changed-but : (tasks : List Task) (rows : List Row) (place : ℕ) (f : Row → Row) → ((row : Row) → RowLater row (f row)) → AreDependencies tasks rows → AreDependenciesBut place tasks (change_at place f rows)
+changed-but tasks rows place f later are new at = by (slice_get rows place) refl where
+  by : (o : Option Row) → slice_get rows place ≡ o → AreDependencies (moved place (progress_of new) tasks) (change_at place f rows)
+  by None is = let no_ : None ≡ Some new = sym (change-get f place rows ∙ ap (option_map f) is) ∙ at in absurd (cc)
+  by (Some row) is =
+      let same : f row ≡ new = (let e : Some (f row) ≡ Some new = sym (change-get f place rows ∙ ap (option_map f) is) ∙ at in cc) in
+      let ids = change-ids f later place rows in
+      record {
+        all =
+            ap (λ (r : Row). moved place (progress_of r) tasks) (sym same)
+            ∙ (ap (moved place (progress_of (f row))) are.all
+            ∙ (moved-from (ids_of rows) f later 0 place place rows row (omega arith) is ∙ ap (λ (is : List (List ℕ)). tasks_from is 0 (change_at place f rows)) (sym ids)));
+        stand = ap (λ (is : List (List ℕ)). list_all (depends_on_these is) (change_at place f rows)) ids ∙ (change-stands (ids_of rows) f later place rows ∙ are.stand);
+      }
+
+-- ---- which task is ready
+
+-- a task meets what is required where its row serves
+meets : (needs : Requires) (row : Row) → judged.serves (needs_of needs) (progress_of row) ≡ serves needs row
+meets AllCompleted row = refl
+meets AllResolved row = refl
+
+row-serves : (ids : List (List ℕ)) (needs : Requires) (from i place : ℕ) (rows : List Row) → place ≡ from + i → row_serves (tasks_from ids from rows) (needs_of needs) place ≡ option_map_or (serves needs) (slice_get rows i) false
+row-serves ids needs from zero place [] at = refl
+row-serves ids needs from (suc i) place [] at = refl
+row-serves ids needs from zero place (row ∷ rows) at =
+    rw (equal from place (omega arith), none-serves (tasks_from ids (from + 1) rows) (needs_of needs) place (rows-before ids place (from + 1) rows (omega arith))) (alone (judged.serves (needs_of needs) (progress_of row)) ∙ meets needs row)
+  where
+    alone : (b : Bool) → (b || false) ≡ b
+    alone true = refl
+    alone false = refl
+row-serves ids needs from (suc i) place (row ∷ rows) at = rw (unequal from place (omega arith)) (row-serves ids needs (from + 1) i place rows (omega arith))
+
+-- a place among ids is that of the first task with the id
+pub place-ids : (id : List ℕ) (rows : List Row) → place_in (ids_of rows) id ≡ position_or_len (has_id id) rows
+place-ids id [] = refl
+place-ids id (row ∷ rows) = ap (λ n. cond (not (bytes_eq row.id id)) (1 + n) 0) (place-ids id rows)
+
+place-serves : (rows : List Row) (needs : Requires) (id : List ℕ) → row_serves (tasks_from (ids_of rows) 0 rows) (needs_of needs) (place_in (ids_of rows) id) ≡ id_serves needs rows id
+place-serves rows needs id =
+    let place : ℕ = place_in (ids_of rows) id in
+    row-serves (ids_of rows) needs 0 place place rows (omega arith)
+    ∙ (ap (λ n. option_map_or (serves needs) (slice_get rows n) false) (place-ids id rows) ∙ ap (λ o. option_map_or (serves needs) o false) (sym (find_at (has_id id) rows)))
+
+places-serve : (rows : List Row) (needs : Requires) (named : List (List ℕ)) → list_all (row_serves (tasks_from (ids_of rows) 0 rows) (needs_of needs)) (places_in (ids_of rows) named) ≡ list_all (id_serves needs rows) named
+places-serve rows needs [] = refl
+places-serve rows needs (id ∷ named) = rw (place-serves rows needs id, places-serve rows needs named) refl
+
+-- a task is ready in the graph where its row is
+ready-same : (rows : List Row) (place : ℕ) (row : Row) → judged.is_ready (tasks_from (ids_of rows) 0 rows) (task_at (ids_of rows) place row) ≡ is_ready rows row
+ready-same rows place row = ap (λ b. is_unscheduled row && b) (places-serve rows row.definition.requires_ row.definition.dependencies)
+
+-- ---- the first that is ready
+
+least-from : (ids : List (List ℕ)) (p : Task → Bool) (least from : ℕ) (rows : List Row) → least ≤ from → fold min least (rows_of (filter p (tasks_from ids from rows))) ≡ least
+least-from ids p least from [] le = refl
+least-from ids p least from (row ∷ rows) le = by (least-from ids p least (from + 1) rows (omega arith)) (p (task_at ids from row)) refl where
+  by : fold min least (rows_of (filter p (tasks_from ids (from + 1) rows))) ≡ least → (b : Bool) → p (task_at ids from row) ≡ b → fold min least (rows_of (filter p (tasks_from ids from (row ∷ rows)))) ≡ least
+  by rest true is =
+      let lesser : min least from ≡ least = omega arith in
+      rw is (ap (λ n. fold min n (rows_of (filter p (tasks_from ids (from + 1) rows)))) lesser ∙ rest)
+  by rest false is = rw is rest
+
+first-from : (ids : List (List ℕ)) (p : Task → Bool) (q : Row → Bool) → ((place : ℕ) (row : Row) → p (task_at ids place row) ≡ q row) → (from : ℕ) (rows : List Row)
+    → reduce min (rows_of (filter p (tasks_from ids from rows))) ≡ position_from q from rows
+first-from ids p q same from [] = refl
+first-from ids p q same from (row ∷ rows) = by (first-from ids p q same (from + 1) rows) (q row) refl where
+  by : reduce min (rows_of (filter p (tasks_from ids (from + 1) rows))) ≡ position_from q (from + 1) rows → (b : Bool) → q row ≡ b → reduce min (rows_of (filter p (tasks_from ids from (row ∷ rows)))) ≡ position_from q from (row ∷ rows)
+  by rest true is = rw (same from row, is) (ap Some (least-from ids p from (from + 1) rows (omega arith)))
+  by rest false is = rw (same from row, is) rest
+
+-- the least row that is ready is the first place at which a task is
+pub first-ready : (tasks : List Task) (rows : List Row) → AreDependencies tasks rows → ready_row tasks ≡ position (is_ready rows) rows
+first-ready tasks rows are =
+    ap ready_row are.all
+    ∙ (first-from (ids_of rows) (judged.is_ready (tasks_from (ids_of rows) 0 rows)) (is_ready rows) (ready-same rows) 0 rows
+    ∙ sym (position_from-zero (is_ready rows) rows))
