@@ -31,3 +31,4 @@ pub mod ServedLemmas
 pub mod SummaryLemmas
 pub mod CrossingLemmas
 pub mod DependencyLemmas
+pub mod FirstReadyLemmas
