@@ -32,3 +32,4 @@ pub mod SummaryLemmas
 pub mod CrossingLemmas
 pub mod DependencyLemmas
 pub mod FirstReadyLemmas
+pub mod BehindLemmas

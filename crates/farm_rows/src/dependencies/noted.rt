@@ -1,5 +1,5 @@
 //! A task that is to come, as the graph of the tasks adds it.
-ghost use Rattle.std.specs.Prelude.{◌≡◌, ◌≤◌, ◌↔◌, ◌∷◌, [], ◌++◌, IsTrue, IfOk, length};
+ghost use Rattle.std.specs.Prelude.{◌≡◌, ◌+◌, ◌≤◌, ◌↔◌, ◌∷◌, [], ◌++◌, IsTrue, IfOk, length};
 ghost use Rattle.farm_rows.specs.Dependencies.{ids_of, place_in, places_in, adding_of};
 
 use crate::places::Rows;
@@ -80,8 +80,8 @@ fn are_places(rows: &Rows<'_>, id: SlugId, named: &[SlugId], places: &[u32]) -> 
     if named.len() != places.len() {
         return false;
     }
-    for at in 0..named.len() {
-        if place_behind(rows, id, named[at]) != places[at] as usize {
+    for (name, place) in named.iter().zip(places) {
+        if place_behind(rows, id, *name) != *place as usize {
             return false;
         }
     }
