@@ -33,3 +33,4 @@ pub mod CrossingLemmas
 pub mod DependencyLemmas
 pub mod FirstReadyLemmas
 pub mod BehindLemmas
+pub mod AddedLemmas

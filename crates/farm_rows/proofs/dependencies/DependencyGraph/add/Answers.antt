@@ -1,0 +1,3 @@
+use Rattle.std.proofs.Common.{◌≡◌}
+use Rattle.farm_rows.proofs.AddedLemmas.{added-are}
+use Rattle.farm_rows.proofs.dependencies.DependencyGraph.add.Goals as goal
