@@ -66,6 +66,11 @@ abbrev pub MayBeDependencies : Option TaskGraph → List Row → Type 0
 MayBeDependencies None rows = Unit {0}
 MayBeDependencies (Some graph) rows = AreDependencies graph.tasks rows
 
+-- and once the task at a place has come as far as it has
+abbrev pub MayBeDependenciesBut : ℕ → Option TaskGraph → List Row → Type 0
+MayBeDependenciesBut place None rows = Unit {0}
+MayBeDependenciesBut place (Some graph) rows = AreDependenciesBut place graph.tasks rows
+
 -- a task with an id comes behind the others, and depends on these: as a graph adds it
 abbrev pub adding_of : List Row → List ℕ → List (List ℕ) → Adding
 adding_of rows id named = record { row = length rows; dependencies = places_in (ids_of rows ++ id ∷ []) named }

@@ -1,21 +1,23 @@
 //! Which tasks wait for which, by their places. Only `note` takes memory.
-ghost use Rattle.std.specs.Prelude.{◌≡◌, ◌≤◌, ◌<◌, ◌↔◌, ◌∷◌, [], ◌++◌, true, Some, IsTrue, OnOk, length, count_by};
+ghost use Rattle.std.specs.Prelude.{◌≡◌, ◌^◌, ◌≤◌, ◌<◌, ◌↔◌, ◌∷◌, [], ◌++◌, true, Some, IsTrue, OnOk, length, count_by, option_copied};
 ghost use Rattle.run_states.specs.Runs.{change_at};
 ghost use Rattle.run_states.specs.Rows.{scheduled};
 ghost use Rattle.dep_graph.specs.Nodes.{no_graph, may_be_added};
 ghost use Rattle.dep_graph.specs.Ready.{ready_row};
 ghost use Rattle.farm_rows.specs.Ready.{is_ready, started};
-ghost use Rattle.farm_rows.specs.Dependencies.{needs_of, progress_of, adding_of, AreDependencies, AreDependenciesBut, MayBeDependencies};
+ghost use Rattle.farm_rows.specs.Placed.{ArePlaced};
+ghost use Rattle.farm_rows.specs.Dependencies.{needs_of, progress_of, adding_of, AreDependencies, AreDependenciesBut};
 
+mod kept;
 mod noted;
 
-use crate::places::Rows;
 use crate::settle::start_at;
 use dep_graph::{Graph, Progress, Requires as Needs};
 use farm_record::Creation;
 use farm_text::Moment;
 use noted::Noted;
 use run_states::TaskRow;
+use slug_places::places::Places;
 use std::alloc::{AllocError, Global};
 use std::marker::Model;
 use task_defs::Requires;
@@ -55,16 +57,18 @@ impl DependencyGraph {
     pub(crate) fn note(
         &mut self,
         alloc: Global,
-        rows: &Rows<'_>,
+        rows: &[TaskRow],
+        places: Option<&Places>,
         creation: &Creation,
     ) -> Result<(), AllocError>
-        requires { length rows.now ≤ 1_000_000 }
+        requires placed { ArePlaced (option_copied places) rows.now }
+        requires few { length rows.now ≤ 1_000_000 }
         ensures same { self.new.tasks ≡ self.old.tasks }
         ensures room { let c = creation.now in OnOk result (self.new.room ≡ Some (adding_of rows.now c.id c.definition.dependencies)) }
     {
         self.noted = None;
-        let dependencies = creation.definition.dependencies.list();
-        let noted = Noted::new(alloc, rows, creation.id, dependencies)?;
+        let named = creation.definition.dependencies.list();
+        let noted = Noted::new(alloc, rows, places, creation.id, named)?;
         self.graph
             .reserve(alloc, noted.place(), noted.dependencies())?;
         self.noted = Some(noted);
@@ -73,8 +77,14 @@ impl DependencyGraph {
 
     /// Adds a task that comes behind the others, where there is room for it, and it depends on no task twice, and on none that does not
     /// stand. Answers whether it did.
-    pub(crate) fn add(&mut self, rows: &Rows<'_>, row: &TaskRow) -> bool
-        requires { AreDependencies self.old.tasks rows.now }
+    pub(crate) fn add(
+        &mut self,
+        rows: &[TaskRow],
+        places: Option<&Places>,
+        row: &TaskRow,
+    ) -> bool
+        requires placed { ArePlaced (option_copied places) rows.now }
+        requires all { AreDependencies self.old.tasks rows.now }
         ensures added { IsTrue result → AreDependencies self.new.tasks (rows.now ++ row.now ∷ []) }
         ensures room { let adding = adding_of rows.now row.now.id row.now.definition.dependencies in
             IsTrue result ↔ ((self.old.room ≡ Some adding) × (may_be_added self.old.tasks adding.row adding.dependencies ≡ true)) }
@@ -83,7 +93,7 @@ impl DependencyGraph {
             return false;
         };
         let may_add = self.graph.may_add(noted.place(), noted.dependencies());
-        if !may_add || !noted.is_of(rows, row) {
+        if !may_add || !noted.is_of(rows, places, row) {
             return false;
         }
         let needs = needs_of(row.definition().requires_);
@@ -95,7 +105,7 @@ impl DependencyGraph {
     /// Makes the task at a place come as far as it has.
     pub(crate) fn changed(&mut self, rows: &[TaskRow], place: usize)
         requires within { place < length rows.now }
-        requires few { length rows.now ≤ 1_000_000 }
+        requires fits { place < 2 ^ 32 }
         requires others { AreDependenciesBut place self.old.tasks rows.now }
         ensures all { AreDependencies self.new.tasks rows.now }
         ensures room { self.new.room ≡ self.old.room }
@@ -143,20 +153,6 @@ impl DependencyGraph {
     {
         start_at(rows, place, at, number);
         self.changed(rows, place);
-    }
-}
-
-/// Adds a task that comes behind the others, where a graph is kept. Where the graph has no room for it, it is given up.
-pub(crate) fn keep_added(graph: &mut Option<DependencyGraph>, rows: &Rows<'_>, row: &TaskRow)
-    requires { MayBeDependencies graph.old rows.now }
-    ensures { MayBeDependencies graph.new (rows.now ++ row.now ∷ []) }
-{
-    let kept = match graph {
-        Some(graph) => graph.add(rows, row),
-        None => true,
-    };
-    if !kept {
-        *graph = None;
     }
 }
 

@@ -37,4 +37,4 @@ returns-clause-added c =
     ∙ same-moved c.place-3.result n c.progress_of.result (progress_of row) c.add.new.self.tasks (added n needs places tasks) (c.place-3.ensures ∙ row_is) c.progress_of.ensures
     (ap (λ (g : TaskGraph). g.tasks) c.add.ensures
     ∙ same-added c.place-2.result n c.needs_of-needs.result needs c.dependencies-2.result.now places c.self.inside.graph.tasks tasks (c.place-2.ensures ∙ row_is) needs_are (c.dependencies-2.ensures ∙ places_are) same) in
-    λ _. subst (λ (ts : List Task). AreDependencies ts (rows ++ row ∷ [])) (sym came) (added-are tasks rows row c.requires may)
+    λ _. subst (λ (ts : List Task). AreDependencies ts (rows ++ row ∷ [])) (sym came) (added-are tasks rows row c.requires.all may)

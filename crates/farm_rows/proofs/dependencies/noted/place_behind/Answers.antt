@@ -11,12 +11,10 @@ returns-in-None-clause-place c =
     let rows = c.args.rows.now in
     let same : bytes_eq c.args.id c.args.named ≡ true = sym c.eq.ensures ∙ c.if-eq.true in
     let last : length rows ≡ length rows + 0 = omega arith in
-    ap length c.list-behind.ensures
-    ∙ (last ∙ sym (place-unknown rows c.args.id c.args.named (sym c.in-None.ensures) ∙ ap (λ b. length rows + cond b 0 1) same))
+    last ∙ sym (place-unknown rows c.args.id c.args.named (sym c.in-None.ensures) ∙ ap (λ b. length rows + cond b 0 1) same)
 
 pub returns-in-None-2-clause-place : goal.returns-in-None-2-clause-place
 returns-in-None-2-clause-place c =
     let rows = c.args.rows.now in
     let other : bytes_eq c.args.id c.args.named ≡ false = sym c.eq.ensures ∙ c.if-eq.false in
-    ap (λ (rs : List Row). length rs + 1) c.list-behind.ensures
-    ∙ sym (place-unknown rows c.args.id c.args.named (sym c.in-None.ensures) ∙ ap (λ b. length rows + cond b 0 1) other)
+    sym (place-unknown rows c.args.id c.args.named (sym c.in-None.ensures) ∙ ap (λ b. length rows + cond b 0 1) other)

@@ -3,5 +3,5 @@ use Rattle.farm_rows.specs.Dependencies.{ids_of, places_in}
 use Rattle.farm_rows.proofs.dependencies.noted.Noted.new.Given as goal
 
 -- the places of those so far
-abbrev pub invariant-loop-dependency : goal.invariant-loop-dependency
-invariant-loop-dependency l = l.places.items ≡ places_in (ids_of l.rows ++ l.id ∷ []) (take l.dependency-index l.dependencies)
+abbrev pub invariant-loop-name : goal.invariant-loop-name
+invariant-loop-name l = l.dependencies.items ≡ places_in (ids_of l.rows ++ l.id ∷ []) (take l.name-index l.named)
