@@ -12,15 +12,16 @@ use Rattle.task_defs.specs.declared.task_def.TaskDef.{TaskDef}
 use Rattle.run_states.specs.Runs.{change_at}
 use Rattle.run_states.specs.Rows.{Row, is_unscheduled}
 use Rattle.run_states.specs.Serving.{serves}
-use Rattle.run_states.specs.Later.{RowLater}
+use Rattle.run_states.specs.Later.{RowLater, RowsLater}
+use Rattle.run_states.proofs.LaterLemmas.{RowLater-refl, RowsLater-refl}
 use Rattle.dep_graph.specs.declared.node.Progress.{Progress}
-use Rattle.dep_graph.specs.Nodes.{Task, rows_of, is_in, moved}
+use Rattle.dep_graph.specs.Nodes.{Task, TaskGraph, rows_of, is_in, moved}
 use Rattle.dep_graph.specs.Ready.{row_serves, ready_row}
 use Rattle.dep_graph.specs.Ready as judged
 use Rattle.dep_graph.proofs.TaskLemmas.{none-serves, moved-rows, moved-none}
 use Rattle.farm_rows.specs.Changes.{has_id}
 use Rattle.farm_rows.specs.Ready.{id_serves, is_ready}
-use Rattle.farm_rows.specs.Dependencies.{needs_of, progress_of, ids_of, place_in, places_in, task_at, tasks_from, depends_on_these, AreDependencies, AreDependenciesBut}
+use Rattle.farm_rows.specs.Dependencies.{needs_of, progress_of, ids_of, place_in, places_in, task_at, tasks_from, depends_on_these, AreDependencies, AreDependenciesBut, MayBeDependencies, MayBeDependenciesBut}
 
 -- ---- numbers that are the same, and that are not
 
@@ -61,30 +62,83 @@ moved-task : (ids : List (List ℕ)) (place : ℕ) (row new : Row) → new.defin
 moved-task ids place row new same =
     ap (λ (d : TaskDef). let t : Task = record { row = place; needs = needs_of d.requires_; dependencies = places_in ids d.dependencies; progress = progress_of new } in t) (sym same)
 
-moved-from : (ids : List (List ℕ)) (f : Row → Row) → ((row : Row) → RowLater row (f row)) → (from i place : ℕ) (rows : List Row) (row : Row) → place ≡ from + i → slice_get rows i ≡ Some row
-    → moved place (progress_of (f row)) (tasks_from ids from rows) ≡ tasks_from ids from (change_at i f rows)
-moved-from ids f later from zero place [] row at is = cc
-moved-from ids f later from (suc i) place [] row at is = cc
-moved-from ids f later from zero place (r ∷ rows) row at is = subst P here base where
-  here : r ≡ row
-  here = let e : Some r ≡ Some row = is in cc
+-- the task at a place may have changed in its state, and the others are as they were
+pub record IsChangedAt (place : ℕ) (before rows : List Row) : Type 0 where
+  pub stay : RowsLater before rows
+  pub long : length rows ≡ length before
+  pub others : (other : ℕ) → (other == place) ≡ false → slice_get rows other ≡ slice_get before other
 
-  P : Row → Type 0
-  P x = moved place (progress_of (f x)) (tasks_from ids from (r ∷ rows)) ≡ tasks_from ids from (f r ∷ rows)
+-- tasks that are the same at each place
+same-rows : (before rows : List Row) → length rows ≡ length before → ((place : ℕ) → slice_get rows place ≡ slice_get before place) → rows ≡ before
+same-rows [] [] long same = refl
+same-rows [] (r ∷ rows) long same = absurd (omega arith)
+same-rows (b ∷ before) [] long same = absurd (omega arith)
+same-rows (b ∷ before) (r ∷ rows) long same =
+    let first : r ≡ b = (let e : Some r ≡ Some b = same zero in cc) in
+    ap (λ (x : Row). x ∷ rows) first ∙ ap (λ (xs : List Row). b ∷ xs) (same-rows before rows (omega arith) (λ place. same (suc place)))
 
-  base : P r
-  base =
-      rw (equal from place (omega arith))
-      (ap (λ (ts : List Task). record (task_at ids from r) { progress = progress_of (f r) } ∷ ts) (sym (moved-none place (progress_of (f r)) (tasks_from ids (from + 1) rows) (rows-before ids place (from + 1) rows (omega arith))))
-      ∙ ap (λ (t : Task). t ∷ tasks_from ids (from + 1) rows) (moved-task ids from r (f r) (later r).definition))
-moved-from ids f later from (suc i) place (r ∷ rows) row at is =
-    rw (unequal from place (omega arith)) (ap (λ (ts : List Task). task_at ids from r ∷ ts) (moved-from ids f later (from + 1) i place rows row (omega arith) is))
+changed-from : (ids : List (List ℕ)) (from i place : ℕ) (before rows : List Row) (row : Row) → place ≡ from + i → IsChangedAt i before rows → slice_get rows i ≡ Some row
+    → moved place (progress_of row) (tasks_from ids from before) ≡ tasks_from ids from rows
+changed-from ids from zero place [] [] row at changed is = cc
+changed-from ids from (suc i) place [] [] row at changed is = cc
+changed-from ids from i place [] (r ∷ rows) row at changed is = absurd (let long = changed.long in omega arith)
+changed-from ids from i place (b ∷ before) [] row at changed is = absurd changed.stay
+changed-from ids from zero place (b ∷ before) (r ∷ rows) row at changed is =
+    let here : r ≡ row = (let e : Some r ≡ Some row = is in cc) in
+    let same : (r ∷ rows) ≡ r ∷ before = ap (λ (xs : List Row). r ∷ xs) (same-rows before rows (let long = changed.long in omega arith) (λ k. changed.others (suc k) (unequal (suc k) zero (omega arith)))) in
+    rw (equal from place (omega arith))
+    (ap (λ (ts : List Task). record (task_at ids from b) { progress = progress_of row } ∷ ts) (sym (moved-none place (progress_of row) (tasks_from ids (from + 1) before) (rows-before ids place (from + 1) before (omega arith))))
+    ∙ (ap (λ (x : Row). record (task_at ids from b) { progress = progress_of x } ∷ tasks_from ids (from + 1) before) (sym here)
+    ∙ (ap (λ (t : Task). t ∷ tasks_from ids (from + 1) before) (moved-task ids from b r changed.stay.0.definition) ∙ ap (tasks_from ids from) (sym same))))
+changed-from ids from (suc i) place (b ∷ before) (r ∷ rows) row at changed is =
+    let first : r ≡ b = (let e : Some r ≡ Some b = changed.others zero (unequal zero (suc i) (omega arith)) in cc) in
+    let rest : IsChangedAt i before rows = record {
+      stay = changed.stay.1;
+      long = (let long = changed.long in omega arith);
+      others = λ other differs. changed.others (suc other) (unequal (suc other) (suc i) (λ e. let same = equal other i (omega arith) in let no_ : true ≡ false = sym same ∙ differs in absurd (cc)));
+    } in
+    rw (unequal from place (omega arith))
+    (ap (λ (ts : List Task). task_at ids from b ∷ ts) (changed-from ids (from + 1) i place before rows row (omega arith) rest is)
+    ∙ ap (λ (x : Row). task_at ids from x ∷ tasks_from ids (from + 1) rows) (sym first))
 
-pub change-ids : (f : Row → Row) → ((row : Row) → RowLater row (f row)) → (place : ℕ) (rows : List Row) → ids_of (change_at place f rows) ≡ ids_of rows
-change-ids f later zero [] = refl
-change-ids f later (suc place) [] = refl
-change-ids f later zero (row ∷ rows) = ap (λ (id : List ℕ). id ∷ ids_of rows) (later row).id
-change-ids f later (suc place) (row ∷ rows) = ap (λ (ids : List (List ℕ)). row.id ∷ ids) (change-ids f later place rows)
+later-ids : (before rows : List Row) → RowsLater before rows → length rows ≡ length before → ids_of rows ≡ ids_of before
+later-ids [] [] stay long = refl
+later-ids [] (r ∷ rows) stay long = absurd (omega arith)
+later-ids (b ∷ before) [] stay long = absurd stay
+later-ids (b ∷ before) (r ∷ rows) stay long =
+    ap (λ (id : List ℕ). id ∷ ids_of rows) stay.0.id ∙ ap (λ (ids : List (List ℕ)). b.id ∷ ids) (later-ids before rows stay.1 (omega arith))
+
+later-stand : (ids : List (List ℕ)) (before rows : List Row) → RowsLater before rows → length rows ≡ length before → list_all (depends_on_these ids) rows ≡ list_all (depends_on_these ids) before
+later-stand ids [] [] stay long = refl
+later-stand ids [] (r ∷ rows) stay long = absurd (omega arith)
+later-stand ids (b ∷ before) [] stay long = absurd stay
+later-stand ids (b ∷ before) (r ∷ rows) stay long =
+    ap (λ (d : TaskDef). list_all (λ id. list_any (λ other. bytes_eq other id) ids) d.dependencies && list_all (depends_on_these ids) rows) stay.0.definition
+    ∙ ap (λ t. depends_on_these ids b && t) (later-stand ids before rows stay.1 (omega arith))
+
+-- a graph of the tasks is one of those of which one changed, once that has come as far
+pub changed-but : (tasks : List Task) (place : ℕ) (before rows : List Row) → IsChangedAt place before rows → AreDependencies tasks before → AreDependenciesBut place tasks rows
+changed-but tasks place before rows changed are row at =
+    let ids = later-ids before rows changed.stay changed.long in
+    record {
+      all =
+          ap (moved place (progress_of row)) are.all
+          ∙ (changed-from (ids_of before) 0 place place before rows row (omega arith) changed at ∙ ap (λ (is : List (List ℕ)). tasks_from is 0 rows) (sym ids));
+      stand = ap (λ (is : List (List ℕ)). list_all (depends_on_these is) rows) ids ∙ (later-stand (ids_of before) before rows changed.stay changed.long ∙ are.stand);
+    }
+
+-- the same, where there is a graph
+pub may-change : (graph : Option TaskGraph) (place : ℕ) (before rows : List Row) → IsChangedAt place before rows → MayBeDependencies graph before → MayBeDependenciesBut place graph rows
+may-change None place before rows changed are = tt
+may-change (Some graph) place before rows changed are = changed-but graph.tasks place before rows changed are
+
+-- ---- one task that is changed
+
+change-stay : (f : Row → Row) → ((row : Row) → RowLater row (f row)) → (place : ℕ) (rows : List Row) → RowsLater rows (change_at place f rows)
+change-stay f later zero [] = tt
+change-stay f later (suc place) [] = tt
+change-stay f later zero (row ∷ rows) = (later row, RowsLater-refl rows)
+change-stay f later (suc place) (row ∷ rows) = (RowLater-refl row, change-stay f later place rows)
 
 pub change-length : (f : Row → Row) (place : ℕ) (rows : List Row) → length (change_at place f rows) ≡ length rows
 change-length f zero [] = refl
@@ -92,35 +146,17 @@ change-length f (suc place) [] = refl
 change-length f zero (row ∷ rows) = refl
 change-length f (suc place) (row ∷ rows) = ap suc (change-length f place rows)
 
-change-get : (f : Row → Row) (place : ℕ) (rows : List Row) → slice_get (change_at place f rows) place ≡ option_map f (slice_get rows place)
-change-get f zero [] = refl
-change-get f (suc place) [] = refl
-change-get f zero (row ∷ rows) = refl
-change-get f (suc place) (row ∷ rows) = change-get f place rows
+change-others : (f : Row → Row) (place : ℕ) (rows : List Row) (other : ℕ) → (other == place) ≡ false → slice_get (change_at place f rows) other ≡ slice_get rows other
+change-others f zero [] other differs = refl
+change-others f (suc place) [] other differs = refl
+change-others f zero (row ∷ rows) zero differs = absurd (let same : true ≡ false = sym (equal zero zero refl) ∙ differs in cc)
+change-others f zero (row ∷ rows) (suc other) differs = refl
+change-others f (suc place) (row ∷ rows) zero differs = refl
+change-others f (suc place) (row ∷ rows) (suc other) differs =
+    change-others f place rows other (unequal other place (λ e. let same = equal (suc other) (suc place) (ap suc e) in let no_ : true ≡ false = sym same ∙ differs in absurd (cc)))
 
-change-stands : (ids : List (List ℕ)) (f : Row → Row) → ((row : Row) → RowLater row (f row)) → (place : ℕ) (rows : List Row)
-    → list_all (depends_on_these ids) (change_at place f rows) ≡ list_all (depends_on_these ids) rows
-change-stands ids f later zero [] = refl
-change-stands ids f later (suc place) [] = refl
-change-stands ids f later zero (row ∷ rows) =
-    ap (λ (d : TaskDef). list_all (λ id. list_any (λ other. bytes_eq other id) ids) d.dependencies && list_all (depends_on_these ids) rows) (later row).definition
-change-stands ids f later (suc place) (row ∷ rows) = ap (λ b. depends_on_these ids row && b) (change-stands ids f later place rows)
-
--- a graph of the tasks is one of those with a task that changed, once that has come as far
-pub changed-but : (tasks : List Task) (rows : List Row) (place : ℕ) (f : Row → Row) → ((row : Row) → RowLater row (f row)) → AreDependencies tasks rows → AreDependenciesBut place tasks (change_at place f rows)
-changed-but tasks rows place f later are new at = by (slice_get rows place) refl where
-  by : (o : Option Row) → slice_get rows place ≡ o → AreDependencies (moved place (progress_of new) tasks) (change_at place f rows)
-  by None is = let no_ : None ≡ Some new = sym (change-get f place rows ∙ ap (option_map f) is) ∙ at in absurd (cc)
-  by (Some row) is =
-      let same : f row ≡ new = (let e : Some (f row) ≡ Some new = sym (change-get f place rows ∙ ap (option_map f) is) ∙ at in cc) in
-      let ids = change-ids f later place rows in
-      record {
-        all =
-            ap (λ (r : Row). moved place (progress_of r) tasks) (sym same)
-            ∙ (ap (moved place (progress_of (f row))) are.all
-            ∙ (moved-from (ids_of rows) f later 0 place place rows row (omega arith) is ∙ ap (λ (is : List (List ℕ)). tasks_from is 0 (change_at place f rows)) (sym ids)));
-        stand = ap (λ (is : List (List ℕ)). list_all (depends_on_these is) (change_at place f rows)) ids ∙ (change-stands (ids_of rows) f later place rows ∙ are.stand);
-      }
+pub changed-at : (f : Row → Row) → ((row : Row) → RowLater row (f row)) → (place : ℕ) (rows : List Row) → IsChangedAt place rows (change_at place f rows)
+changed-at f later place rows = record { stay = change-stay f later place rows; long = change-length f place rows; others = change-others f place rows }
 
 -- ---- which task is ready
 
