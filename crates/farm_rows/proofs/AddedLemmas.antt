@@ -1,15 +1,15 @@
 -- What a graph of the tasks is with one more, which comes behind the others.
-use Rattle.std.proofs.Common.{◌≡◌, ◌≢◌, ℕ, ◌+◌, ◌<◌, ◌⊎◌, inl, inr, Bool, true, false, not, ◌&&◌, ◌||◌, cond, List, [], ◌∷◌, ◌++◌, map, length, bytes_eq, refl, ap, sym, ◌∙◌, subst, arith, ◌==◌}
-use Rattle.std.specs.List.{list_any, list_all, position_or_len}
+use Rattle.std.proofs.Common.{◌≡◌, ◌≢◌, ℕ, ◌+◌, ◌<◌, ◌⊎◌, inl, inr, Bool, true, false, not, ◌&&◌, ◌||◌, cond, List, [], ◌∷◌, ◌++◌, length, bytes_eq, refl, ap, sym, ◌∙◌, arith, ◌==◌}
+use Rattle.std.specs.List.{list_any, list_all}
 use Rattle.std.proofs.lemmas.Bool.{and_parts, eqb-true}
 use Rattle.std.proofs.lemmas.Bool.Decides.{eqb_tells}
 use Rattle.std.proofs.lemmas.List.{length-map, length_push, map-append}
 use Rattle.std.proofs.lemmas.List.Folds.{list_all-append}
 use Rattle.run_states.specs.Rows.{Row}
 use Rattle.dep_graph.specs.declared.node.Progress.{Progress}
-use Rattle.dep_graph.specs.Nodes.{Task, Adding, rows_of, is_in, just_created, added, moved, all_distinct, may_be_added}
+use Rattle.dep_graph.specs.Nodes.{Task, rows_of, is_in, just_created, added, moved, all_distinct, may_be_added}
 use Rattle.dep_graph.proofs.TaskLemmas.{moved-none}
-use Rattle.farm_rows.specs.Dependencies.{needs_of, progress_of, ids_of, place_in, places_in, task_at, tasks_from, depends_on_these, adding_of, AreDependencies}
+use Rattle.farm_rows.specs.Dependencies.{needs_of, progress_of, ids_of, place_in, places_in, task_at, tasks_from, depends_on_these, AreDependencies}
 use Rattle.farm_rows.proofs.DependencyLemmas.{equal}
 
 -- ---- what stays of those that stand

@@ -77,12 +77,7 @@ impl DependencyGraph {
 
     /// Adds a task that comes behind the others, where there is room for it, and it depends on no task twice, and on none that does not
     /// stand. Answers whether it did.
-    pub(crate) fn add(
-        &mut self,
-        rows: &[TaskRow],
-        places: Option<&Places>,
-        row: &TaskRow,
-    ) -> bool
+    pub(crate) fn add(&mut self, rows: &[TaskRow], places: Option<&Places>, row: &TaskRow) -> bool
         requires placed { ArePlaced (option_copied places) rows.now }
         requires all { AreDependencies self.old.tasks rows.now }
         ensures added { IsTrue result → AreDependencies self.new.tasks (rows.now ++ row.now ∷ []) }

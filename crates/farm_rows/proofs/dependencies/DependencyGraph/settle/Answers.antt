@@ -1,4 +1,4 @@
-use Rattle.std.proofs.Common.{◌≡◌, ◌+◌, List, length, Some, None, count_by, ap, sym, ◌∙◌, subst, arith}
+use Rattle.std.proofs.Common.{◌≡◌, ◌+◌, List, length, Some, None, ap, sym, ◌∙◌, subst, arith}
 use Rattle.std.specs.List.{position}
 use Rattle.run_states.specs.Rows.{Row, scheduled}
 use Rattle.farm_rows.specs.Ready.{is_ready, started}

@@ -1,5 +1,4 @@
-use Rattle.std.proofs.Common.{◌≡◌, ℕ, ◌+◌, true, false, cond, List, length, bytes_eq, ap, sym, ◌∙◌, arith}
-use Rattle.run_states.specs.Rows.{Row}
+use Rattle.std.proofs.Common.{◌≡◌, ◌+◌, true, false, cond, length, bytes_eq, ap, sym, ◌∙◌, arith}
 use Rattle.farm_rows.proofs.BehindLemmas.{place-known, place-unknown}
 use Rattle.farm_rows.proofs.dependencies.noted.place_behind.Goals as goal
 
