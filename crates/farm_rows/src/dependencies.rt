@@ -11,7 +11,6 @@ ghost use Rattle.farm_rows.specs.Dependencies.{needs_of, progress_of, adding_of,
 mod kept;
 mod noted;
 
-use crate::settle::start_at;
 use dep_graph::{Graph, Progress, Requires as Needs};
 use farm_record::Creation;
 use farm_text::Moment;
@@ -146,7 +145,8 @@ impl DependencyGraph {
         ensures room { self.new.room ≡ self.old.room }
         ensures rows { rows.new ≡ change_at place (scheduled number at) rows.old }
     {
-        start_at(rows, place, at, number);
+        let row = &mut rows[place];
+        row.schedule(at, number);
         self.changed(rows, place);
     }
 }

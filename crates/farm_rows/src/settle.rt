@@ -61,7 +61,7 @@ fn settle_at(
 }
 
 /// Makes the task at a place pending, where it is unscheduled.
-pub(crate) fn start_at(rows: &mut [TaskRow], place: usize, at: Moment, number: u64)
+fn start_at(rows: &mut [TaskRow], place: usize, at: Moment, number: u64)
     requires { place < length rows.old }
     ensures { rows.new ≡ change_at place (scheduled number at) rows.old }
 {
