@@ -30,3 +30,7 @@ pub mod ListLemmas
 pub mod ServedLemmas
 pub mod SummaryLemmas
 pub mod CrossingLemmas
+pub mod DependencyLemmas
+pub mod FirstReadyLemmas
+pub mod BehindLemmas
+pub mod AddedLemmas

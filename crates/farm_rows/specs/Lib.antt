@@ -15,3 +15,4 @@ pub mod Settling
 pub mod Placed
 pub mod Dated
 pub mod Indexed
+pub mod Dependencies

@@ -7,6 +7,7 @@
 mod checks;
 mod copies;
 mod counts;
+mod dependencies;
 mod dues;
 mod groups;
 mod index;

@@ -1,0 +1,56 @@
+use Rattle.std.proofs.Common.{◌≡◌, ◌+◌, List, length, Some, None, ap, sym, ◌∙◌, subst, arith}
+use Rattle.std.specs.List.{position}
+use Rattle.run_states.specs.Rows.{Row, scheduled}
+use Rattle.farm_rows.specs.Ready.{is_ready, started}
+use Rattle.farm_rows.proofs.PlaceLemmas.{place-no}
+use Rattle.farm_rows.proofs.ReadyLemmas.{started-none, count-none}
+use Rattle.farm_rows.proofs.DependencyLemmas.{first-ready, change-length}
+use Rattle.farm_rows.proofs.FirstReadyLemmas.{IsStep, first-within, first-starts}
+use Rattle.farm_rows.proofs.dependencies.DependencyGraph.settle.Goals as goal
+
+pub start-requires-clause-within : goal.start-requires-clause-within
+start-requires-clause-within c =
+    let rows = c.ready.rows in
+    first-within (is_ready rows) rows c.in-Some.place (sym (first-ready c.ready.self.tasks rows c.ready.invariant.all) ∙ sym c.in-Some.ensures)
+
+pub ready-smaller : goal.ready-smaller
+ready-smaller c =
+    let rows = c.ready.rows in
+    let number = c.args.first + c.ready.drawn in
+    let place = c.in-Some.place in
+    let first : position (is_ready rows) rows ≡ Some place = sym (first-ready c.ready.self.tasks rows c.ready.invariant.all) ∙ sym c.in-Some.ensures in
+    let step = subst (λ (new : List Row). IsStep rows new number c.args.at) (sym c.start.ensures.rows) (first-starts rows number c.args.at place first) in
+    let fewer = step.fewer in
+    omega arith
+
+pub ready-preserved : goal.ready-preserved
+ready-preserved c =
+    let rows = c.ready.rows in
+    let new = c.start.new.rows in
+    let at = c.args.at in
+    let number = c.args.first + c.ready.drawn in
+    let place = c.in-Some.place in
+    let first : position (is_ready rows) rows ≡ Some place = sym (first-ready c.ready.self.tasks rows c.ready.invariant.all) ∙ sym c.in-Some.ensures in
+    let step = subst (λ (rs : List Row). IsStep rows rs number at) (sym c.start.ensures.rows) (first-starts rows number at place first) in
+    let sum : c.args.first + (c.ready.drawn + 1) ≡ number + 1 = omega arith in
+    record {
+      all = c.start.ensures.all;
+      room = c.start.ensures.room ∙ c.ready.invariant.room;
+      long = ap length c.start.ensures.rows ∙ (change-length (scheduled number at) place rows ∙ c.ready.invariant.long);
+      rows = ap (λ n. started (is_ready new) n at new) sum ∙ (step.rest ∙ c.ready.invariant.rows);
+      drawn = (let fewer = step.fewer in let drawn = c.ready.invariant.drawn in omega arith);
+    }
+
+pub returns-clause-rows : goal.returns-clause-rows
+returns-clause-rows c =
+    let rows = c.ready.rows in
+    let none : position (is_ready rows) rows ≡ None = sym (first-ready c.ready.self.tasks rows c.ready.invariant.all) ∙ sym c.in_default.ensures in
+    sym (started-none (is_ready rows) (c.args.first + c.ready.drawn) c.args.at rows (place-no (is_ready rows) rows none)) ∙ c.ready.invariant.rows
+
+pub returns-clause-drawn : goal.returns-clause-drawn
+returns-clause-drawn c =
+    let rows = c.ready.rows in
+    let none : position (is_ready rows) rows ≡ None = sym (first-ready c.ready.self.tasks rows c.ready.invariant.all) ∙ sym c.in_default.ensures in
+    let counted = count-none (is_ready rows) rows (place-no (is_ready rows) rows none) in
+    let drawn = c.ready.invariant.drawn in
+    omega arith
