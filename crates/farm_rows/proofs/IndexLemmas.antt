@@ -8,15 +8,16 @@ use Rattle.claim_queue.proofs.TableLemmas.{get-set-other}
 use Rattle.run_states.specs.Rows.{Row, is_unscheduled}
 use Rattle.run_states.specs.Later.{RowLater, RowsLater}
 use Rattle.run_states.proofs.LaterLemmas.{RowLater-refl, RowsLater-refl}
+use Rattle.dep_graph.specs.Nodes.{TaskGraph}
 use Rattle.farm_rows.specs.declared.dues.Dues.{Dues}
 use Rattle.farm_rows.specs.declared.index.Index.{Index}
 use Rattle.farm_rows.specs.Dated.{MayBeDue, IsPutAt}
+use Rattle.farm_rows.specs.Dependencies.{MayBeDependencies, MayBeDependenciesBut}
 use Rattle.farm_rows.specs.Indexed.{IsIndexOf, IsLaterAt, IsIndexBut}
-use Rattle.farm_rows.proofs.DueLemmas.{any_none}
+use Rattle.farm_rows.proofs.DependencyLemmas.{may-change}
 use Rattle.farm_rows.proofs.GroupLemmas.{grouped-same, groups-stay}
 use Rattle.farm_rows.proofs.PlaceLemmas.{place-within}
 use Rattle.farm_rows.proofs.PlacedLemmas.{ids_of, placed-same}
-use Rattle.farm_rows.proofs.ReadyLemmas.{later-busy}
 
 -- ---- one task changes
 
@@ -51,18 +52,15 @@ ids-later (r ∷ rows) [] later long = absurd later
 ids-later (r ∷ rows) (s ∷ new) later long =
     ap (λ (id : List ℕ). id ∷ ids_of new) later.0.id ∙ ap (λ (ids : List (List ℕ)). r.id ∷ ids) (ids-later rows new later.1 (omega arith))
 
-idle-later : (rows new : List Row) → RowsLater rows new → length new ≡ length rows → list_any is_unscheduled rows ≡ false → list_any is_unscheduled new ≡ false
-idle-later [] [] later long idle = refl
-idle-later [] (r ∷ new) later long idle = absurd (omega arith)
-idle-later (r ∷ rows) [] later long idle = absurd later
-idle-later (r ∷ rows) (s ∷ new) later long idle =
-    let parts = any_none (is_unscheduled r) (list_any is_unscheduled rows) idle in
-    rw (later-busy r s later.0 parts.0) (idle-later rows new later.1 (omega arith) parts.1)
+-- a graph of the tasks before is right but for the one that changed
+pub graph-but : (index : Index) (rows : List Row) (place : ℕ) → IsIndexBut place index rows → MayBeDependenciesBut place index.graph rows
+graph-but index rows place but =
+    may-change index.graph place but.before rows (record { stay = but.later.stay; long = but.later.long; others = but.later.others }) but.right.waiting
 
--- once what falls due of that task is held, all is right
-pub index-changed : (index : Index) (dues : Option Dues) (rows : List Row) (place : ℕ) (row : Row) → IsIndexBut place index rows → slice_get rows place ≡ Some row
-    → ((before rs : List Row) → IsPutAt place row before rs → MayBeDue index.dues before → MayBeDue dues rs) → IsIndexOf (record index { dues = dues }) rows
-index-changed index dues rows place row but here put =
+-- once what falls due of that task is held, and the graph has it as it is, all is right
+pub index-changed : (index : Index) (dues : Option Dues) (graph : Option TaskGraph) (rows : List Row) (place : ℕ) (row : Row) → IsIndexBut place index rows → slice_get rows place ≡ Some row
+    → ((before rs : List Row) → IsPutAt place row before rs → MayBeDue index.dues before → MayBeDue dues rs) → MayBeDependencies graph rows → IsIndexOf (record index { dues = dues; graph = graph }) rows
+index-changed index dues graph rows place row but here put waiting =
     let later = but.later in
     let right = but.right in
     let ids = ids-later but.before rows later.stay later.long in
@@ -70,7 +68,7 @@ index-changed index dues rows place row but here put =
       placed = placed-same index.places but.before rows ids right.placed;
       grouped = grouped-same index.groups but.before rows (groups-stay but.before rows later.stay ids) right.grouped;
       due = put but.before rows (record { here = here; others = later.others }) right.due;
-      idle = λ none. idle-later but.before rows later.stay later.long (right.idle none);
+      waiting = waiting;
     }
 
 -- ---- one task comes
@@ -90,9 +88,3 @@ put-behind rows row place long = record {
   here = ap (slice_get (rows ++ row ∷ [])) long ∙ last-here rows row;
   others = λ other apart. others-there rows row other (λ same. eqb-false other place apart (same ∙ sym long));
 }
-
--- none is unscheduled where none was, and the one that comes is not
-pub idle-more : (may may_ : Bool) (rows : List Row) (row : Row) → (may ≡ false → list_any is_unscheduled rows ≡ false) → may_ ≡ (may || is_unscheduled row) → may_ ≡ false → list_any is_unscheduled (rows ++ row ∷ []) ≡ false
-idle-more may may_ rows row idle is none =
-    let parts = any_none may (is_unscheduled row) (sym is ∙ none) in
-    list_any-append is_unscheduled rows (row ∷ []) ∙ rw (idle parts.0, parts.1) refl

@@ -1,19 +1,19 @@
 -- What is kept beside the tasks. The contracts of private functions alone speak of these.
 use Rattle.std.specs.Prelude.{◌≡◌, ℕ, ◌==◌, Bool, false, List, Option, Some, length, slice_get}
-use Rattle.std.specs.List.{list_any}
-use Rattle.run_states.specs.Rows.{Row, is_unscheduled}
+use Rattle.run_states.specs.Rows.{Row}
 use Rattle.run_states.specs.Later.{RowsLater}
 use Rattle.farm_rows.specs.declared.index.Index.{Index}
 use Rattle.farm_rows.specs.Sweep.{IsKept}
 use Rattle.farm_rows.specs.Placed.{ArePlaced, AreGrouped}
 use Rattle.farm_rows.specs.Dated.{MayBeDue}
+use Rattle.farm_rows.specs.Dependencies.{MayBeDependencies}
 
 -- all that is kept beside these tasks is right, as far as it is kept
 pub record IsIndexOf (index : Index) (rows : List Row) : Type 0 where
   pub placed : ArePlaced index.places rows
   pub grouped : AreGrouped index.groups rows
   pub due : MayBeDue index.dues rows
-  pub idle : index.may_wait ≡ false → list_any is_unscheduled rows ≡ false
+  pub waiting : MayBeDependencies index.graph rows
 
 -- the task at a place may have changed in its state, and the others are as they were
 pub record IsLaterAt (place : ℕ) (before rows : List Row) : Type 0 where

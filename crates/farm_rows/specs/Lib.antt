@@ -14,5 +14,5 @@ pub mod Sweep
 pub mod Settling
 pub mod Placed
 pub mod Dated
-pub mod Indexed
 pub mod Dependencies
+pub mod Indexed

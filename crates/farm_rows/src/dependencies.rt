@@ -8,7 +8,7 @@ ghost use Rattle.farm_rows.specs.Ready.{is_ready, started};
 ghost use Rattle.farm_rows.specs.Placed.{ArePlaced};
 ghost use Rattle.farm_rows.specs.Dependencies.{needs_of, progress_of, adding_of, AreDependencies, AreDependenciesBut};
 
-mod kept;
+pub(crate) mod kept;
 mod noted;
 
 use dep_graph::{Graph, Progress, Requires as Needs};

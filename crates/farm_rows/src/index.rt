@@ -1,20 +1,24 @@
-//! What is kept beside the tasks, so that they are found without a walk over all: where each stands, which is the first of each group, and
-//! what falls due first.
+//! What is kept beside the tasks, so that they are found without a walk over all: where each stands, which is the first of each group, what
+//! falls due first, and which is ready first.
 //!
 //! Each part of it may be given up, and then all tasks are walked over. Functions take the tasks beside it.
 ghost use Rattle.std.specs.Prelude.{◌≡◌, ◌≤◌, ◌<◌, ◌++◌, ◌∷◌, [], List, None, find, filter, min, nat_le, length, option_copied};
-ghost use Rattle.std.specs.List.{position, list_any, reduce};
-ghost use Rattle.run_states.specs.Rows.{Row, is_unscheduled, loses_claim};
+ghost use Rattle.std.specs.List.{position, reduce};
+ghost use Rattle.run_states.specs.Rows.{Row, loses_claim};
 ghost use Rattle.farm_rows.specs.Contents.{row_with};
 ghost use Rattle.farm_rows.specs.Changes.{has_id};
 ghost use Rattle.farm_rows.specs.Due.{all_due_moments, meets_deadline};
+ghost use Rattle.farm_rows.specs.Ready.{is_ready};
 ghost use Rattle.farm_rows.specs.Placed.{in_group};
 ghost use Rattle.farm_rows.specs.Indexed.{IsIndexOf, IsIndexBut};
 
+use crate::dependencies::DependencyGraph;
+use crate::dependencies::kept::{keep_added, keep_changed, known_ready, note_added};
 use crate::dues::{Dues, keep_dues, known_deadline, known_lease, reserve};
 use crate::groups::{first_of, keep_first, note_first};
 use crate::places::{keep_noted, note_new, place_of, row_with};
-use crate::settle::any_unscheduled;
+use crate::rows::Rows;
+use crate::settle::ready_place;
 use crate::walks::{deadline_place, first_due, lost_place};
 use farm_record::Creation;
 use farm_text::{Moment, SlugId};
@@ -32,8 +36,8 @@ pub(crate) struct Index {
     groups: Option<Places>,
     /// When each task falls due.
     dues: Option<Dues>,
-    /// Whether some task may be unscheduled.
-    may_wait: bool,
+    /// Which tasks wait for which, and which of them are ready.
+    graph: Option<DependencyGraph>,
 }
 
 impl Index {
@@ -45,7 +49,7 @@ impl Index {
             places: Some(BTreeMap::new(alloc)),
             groups: Some(BTreeMap::new(alloc)),
             dues: Some(Dues::new(alloc)),
-            may_wait: false,
+            graph: Some(DependencyGraph::new(alloc)),
         }
     }
 
@@ -57,7 +61,7 @@ impl Index {
             places: None,
             groups: None,
             dues: None,
-            may_wait: true,
+            graph: None,
         }
     }
 
@@ -118,23 +122,30 @@ impl Index {
         }
     }
 
-    /// Whether some task is unscheduled. Once none is, this is known until one is added.
-    pub(crate) fn any_unscheduled(&mut self, rows: &[TaskRow]) -> bool
-        requires { IsIndexOf self.old rows.now }
-        ensures any { result ≡ list_any is_unscheduled rows.now }
-        ensures index { IsIndexOf self.new rows.now }
+    /// The place of the first task that is ready.
+    pub(crate) fn first_ready(&self, rows: &[TaskRow]) -> Option<usize>
+        requires { IsIndexOf self.now rows.now }
+        ensures { result ≡ position (is_ready rows.now) rows.now }
     {
-        self.may_wait = self.may_wait && any_unscheduled(rows);
-        self.may_wait
+        match known_ready(&self.graph) {
+            Some(place) => place,
+            None => ready_place(&Rows::new(rows, self)),
+        }
     }
 
     /// Makes room for a task that is to be created behind these. Where memory is wanting, all stays as it was.
-    pub(crate) fn note(&mut self, rows: &[TaskRow], creation: &Creation) -> Result<(), AllocError>
+    pub(crate) fn note(
+        &mut self,
+        alloc: Global,
+        rows: &[TaskRow],
+        creation: &Creation,
+    ) -> Result<(), AllocError>
         requires index { IsIndexOf self.old rows.now }
         requires few { length rows.now ≤ 1_000_000 }
         requires unknown { row_with creation.now.id rows.now ≡ None }
         ensures { IsIndexOf self.new rows.now }
     {
+        note_added(&mut self.graph, alloc, rows, self.places.as_ref(), creation)?;
         let place = rows.len() as u32;
         note_new(&mut self.places, creation.id, place)?;
         note_first(&mut self.groups, rows, creation.definition.task_group_id)?;
@@ -146,11 +157,11 @@ impl Index {
         requires { IsIndexOf self.old rows.now }
         ensures { IsIndexOf self.new (rows.now ++ row.now ∷ []) }
     {
+        keep_added(&mut self.graph, rows, self.places.as_ref(), row);
         let place = rows.len();
         keep_noted(&mut self.places, row.id(), place);
         keep_first(&mut self.groups, rows, row.definition().task_group_id);
         keep_dues(&mut self.dues, place, row);
-        self.may_wait = self.may_wait || row.is_unscheduled();
     }
 
     /// The task at a place changed in its state, and the index with it. It takes no memory.
@@ -160,5 +171,6 @@ impl Index {
         ensures { IsIndexOf self.new rows.now }
     {
         keep_dues(&mut self.dues, place, &rows[place]);
+        keep_changed(&mut self.graph, rows, place);
     }
 }

@@ -54,16 +54,16 @@ impl TaskTables {
         ensures plan { IfOk result (λ p. IsPlanOn self.old p) }
         ensures same { self.new ≡ self.old }
     {
-        self.note(&creation)?;
+        self.note(alloc, &creation)?;
         self.plan_creation(alloc, at, creation)
     }
 
     /// Makes room beside the tasks for one that is to be created.
-    fn note(&mut self, creation: &Creation) -> Result<(), AllocError>
+    fn note(&mut self, alloc: Global, creation: &Creation) -> Result<(), AllocError>
         requires { row_with creation.now.id self.old.rows ≡ None }
         ensures { self.new ≡ self.old }
     {
-        self.index.note(&self.rows, creation)
+        self.index.note(alloc, &self.rows, creation)
     }
 
     /// The plan of a creation that may be made.

@@ -7,7 +7,7 @@ returns-in_err-note_new c = record {
   placed = c.note_new.ensures (ids_of c.args.rows.now) (other-ids c.args.creation.now.id c.args.rows.now c.requires.unknown) c.requires.index.placed;
   grouped = c.requires.index.grouped;
   due = c.requires.index.due;
-  idle = c.requires.index.idle;
+  waiting = c.note_added.ensures c.args.rows.now c.requires.index.waiting;
 }
 
 pub returns-in_err-note_first : goal.returns-in_err-note_first
@@ -15,7 +15,7 @@ returns-in_err-note_first c = record {
   placed = c.note_new.ensures (ids_of c.args.rows.now) (other-ids c.args.creation.now.id c.args.rows.now c.requires.unknown) c.requires.index.placed;
   grouped = c.note_first.ensures;
   due = c.requires.index.due;
-  idle = c.requires.index.idle;
+  waiting = c.note_added.ensures c.args.rows.now c.requires.index.waiting;
 }
 
 pub returns : goal.returns
@@ -23,5 +23,5 @@ returns c = record {
   placed = c.note_new.ensures (ids_of c.args.rows.now) (other-ids c.args.creation.now.id c.args.rows.now c.requires.unknown) c.requires.index.placed;
   grouped = c.note_first.ensures;
   due = c.reserve.ensures c.args.rows.now c.requires.index.due;
-  idle = c.requires.index.idle;
+  waiting = c.note_added.ensures c.args.rows.now c.requires.index.waiting;
 }
