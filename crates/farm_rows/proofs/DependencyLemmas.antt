@@ -131,32 +131,6 @@ pub may-change : (graph : Option TaskGraph) (place : ℕ) (before rows : List Ro
 may-change None place before rows changed are = tt
 may-change (Some graph) place before rows changed are = changed-but graph.tasks place before rows changed are
 
--- ---- one task that is changed
-
-change-stay : (f : Row → Row) → ((row : Row) → RowLater row (f row)) → (place : ℕ) (rows : List Row) → RowsLater rows (change_at place f rows)
-change-stay f later zero [] = tt
-change-stay f later (suc place) [] = tt
-change-stay f later zero (row ∷ rows) = (later row, RowsLater-refl rows)
-change-stay f later (suc place) (row ∷ rows) = (RowLater-refl row, change-stay f later place rows)
-
-pub change-length : (f : Row → Row) (place : ℕ) (rows : List Row) → length (change_at place f rows) ≡ length rows
-change-length f zero [] = refl
-change-length f (suc place) [] = refl
-change-length f zero (row ∷ rows) = refl
-change-length f (suc place) (row ∷ rows) = ap suc (change-length f place rows)
-
-change-others : (f : Row → Row) (place : ℕ) (rows : List Row) (other : ℕ) → (other == place) ≡ false → slice_get (change_at place f rows) other ≡ slice_get rows other
-change-others f zero [] other differs = refl
-change-others f (suc place) [] other differs = refl
-change-others f zero (row ∷ rows) zero differs = absurd (let same : true ≡ false = sym (equal zero zero refl) ∙ differs in cc)
-change-others f zero (row ∷ rows) (suc other) differs = refl
-change-others f (suc place) (row ∷ rows) zero differs = refl
-change-others f (suc place) (row ∷ rows) (suc other) differs =
-    change-others f place rows other (unequal other place (λ e. let same = equal (suc other) (suc place) (ap suc e) in let no_ : true ≡ false = sym same ∙ differs in absurd (cc)))
-
-pub changed-at : (f : Row → Row) → ((row : Row) → RowLater row (f row)) → (place : ℕ) (rows : List Row) → IsChangedAt place rows (change_at place f rows)
-changed-at f later place rows = record { stay = change-stay f later place rows; long = change-length f place rows; others = change-others f place rows }
-
 -- ---- which task is ready
 
 -- a task meets what is required where its row serves

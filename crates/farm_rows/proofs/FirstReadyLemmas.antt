@@ -1,5 +1,5 @@
 -- The first task that is ready becomes pending: then those are ready that were so besides.
-use Rattle.std.proofs.Common.{◌≡◌, ℕ, ◌+◌, ◌<◌, Bool, true, List, [], ◌∷◌, length, count_by, Some, ap, sym, ◌∙◌, subst, arith}
+use Rattle.std.proofs.Common.{◌≡◌, ℕ, zero, suc, ◌+◌, ◌<◌, Bool, true, List, [], ◌∷◌, length, count_by, Some, refl, ap, sym, ◌∙◌, subst, arith}
 use Rattle.std.specs.List.{list_any, position}
 use Rattle.std.proofs.lemmas.List.Quantifiers.{position-Some}
 use Rattle.run_states.specs.Runs.{change_at}
@@ -24,6 +24,11 @@ first-any test (x ∷ xs) place is = place-any test (x ∷ xs) place x is
 first-changed : {A : Type 0} (test : A → Bool) (f : A → A) (xs : List A) (place : ℕ) → position test xs ≡ Some place → change_first test f xs ≡ change_at place f xs
 first-changed test f [] place is = cc
 first-changed test f (x ∷ xs) place is = sym (place-changed test f (x ∷ xs) place x is) ∙ set-at f (x ∷ xs) place x
+
+pub change-length : {A : Type 0} (f : A → A) (xs : List A) (place : ℕ) → length (change_at place f xs) ≡ length xs
+change-length f [] place = refl
+change-length f (x ∷ xs) zero = refl
+change-length f (x ∷ xs) (suc place) = ap suc (change-length f xs place)
 
 -- what is left to settle makes the whole, and is one task less
 pub record IsStep (rows new : List Row) (number at : ℕ) : Type 0 where

@@ -18,7 +18,6 @@ pub mod PickLemmas
 pub mod EndLemmas
 pub mod ShownLemmas
 pub mod StartLemmas
-pub mod SettleLemmas
 pub mod StepLemmas
 pub mod SharedLemmas
 pub mod CreateLemmas

@@ -1,10 +1,7 @@
 //! Which tasks wait for which, by their places. Only `note` takes memory.
-ghost use Rattle.std.specs.Prelude.{◌≡◌, ◌^◌, ◌≤◌, ◌<◌, ◌↔◌, ◌∷◌, [], ◌++◌, true, Some, IsTrue, OnOk, length, count_by, option_copied};
-ghost use Rattle.run_states.specs.Runs.{change_at};
-ghost use Rattle.run_states.specs.Rows.{scheduled};
+ghost use Rattle.std.specs.Prelude.{◌≡◌, ◌^◌, ◌≤◌, ◌<◌, ◌↔◌, ◌∷◌, [], ◌++◌, true, Some, IsTrue, OnOk, length, option_copied};
 ghost use Rattle.dep_graph.specs.Nodes.{no_graph, may_be_added};
 ghost use Rattle.dep_graph.specs.Ready.{ready_row};
-ghost use Rattle.farm_rows.specs.Ready.{is_ready, started};
 ghost use Rattle.farm_rows.specs.Placed.{ArePlaced};
 ghost use Rattle.farm_rows.specs.Dependencies.{needs_of, progress_of, adding_of, AreDependencies, AreDependenciesBut};
 
@@ -13,7 +10,6 @@ mod noted;
 
 use dep_graph::{Graph, Progress, Requires as Needs};
 use farm_record::Creation;
-use farm_text::Moment;
 use noted::Noted;
 use run_states::TaskRow;
 use slug_places::places::Places;
@@ -116,38 +112,6 @@ impl DependencyGraph {
             Some(row) => Some(row as usize),
             None => None,
         }
-    }
-
-    /// Makes each task pending that is ready, in the order of creation, the first with this number. Answers how many there were.
-    pub(crate) fn settle(&mut self, rows: &mut [TaskRow], at: Moment, first: u64) -> u64
-        requires all { AreDependencies self.old.tasks rows.old }
-        requires few { length rows.old ≤ 1_000_000 }
-        requires drawn { first ≤ 50_000_001 }
-        ensures all { AreDependencies self.new.tasks rows.new }
-        ensures room { self.new.room ≡ self.old.room }
-        ensures rows { rows.new ≡ started (is_ready rows.old) first at rows.old }
-        ensures drawn { result ≡ count_by (is_ready rows.old) rows.old }
-    {
-        let mut drawn = 0;
-        'ready: while let Some(place) = self.ready() {
-            self.start(rows, place, at, first + drawn);
-            drawn += 1;
-        }
-        drawn
-    }
-
-    /// Makes the task at a place pending, where it is unscheduled.
-    fn start(&mut self, rows: &mut [TaskRow], place: usize, at: Moment, number: u64)
-        requires within { place < length rows.old }
-        requires few { length rows.old ≤ 1_000_000 }
-        requires all { AreDependencies self.old.tasks rows.old }
-        ensures all { AreDependencies self.new.tasks rows.new }
-        ensures room { self.new.room ≡ self.old.room }
-        ensures rows { rows.new ≡ change_at place (scheduled number at) rows.old }
-    {
-        let row = &mut rows[place];
-        row.schedule(at, number);
-        self.changed(rows, place);
     }
 }
 

@@ -3,8 +3,7 @@ use Rattle.run_states.specs.Rows.{Row, scheduled}
 use Rattle.farm_rows.specs.Ready.{is_ready, started}
 use Rattle.farm_rows.proofs.PlaceLemmas.{place-no}
 use Rattle.farm_rows.proofs.ReadyLemmas.{started-none, count-none}
-use Rattle.farm_rows.proofs.DependencyLemmas.{change-length}
-use Rattle.farm_rows.proofs.FirstReadyLemmas.{IsStep, first-within, first-starts}
+use Rattle.farm_rows.proofs.FirstReadyLemmas.{IsStep, first-within, first-starts, change-length}
 use Rattle.farm_rows.proofs.settle.settle.Goals as goal
 
 pub start_at-requires-clause-within : goal.start_at-requires-clause-within
@@ -29,7 +28,7 @@ ready-preserved c =
     let sum : c.args.first + (c.ready.drawn + 1) ≡ number + 1 = omega arith in
     record {
       indexed = c.start_at.ensures.index;
-      long = ap length c.start_at.ensures.rows ∙ (change-length (scheduled number at) place rows ∙ c.ready.invariant.long);
+      long = ap length c.start_at.ensures.rows ∙ (change-length (scheduled number at) rows place ∙ c.ready.invariant.long);
       rows = ap (λ n. started (is_ready new) n at new) sum ∙ (step.rest ∙ c.ready.invariant.rows);
       drawn = (let fewer = step.fewer in let drawn = c.ready.invariant.drawn in omega arith);
     }
