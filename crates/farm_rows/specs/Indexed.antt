@@ -1,5 +1,5 @@
 -- What is kept beside the tasks. The contracts of private functions alone speak of these.
-use Rattle.std.specs.Prelude.{◌≡◌, ℕ, ◌==◌, Bool, false, List, Option, Some, length, slice_get}
+use Rattle.std.specs.Prelude.{◌≡◌, ℕ, ◌==◌, false, List, length, slice_get}
 use Rattle.std.specs.List.{list_any}
 use Rattle.run_states.specs.Rows.{Row, is_unscheduled}
 use Rattle.run_states.specs.Later.{RowsLater}

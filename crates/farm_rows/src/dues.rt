@@ -228,12 +228,7 @@ fn move_held<L: Ledger>(
 }
 
 /// Holds a row that is not held, where there is a moment. Answers whether there was room for it.
-fn add<L: Ledger>(
-    dues: &mut DueRows,
-    row: u32,
-    at: Option<Moment>,
-    steps: &mut Steps<L>,
-) -> bool
+fn add<L: Ledger>(dues: &mut DueRows, row: u32, at: Option<Moment>, steps: &mut Steps<L>) -> bool
     requires { slice_get dues.old.rows row ≡ Some None }
     ensures { result ≡ true → IsHeldAt row at dues.old dues.new }
 {

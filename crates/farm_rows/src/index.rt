@@ -128,7 +128,7 @@ impl Index {
         self.may_wait
     }
 
-    /// Makes room for a task that is to be created behind these. Where memory is wanting, all stays as it was.
+    /// Makes room for a task that is to be created behind these. All that is kept stays right, also where memory is wanting.
     pub(crate) fn note(&mut self, rows: &[TaskRow], creation: &Creation) -> Result<(), AllocError>
         requires index { IsIndexOf self.old rows.now }
         requires few { length rows.now ≤ 1_000_000 }
@@ -141,7 +141,7 @@ impl Index {
         reserve(&mut self.dues, place)
     }
 
-    /// A task comes behind these. What its place was not noted for is given up. It takes no memory.
+    /// A task comes behind these. What has no room for it is given up. It takes no memory.
     pub(crate) fn added(&mut self, rows: &[TaskRow], row: &TaskRow)
         requires { IsIndexOf self.old rows.now }
         ensures { IsIndexOf self.new (rows.now ++ row.now ∷ []) }
@@ -153,7 +153,7 @@ impl Index {
         self.may_wait = self.may_wait || row.is_unscheduled();
     }
 
-    /// The task at a place changed in its state, and the index with it. It takes no memory.
+    /// Brings the index up to date for the task at a place, which changed in its state. It takes no memory.
     pub(crate) fn changed(&mut self, rows: &[TaskRow], place: usize)
         requires within { place < length rows.now }
         requires index { IsIndexBut place self.old rows.now }

@@ -42,13 +42,7 @@ pub(crate) fn settle_new(rows: &Rows<'_>, row: &mut TaskRow, at: Moment, number:
 }
 
 /// Makes the task at a place pending, where it is ready. Answers how many numbers are drawn.
-fn settle_at(
-    rows: &mut [TaskRow],
-    index: &mut Index,
-    place: usize,
-    at: Moment,
-    number: u64,
-) -> u64
+fn settle_at(rows: &mut [TaskRow], index: &mut Index, place: usize, at: Moment, number: u64) -> u64
     requires index { IsIndexOf index.old rows.old }
     requires within { place < length rows.old }
     ensures index { IsIndexOf index.new rows.new }
