@@ -1,5 +1,5 @@
 -- What is held of tasks tells what falls due first, and where.
-use Rattle.std.proofs.Common.{◌≡◌, ◌≢◌, ℕ, zero, suc, ◌+◌, ◌≤◌, ◌<◌, ◌==◌, ◌⊎◌, inl, inr, min, Bool, true, false, not, ◌&&◌, ◌||◌, cond, List, [], ◌∷◌, ◌++◌, length, filter, Option, Some, None, IfSome, option_map, option_and_then, unwrap_or, nat_le, nat_lt, slice_get, refl, ap, sym, ◌∙◌, arith}
+use Rattle.std.proofs.Common.{◌≡◌, ℕ, zero, suc, ◌+◌, ◌≤◌, ◌<◌, ◌==◌, ◌⊎◌, inl, inr, min, Bool, true, false, not, ◌||◌, cond, List, [], ◌∷◌, ◌++◌, length, filter, Option, Some, None, IfSome, option_map, option_and_then, unwrap_or, nat_le, nat_lt, slice_get, refl, ap, sym, ◌∙◌, arith}
 use Rattle.std.specs.List.{list_any, list_all, reduce, position, position_or_len, prefix_len}
 use Rattle.std.specs.Option.{option_to_list}
 use Rattle.std.proofs.lemmas.Bool.{leb-true, leb-false, le-leb, lt-leb, lt-ltb, le-ltb, eqb-true, eq-eqb}
@@ -12,7 +12,7 @@ use Rattle.claim_queue.proofs.LeastLemmas.{first-due-is}
 use Rattle.run_states.specs.Rows.{Row, is_resolved, claim_due, loses_claim, due_moments}
 use Rattle.farm_rows.specs.Due.{all_due_moments, meets_deadline}
 use Rattle.farm_rows.specs.declared.dues.Dues.{Dues}
-use Rattle.farm_rows.specs.Dated.{deadline_of, held_at, AreHeld, AreDues, earlier_of, place_at}
+use Rattle.farm_rows.specs.Dated.{deadline_of, AreHeld, AreDues, earlier_of, place_at}
 use Rattle.farm_rows.proofs.DueLemmas.{meets, loses}
 use Rattle.farm_rows.proofs.LeastLemmas.{first-is, least-is, none-first}
 

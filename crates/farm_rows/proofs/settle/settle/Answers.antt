@@ -3,7 +3,7 @@ use Rattle.std.specs.List.{list_any}
 use Rattle.run_states.specs.Rows.{Row, is_unscheduled}
 use Rattle.farm_rows.specs.Ready.{is_ready}
 use Rattle.farm_rows.specs.Settling.{one_if, is_ready_at, settled_at}
-use Rattle.farm_rows.proofs.SettleLemmas.{upto, counted, upto-ids, upto-all, counted-all, counted-few, one-few, settle-rows, settle-count, settle-none, count-busy}
+use Rattle.farm_rows.proofs.SettleLemmas.{upto, counted, upto-all, counted-all, counted-few, one-few, settle-rows, settle-count, settle-none, count-busy}
 use Rattle.farm_rows.proofs.settle.settle.Goals as goal
 
 pub returns-then-not-any_unscheduled-clause-rows : goal.returns-then-not-any_unscheduled-clause-rows
