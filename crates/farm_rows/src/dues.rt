@@ -1,5 +1,5 @@
 //! When each task falls due, by its place: at its deadline, while it is not resolved, and at the end of its claim, while it has one.
-ghost use Rattle.std.specs.Prelude.{◌≡◌, ℕ, ◌≤◌, ◌<◌, List, [], Some, None, true, filter, min, nat_le, slice_get, option_map, IfSome, if◌then◌else◌};
+ghost use Rattle.std.specs.Prelude.{◌≡◌, ℕ, ◌≤◌, ◌<◌, List, [], Some, None, true, filter, min, nat_le, slice_get, option_map, IfSome};
 ghost use Rattle.std.specs.List.{position, reduce};
 ghost use Rattle.run_states.specs.Rows.{Row, loses_claim};
 ghost use Rattle.claim_queue.specs.Dues.{first_due_of};
