@@ -1,5 +1,5 @@
 -- What is held of tasks tells what falls due first, and where.
-use Rattle.std.proofs.Common.{◌≡◌, ◌≢◌, ℕ, zero, suc, ◌+◌, ◌≤◌, ◌<◌, ◌==◌, ◌⊎◌, inl, inr, min, Bool, true, false, not, ◌&&◌, ◌||◌, cond, List, [], ◌∷◌, ◌++◌, length, filter, Option, Some, None, IfSome, option_map, option_and_then, unwrap_or, nat_le, nat_lt, slice_get, refl, ap, sym, ◌∙◌, arith}
+use Rattle.std.proofs.Common.{◌≡◌, ℕ, zero, suc, ◌+◌, ◌≤◌, ◌<◌, ◌==◌, ◌⊎◌, inl, inr, min, Bool, true, false, not, ◌||◌, cond, List, [], ◌∷◌, ◌++◌, length, filter, Option, Some, None, IfSome, option_map, option_and_then, unwrap_or, nat_le, nat_lt, slice_get, refl, ap, sym, ◌∙◌, arith}
 use Rattle.std.specs.List.{list_any, list_all, reduce, position, position_or_len, prefix_len}
 use Rattle.std.specs.Option.{option_to_list}
 use Rattle.std.proofs.lemmas.Bool.{leb-true, leb-false, le-leb, lt-leb, lt-ltb, le-ltb, eqb-true, eq-eqb}
@@ -12,7 +12,7 @@ use Rattle.claim_queue.proofs.LeastLemmas.{first-due-is}
 use Rattle.run_states.specs.Rows.{Row, is_resolved, claim_due, loses_claim, due_moments}
 use Rattle.farm_rows.specs.Due.{all_due_moments, meets_deadline}
 use Rattle.farm_rows.specs.declared.dues.Dues.{Dues}
-use Rattle.farm_rows.specs.Dated.{deadline_of, held_at, AreHeld, AreDues, earlier_of, place_at}
+use Rattle.farm_rows.specs.Dated.{deadline_of, AreHeld, AreDues, earlier_of, place_at}
 use Rattle.farm_rows.proofs.DueLemmas.{meets, loses}
 use Rattle.farm_rows.proofs.LeastLemmas.{first-is, least-is, none-first}
 
@@ -58,10 +58,13 @@ first-tells : (due : Row → Option ℕ) (dues : RowDues) (rows : List Row) (mom
 first-tells due dues rows moment held = by (first_due_of moment dues) (first-due-is moment dues) where
   by : (first : Option (ℕ × ℕ)) → IsFirstDue moment dues.rows first → Tells due rows moment first
   by None is = λ place row x here falls. is place x (entry-held due dues rows place row x held here falls)
-  by (Some first) is = (is.1, record {
-    entry = held-entry due dues rows first.1 first.0 held is.0;
-    least = λ other row x here falls. is.2 other x (entry-held due dues rows other row x held here falls);
-  })
+  by (Some first) is = (
+    is.1,
+    record {
+      entry = held-entry due dues rows first.1 first.0 held is.0;
+      least = λ other row x here falls. is.2 other x (entry-held due dues rows other row x held here falls);
+    },
+  )
 
 -- ---- the place of the first that passes a test
 
@@ -111,13 +114,13 @@ place-told due test dues rows at reads held = by (first_due_of at dues) (first-t
   first-here moment place same first =
       position-at test rows place first.entry.row first.entry.here (reads.passes first.entry.row (first.entry.is ∙ ap Some same))
       (λ other r less there. fails (test r) (λ passes.
-          let come = reads.comes r passes in
-          let low = first.least other r come.0 there come.1 in
-          let early = come.2 in
-          let least = low.0 in
-          let same_ : come.0 ≡ moment = omega arith in
-          let behind = low.1 same_ in
-          omega arith))
+      let come = reads.comes r passes in
+      let low = first.least other r come.0 there come.1 in
+      let early = come.2 in
+      let least = low.0 in
+      let same_ : come.0 ≡ moment = omega arith in
+      let behind = low.1 same_ in
+      omega arith))
 
   by : (first : Option (ℕ × ℕ)) → Tells due rows at first → IfSome (place_at at first) (λ place. place ≡ position test rows)
   by None later = position-none test rows (λ other r there. fails (test r) (none later other r there))

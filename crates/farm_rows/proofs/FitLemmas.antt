@@ -1,5 +1,5 @@
 -- How many runs a task has: with the retries that are left they are 50 at most, and each number that is drawn is of a run.
-use Rattle.std.proofs.Common.{◌≡◌, ℕ, zero, suc, ◌+◌, ◌-◌, ◌*◌, ◌≤◌, ◌<◌, min, Bool, true, false, ◌&&◌, cond, List, [], ◌∷◌, ◌++◌, length, find, Option, Some, None, is_some, refl, ap, sym, ◌∙◌, arith, nat_le, nat_lt, map}
+use Rattle.std.proofs.Common.{◌≡◌, ℕ, zero, suc, ◌+◌, ◌-◌, ◌*◌, ◌≤◌, ◌<◌, min, Bool, true, false, ◌&&◌, cond, List, [], ◌∷◌, ◌++◌, length, find, Option, Some, None, is_some, refl, ap, sym, ◌∙◌, arith, nat_le, nat_lt}
 use Rattle.std.specs.List.{list_all}
 use Rattle.std.proofs.lemmas.Bool.{leb-true, le-leb, ltb-true, ltb-false, and_parts, and_from}
 use Rattle.std.proofs.lemmas.List.Sums.{sum_by-cons}
@@ -12,7 +12,7 @@ use Rattle.run_states.specs.declared.run.Claim.{Claim}
 use Rattle.run_states.specs.declared.run.Run.{Run}
 use Rattle.run_states.specs.Reasons.{retry_after}
 use Rattle.run_states.specs.Runs.{ended, kept, taken, pending_run, change_last, change_at}
-use Rattle.run_states.specs.Rows.{Row, is_resolved, is_pending, is_running_at, loses_claim, runs_finished, finished, exceeded}
+use Rattle.run_states.specs.Rows.{Row, is_resolved, is_pending, is_running_at, loses_claim, runs_finished, finished}
 use Rattle.run_states.specs.Moves.{retried, closed, expired, may_rerun, run_again, claimed, reclaimed, resolved, canceled}
 use Rattle.farm_rows.specs.Due.{change_first, draws}
 use Rattle.farm_rows.specs.Sweep.{runs_made, fits}

@@ -1,5 +1,5 @@
 -- What is kept beside tasks, where one of them changes or comes.
-use Rattle.std.proofs.Common.{◌≡◌, ◌≢◌, ℕ, zero, suc, ◌<◌, ◌==◌, Bool, true, false, ◌||◌, List, [], ◌∷◌, ◌++◌, length, Option, Some, None, slice_get, slice_set, get_or, refl, ap, sym, ◌∙◌, subst, arith}
+use Rattle.std.proofs.Common.{◌≡◌, ◌≢◌, ℕ, zero, suc, ◌<◌, Bool, false, ◌||◌, List, [], ◌∷◌, ◌++◌, length, Option, Some, slice_get, slice_set, get_or, refl, ap, sym, ◌∙◌, subst, arith}
 use Rattle.std.specs.List.{list_any, position}
 use Rattle.std.proofs.lemmas.Bool.{eqb-false}
 use Rattle.std.proofs.lemmas.List.{length-set}
@@ -13,7 +13,7 @@ use Rattle.farm_rows.specs.declared.dues.Dues.{Dues}
 use Rattle.farm_rows.specs.declared.index.Index.{Index}
 use Rattle.farm_rows.specs.Dated.{MayBeDue, IsPutAt}
 use Rattle.farm_rows.specs.Dependencies.{MayBeDependencies, MayBeDependenciesBut}
-use Rattle.farm_rows.specs.Indexed.{IsIndexOf, IsLaterAt, IsIndexBut}
+use Rattle.farm_rows.specs.Indexed.{IsIndexOf, IsIndexBut}
 use Rattle.farm_rows.proofs.DependencyLemmas.{may-change}
 use Rattle.farm_rows.proofs.GroupLemmas.{grouped-same, groups-stay}
 use Rattle.farm_rows.proofs.PlaceLemmas.{place-within}

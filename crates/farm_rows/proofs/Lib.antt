@@ -10,7 +10,6 @@ pub mod PlacedLemmas
 pub mod GroupLemmas
 pub mod FirstLemmas
 pub mod IndexLemmas
-pub mod KeptLemmas
 pub mod TableLemmas
 pub mod IdLemmas
 pub mod ChangeLemmas

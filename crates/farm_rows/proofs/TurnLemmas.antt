@@ -1,9 +1,9 @@
 -- Turns: each takes some moment away, so there are enough of them.
-use Rattle.std.proofs.Common.{◌≡◌, ℕ, zero, suc, ◌+◌, ◌≤◌, ◌<◌, Bool, true, false, cond, List, map, length, find, Option, Some, None, refl, ap, sym, ◌∙◌, arith, nat_le}
+use Rattle.std.proofs.Common.{◌≡◌, ℕ, zero, suc, ◌+◌, ◌≤◌, ◌<◌, Bool, true, false, cond, map, length, find, Option, Some, None, refl, ap, sym, ◌∙◌, arith}
 use Rattle.std.specs.List.{list_any, list_all}
 use Rattle.std.proofs.lemmas.Bool.{leb-true, le-leb}
 use Rattle.run_states.specs.declared.reasons.ReasonResolved.TheVariants.{ClaimExpired}
-use Rattle.run_states.specs.Rows.{Row, is_unscheduled, loses_claim, exceeded}
+use Rattle.run_states.specs.Rows.{loses_claim, exceeded}
 use Rattle.run_states.specs.Moves.{expired}
 use Rattle.run_states.specs.Later.{RowsLater}
 use Rattle.run_states.proofs.LaterLemmas.{exceeded-later, expired-later, RowsLater-refl, RowsLater-trans}
@@ -12,7 +12,7 @@ use Rattle.farm_rows.specs.Ready.{has_ready, settled}
 use Rattle.farm_rows.specs.Due.{all_due_moments, is_due, first_due, meets_deadline, change_first, draws, resolved_at, turn, turns, after_first}
 use Rattle.farm_rows.specs.Sweep.{all_turns}
 use Rattle.farm_rows.proofs.LeastLemmas.{first-some, first-is, first-none, none-first, reduce-all, reduce-any}
-use Rattle.farm_rows.proofs.ReadyLemmas.{busy-change, settled-none, settled-busy, settled-due, settled-stays, settled-ids, settled-last, settled-keeps}
+use Rattle.farm_rows.proofs.ReadyLemmas.{settled-none, settled-due, settled-stays, settled-ids, settled-last, settled-keeps}
 use Rattle.farm_rows.proofs.DueLemmas.{from, from-rows, some-lost, meets-turn, loses-turn, change-stays, change-ids}
 
 -- ---- what is resolved at a moment: a deadline, or the end of a claim

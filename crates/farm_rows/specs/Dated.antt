@@ -1,5 +1,5 @@
 -- When each task falls due, by its place. The contracts of private functions alone speak of these.
-use Rattle.std.specs.Prelude.{◌≡◌, ℕ, ◌==◌, min, Bool, false, List, Option, Some, None, option_and_then, unwrap_or, slice_get, if◌then◌else◌}
+use Rattle.std.specs.Prelude.{◌≡◌, ℕ, ◌==◌, min, false, List, Option, Some, None, option_and_then, unwrap_or, slice_get, if◌then◌else◌}
 use Rattle.claim_queue.specs.Dues.{Dues as RowDues}
 use Rattle.run_states.specs.Rows.{Row, is_resolved, claim_due}
 use Rattle.farm_rows.specs.declared.dues.Dues.{Dues}

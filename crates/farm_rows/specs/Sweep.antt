@@ -1,10 +1,8 @@
--- What a tick leaves of each task, and what the tables keep besides their contents. The contracts of private functions alone speak of these.
-use Rattle.std.specs.Prelude.{◌≡◌, ℕ, ◌+◌, ◌≤◌, true, min, Bool, false, not, ◌&&◌, nat_le, nat_lt, List, length, Option, filter, sum_by, if◌then◌else◌}
-use Rattle.std.specs.Option.{option_map_or, option_to_list}
-use Rattle.std.specs.List.{reduce, flat_map, list_any, list_all}
+-- The turns of a tick, and what the tables keep besides their contents. The contracts of private functions alone speak of these.
+use Rattle.std.specs.Prelude.{◌≡◌, ℕ, ◌+◌, ◌≤◌, true, Bool, false, ◌&&◌, nat_le, List, length, sum_by}
+use Rattle.std.specs.List.{list_any, list_all}
 use Rattle.farm_text.specs.declared.moment.TheConstants.{LAST_TOLD_MOMENT}
-use Rattle.run_states.specs.Rows.{Row, is_resolved, exceeded, claim_due}
-use Rattle.run_states.specs.Moves.{expired}
+use Rattle.run_states.specs.Rows.{Row}
 use Rattle.farm_rows.specs.Contents.{Contents, HaveOwnIds}
 use Rattle.farm_rows.specs.Ready.{is_ready}
 use Rattle.farm_rows.specs.Due.{all_due_moments, turns}

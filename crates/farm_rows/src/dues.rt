@@ -1,5 +1,5 @@
 //! When each task falls due, by its place: at its deadline, while it is not resolved, and at the end of its claim, while it has one.
-ghost use Rattle.std.specs.Prelude.{◌≡◌, ℕ, ◌≤◌, ◌<◌, List, [], Some, None, true, filter, min, nat_le, slice_get, option_map, IfSome, if◌then◌else◌};
+ghost use Rattle.std.specs.Prelude.{◌≡◌, ℕ, ◌≤◌, ◌<◌, List, [], Some, None, true, filter, min, nat_le, slice_get, option_map, IfSome};
 ghost use Rattle.std.specs.List.{position, reduce};
 ghost use Rattle.run_states.specs.Rows.{Row, loses_claim};
 ghost use Rattle.claim_queue.specs.Dues.{first_due_of};
@@ -228,12 +228,7 @@ fn move_held<L: Ledger>(
 }
 
 /// Holds a row that is not held, where there is a moment. Answers whether there was room for it.
-fn add<L: Ledger>(
-    dues: &mut DueRows,
-    row: u32,
-    at: Option<Moment>,
-    steps: &mut Steps<L>,
-) -> bool
+fn add<L: Ledger>(dues: &mut DueRows, row: u32, at: Option<Moment>, steps: &mut Steps<L>) -> bool
     requires { slice_get dues.old.rows row ≡ Some None }
     ensures { result ≡ true → IsHeldAt row at dues.old dues.new }
 {

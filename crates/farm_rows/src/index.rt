@@ -133,7 +133,7 @@ impl Index {
         }
     }
 
-    /// Makes room for a task that is to be created behind these. Where memory is wanting, all stays as it was.
+    /// Makes room for a task that is to be created behind these. All that is kept stays right, also where memory is wanting.
     pub(crate) fn note(
         &mut self,
         alloc: Global,
@@ -152,7 +152,7 @@ impl Index {
         reserve(&mut self.dues, place)
     }
 
-    /// A task comes behind these. What its place was not noted for is given up. It takes no memory.
+    /// A task comes behind these. What has no room for it is given up. It takes no memory.
     pub(crate) fn added(&mut self, rows: &[TaskRow], row: &TaskRow)
         requires { IsIndexOf self.old rows.now }
         ensures { IsIndexOf self.new (rows.now ++ row.now ∷ []) }
@@ -164,7 +164,7 @@ impl Index {
         keep_dues(&mut self.dues, place, row);
     }
 
-    /// The task at a place changed in its state, and the index with it. It takes no memory.
+    /// Brings the index up to date for the task at a place, which changed in its state. It takes no memory.
     pub(crate) fn changed(&mut self, rows: &[TaskRow], place: usize)
         requires within { place < length rows.now }
         requires index { IsIndexBut place self.old rows.now }

@@ -13,13 +13,7 @@ use farm_text::{Moment, SlugId};
 use run_states::{Claim as RunClaim, ReasonResolved, TaskRow};
 
 /// The task becomes pending, where it is unscheduled.
-pub(crate) fn schedule(
-    rows: &mut [TaskRow],
-    index: &mut Index,
-    id: SlugId,
-    at: Moment,
-    number: u64,
-)
+pub(crate) fn schedule(rows: &mut [TaskRow], index: &mut Index, id: SlugId, at: Moment, number: u64)
     requires { IsIndexOf index.old rows.old }
     ensures index { IsIndexOf index.new rows.new }
     ensures rows { rows.new ≡ change_row id (scheduled number at) rows.old }
@@ -32,13 +26,7 @@ pub(crate) fn schedule(
 }
 
 /// The task is run again, where it may be.
-pub(crate) fn rerun(
-    rows: &mut [TaskRow],
-    index: &mut Index,
-    id: SlugId,
-    at: Moment,
-    number: u64,
-)
+pub(crate) fn rerun(rows: &mut [TaskRow], index: &mut Index, id: SlugId, at: Moment, number: u64)
     requires { IsIndexOf index.old rows.old }
     ensures index { IsIndexOf index.new rows.new }
     ensures rows { rows.new ≡ change_row id (run_again number at) rows.old }

@@ -45,6 +45,7 @@ pub struct TaskTables {
     rows: Vec<TaskRow>,
     last: Moment,
     next: u64,
+    /// What is kept beside the tasks.
     index: Index,
 }
 
@@ -303,14 +304,7 @@ impl TaskTables {
         requires lawful { may_apply self.old (change_of at deed.now) ≡ true }
         ensures { self.new ≡ applied self.old (change_of at deed.now) }
     {
-        let drawn = change(
-            &mut self.rows,
-            &mut self.index,
-            at,
-            self.next,
-            deed,
-            claims,
-        );
+        let drawn = change(&mut self.rows, &mut self.index, at, self.next, deed, claims);
         self.next += drawn;
         self.last = at;
     }

@@ -1,4 +1,4 @@
-use Rattle.std.proofs.Common.{◌≡◌, None, List, ap, ◌∙◌, subst}
+use Rattle.std.proofs.Common.{List, ap, ◌∙◌, subst}
 use Rattle.run_states.specs.Rows.{Row}
 use Rattle.farm_rows.specs.Contents.{Contents, row_with}
 use Rattle.farm_rows.specs.Indexed.{IsIndexOf}
