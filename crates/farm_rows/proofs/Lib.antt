@@ -29,6 +29,7 @@ pub mod PageLemmas
 pub mod ListLemmas
 pub mod ServedLemmas
 pub mod SummaryLemmas
+pub mod GraphCrossing
 pub mod CrossingLemmas
 pub mod DependencyLemmas
 pub mod FirstReadyLemmas
