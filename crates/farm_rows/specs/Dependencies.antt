@@ -56,7 +56,7 @@ pub record AreDependencies (tasks : List Task) (rows : List Row) : Type 0 where
   pub all : tasks ≡ tasks_from (ids_of rows) 0 rows
   pub stand : list_all (depends_on_these (ids_of rows)) rows ≡ true
 
--- the same, once the task at a place has come as far as it has
+-- the same, once the graph is told how far the task at a place has come
 abbrev pub AreDependenciesBut : ℕ → List Task → List Row → Type 0
 AreDependenciesBut place tasks rows =
     ForSome (slice_get rows place) (λ row. AreDependencies (moved place (progress_of row) tasks) rows)
@@ -66,7 +66,7 @@ abbrev pub MayBeDependencies : Option TaskGraph → List Row → Type 0
 MayBeDependencies None rows = Unit {0}
 MayBeDependencies (Some graph) rows = AreDependencies graph.tasks rows
 
--- and once the task at a place has come as far as it has
+-- and once the graph is told how far the task at a place has come
 abbrev pub MayBeDependenciesBut : ℕ → Option TaskGraph → List Row → Type 0
 MayBeDependenciesBut place None rows = Unit {0}
 MayBeDependenciesBut place (Some graph) rows = AreDependenciesBut place graph.tasks rows

@@ -92,7 +92,7 @@ impl DependencyGraph {
         true
     }
 
-    /// Makes the task at a place come as far as it has.
+    /// Tells the graph how far the task at a place has come.
     pub(crate) fn changed(&mut self, rows: &[TaskRow], place: usize)
         requires within { place < length rows.now }
         requires fits { place < 2 ^ 32 }

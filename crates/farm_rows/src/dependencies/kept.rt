@@ -60,7 +60,7 @@ pub(crate) fn keep_added(
     }
 }
 
-/// Makes the task at a place come as far as it has.
+/// Tells the graph how far the task at a place has come.
 pub(crate) fn keep_changed(graph: &mut Option<DependencyGraph>, rows: &[TaskRow], place: usize)
     requires within { place < length rows.now }
     requires others { MayBeDependenciesBut place graph.old rows.now }
