@@ -8,11 +8,9 @@ use Rattle.std.proofs.lemmas.List.Folds.{find_at}
 use Rattle.task_defs.specs.declared.choices.Requires.{Requires}
 use Rattle.task_defs.specs.declared.choices.Requires.TheVariants.{AllCompleted, AllResolved}
 use Rattle.task_defs.specs.declared.task_def.TaskDef.{TaskDef}
-use Rattle.run_states.specs.Runs.{change_at}
 use Rattle.run_states.specs.Rows.{Row, is_unscheduled}
 use Rattle.run_states.specs.Serving.{serves}
-use Rattle.run_states.specs.Later.{RowLater, RowsLater}
-use Rattle.run_states.proofs.LaterLemmas.{RowLater-refl, RowsLater-refl}
+use Rattle.run_states.specs.Later.{RowsLater}
 use Rattle.dep_graph.specs.declared.node.Progress.{Progress}
 use Rattle.dep_graph.specs.Nodes.{Task, TaskGraph, rows_of, is_in, moved}
 use Rattle.dep_graph.specs.Ready.{row_serves, ready_row}

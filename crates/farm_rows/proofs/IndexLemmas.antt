@@ -1,11 +1,10 @@
 -- What is kept beside tasks, where one of them changes or comes.
-use Rattle.std.proofs.Common.{◌≡◌, ◌≢◌, ℕ, zero, suc, ◌<◌, Bool, false, ◌||◌, List, [], ◌∷◌, ◌++◌, length, Option, Some, slice_get, slice_set, get_or, refl, ap, sym, ◌∙◌, subst, arith}
-use Rattle.std.specs.List.{list_any, position}
+use Rattle.std.proofs.Common.{◌≡◌, ◌≢◌, ℕ, zero, suc, ◌<◌, Bool, List, [], ◌∷◌, ◌++◌, length, Option, Some, slice_get, slice_set, get_or, refl, ap, sym, ◌∙◌, subst, arith}
+use Rattle.std.specs.List.{position}
 use Rattle.std.proofs.lemmas.Bool.{eqb-false}
 use Rattle.std.proofs.lemmas.List.{length-set}
-use Rattle.std.proofs.lemmas.List.Folds.{list_any-append}
 use Rattle.claim_queue.proofs.TableLemmas.{get-set-other}
-use Rattle.run_states.specs.Rows.{Row, is_unscheduled}
+use Rattle.run_states.specs.Rows.{Row}
 use Rattle.run_states.specs.Later.{RowLater, RowsLater}
 use Rattle.run_states.proofs.LaterLemmas.{RowLater-refl, RowsLater-refl}
 use Rattle.dep_graph.specs.Nodes.{TaskGraph}
