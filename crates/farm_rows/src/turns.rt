@@ -4,8 +4,7 @@ ghost use Rattle.std.specs.List.{list_any, list_all};
 ghost use Rattle.run_states.specs.declared.reasons.ReasonResolved.TheVariants.{ClaimExpired};
 ghost use Rattle.run_states.specs.Rows.{loses_claim, exceeded};
 ghost use Rattle.run_states.specs.Moves.{expired};
-ghost use Rattle.farm_rows.specs.Ready.{is_ready, settled};
-ghost use Rattle.farm_rows.specs.Contents.{HaveOwnIds};
+ghost use Rattle.farm_rows.specs.Ready.{settled};
 ghost use Rattle.farm_rows.specs.Due.{meets_deadline, change_first, draws, resolved_at};
 ghost use Rattle.farm_rows.specs.Sweep.{numbered, all_turns, runs_made, fits};
 ghost use Rattle.farm_rows.specs.Indexed.{IsIndexOf};
@@ -31,8 +30,6 @@ pub(crate) fn resolve_due(
     ensures turns { all_turns (numbered rows.old first) moment ≡ numbered rows.new result }
     ensures fit { list_all fits rows.new ≡ true }
     ensures drawn { result ≤ runs_made rows.new }
-    ensures own { HaveOwnIds rows.old → HaveOwnIds rows.new }
-    ensures none { list_any (is_ready rows.old) rows.old ≡ false → list_any (is_ready rows.new) rows.new ≡ false }
 {
     let mut next = first;
     'turns: while let Some(at) = index.first_due(rows, moment) {

@@ -4,7 +4,6 @@ use Rattle.farm_rows.specs.Contents.{Contents}
 use Rattle.farm_rows.specs.Due.{all_due_moments, resolved_at}
 use Rattle.farm_rows.specs.Sweep.{numbered, all_turns, runs_made, fits}
 use Rattle.farm_rows.proofs.FitLemmas.{made-few}
-use Rattle.farm_rows.proofs.SharedLemmas.{all-own, all-unready}
 use Rattle.farm_rows.proofs.StepLemmas.{settled-fits, settled-made, resolved-fits, resolved-made}
 use Rattle.farm_rows.proofs.TurnLemmas.{turn-fewer, all-step, all-idle}
 use Rattle.farm_rows.proofs.turns.resolve_due.Goals as goal
@@ -49,13 +48,3 @@ turns-preserved c =
 
 pub returns-clause-turns : goal.returns-clause-turns
 returns-clause-turns c = sym c.turns.invariant.turns ∙ all-idle (numbered c.turns.rows c.turns.next) c.args.moment (sym c.in_default.ensures)
-
-pub returns-clause-own : goal.returns-clause-own
-returns-clause-own c =
-    let turns = sym c.turns.invariant.turns ∙ all-idle (numbered c.turns.rows c.turns.next) c.args.moment (sym c.in_default.ensures) in
-    λ own. all-own (numbered c.args.rows.now c.args.first) (numbered c.turns.rows c.turns.next) c.args.moment turns own
-
-pub returns-clause-none : goal.returns-clause-none
-returns-clause-none c =
-    let turns = sym c.turns.invariant.turns ∙ all-idle (numbered c.turns.rows c.turns.next) c.args.moment (sym c.in_default.ensures) in
-    λ none. all-unready (numbered c.args.rows.now c.args.first) (numbered c.turns.rows c.turns.next) c.args.moment turns none

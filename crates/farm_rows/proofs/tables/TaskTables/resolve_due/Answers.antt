@@ -1,11 +1,14 @@
 use Rattle.std.proofs.Common.{◌≡◌, false, List, length, ap, sym, subst, ◌∙◌, rules, arith}
+use Rattle.std.specs.List.{list_any}
 use Rattle.std.proofs.lemmas.Grind.{common_steps}
 use Rattle.std.proofs.lemmas.List.{with_items_is}
 use Rattle.run_states.specs.Rows.{Row}
-use Rattle.farm_rows.specs.Contents.{Contents}
+use Rattle.farm_rows.specs.Contents.{Contents, HaveOwnIds}
+use Rattle.farm_rows.specs.Ready.{is_ready}
 use Rattle.farm_rows.specs.Due.{is_due}
 use Rattle.farm_rows.specs.Sweep.{numbered, all_turns}
 use Rattle.farm_rows.specs.Indexed.{IsIndexOf}
+use Rattle.farm_rows.proofs.SharedLemmas.{all-own, all-unready}
 use Rattle.farm_rows.proofs.TableLemmas.{turns-idle, turns-numbered}
 use Rattle.farm_rows.proofs.tables.TaskTables.resolve_due.Goals as goal
 
@@ -30,7 +33,13 @@ pub invariant_of-self : goal.invariant_of-self
 invariant_of-self c =
     let rows = c.self.inside.rows in
     let new = c.resolve_due-self-inside.new.rows in
+    let before : Contents = numbered rows.items c.self.inside.next in
+    let after : Contents = numbered new c.resolve_due-self-inside.result in
     let len : length new ≡ rows.len = search (rules, arith) in
+    let turns : all_turns before c.args.moment ≡ after =
+    ap (λ (rs : List Row). all_turns (numbered rs c.self.inside.next) c.args.moment) (sym c.deref_mut.ensures.value) ∙ c.resolve_due-self-inside.ensures.turns in
+    let own : HaveOwnIds new = all-own before after c.args.moment turns c.self.invariant.kept.own in
+    let none : list_any (is_ready new) new ≡ false = all-unready before after c.args.moment turns c.self.invariant.kept.none in
     record {
       kept = first_of (search rules, grind (arith, common_steps));
       indexed = subst (λ (rs : List Row). IsIndexOf c.resolve_due-self-inside.new.index rs) (sym (with_items_is rows new len)) c.resolve_due-self-inside.ensures.index;
