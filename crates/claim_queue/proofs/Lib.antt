@@ -16,3 +16,5 @@ pub mod DueMoves
 pub mod WaitMoves
 pub mod DueRoom
 pub mod WaitRoom
+pub mod BehindLemmas
+pub mod WalkLemmas

@@ -5,8 +5,10 @@
 //! first stand at the top, and to add, move or remove a row takes few steps, which `Steps` counts without cost.
 #![tactic(auto)]
 
+mod behind;
 mod due_rows;
 mod entries;
+mod firsts;
 mod heap;
 mod heap_edits;
 mod laws;
@@ -18,6 +20,7 @@ mod turns;
 
 pub use due_rows::{Deadlines, DueRows, Leases};
 pub use entries::rank;
+pub use firsts::Firsts;
 pub use laws::{the_best_is_one, the_first_due_is_one};
 pub use pending::Pending;
 pub use steps::Steps;
