@@ -7,7 +7,7 @@ use Rattle.claim_queue.proofs.HeapLemmas.{same?, one_way, chain, follows-too, fo
 
 -- ---- what is below a place
 
-under-ge : (levels top place : ℕ) → IsUnder levels top place → top ≤ place
+pub under-ge : (levels top place : ℕ) → IsUnder levels top place → top ≤ place
 under-ge zero top place under = omega arith
 under-ge (suc levels) top place under =
     let more = under-ge levels under.0 place under.2 in

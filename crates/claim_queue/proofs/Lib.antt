@@ -17,4 +17,5 @@ pub mod WaitMoves
 pub mod DueRoom
 pub mod WaitRoom
 pub mod BehindLemmas
+pub mod GivenLemmas
 pub mod WalkLemmas

@@ -1,19 +1,21 @@
 -- A walk over the rows of a queue: what is left of them, and which is the next.
-use Rattle.std.proofs.Common.{◌≡◌, ◌≢◌, ℕ, zero, suc, ◌+◌, ◌<◌, ◌≤◌, ◌⊎◌, inl, inr, Bool, true, false, not, ◌&&◌, List, [], ◌∷◌, Option, Some, None, IfSome, IfNone, option_map, refl, sym, ap, ◌∙◌, subst, length, slice_get, slice_set, slice_index_or, if◌then◌else◌, Vec, arith}
+use Rattle.std.proofs.Common.{◌≡◌, ◌≢◌, ℕ, zero, suc, ◌+◌, ◌*◌, ◌-◌, ◌<◌, ◌≤◌, ◌⊎◌, inl, inr, Bool, true, false, not, ◌&&◌, List, [], ◌∷◌, Option, Some, None, IfSome, IfNone, option_map, refl, sym, ap, ◌∙◌, subst, length, slice_get, slice_set, slice_index, slice_index_or, if◌then◌else◌, Vec, arith}
 use Rattle.std.specs.Global.{Global}
 use Rattle.std.specs.Str.{bytes_eq}
 use Rattle.std.proofs.lemmas.Bool.Decides.{nat_tests}
 use Rattle.claim_queue.specs.declared.entries.Entry.{Entry}
 use Rattle.claim_queue.specs.declared.queues.Queue.{Queue}
 use Rattle.claim_queue.specs.declared.turns.Turn.{Turn}
-use Rattle.claim_queue.specs.Waits.{Waiting, Waits, rank, goes_before, best_of}
-use Rattle.claim_queue.specs.Walks.{Walk, without}
+use Rattle.claim_queue.specs.Waits.{Waiting, Waits, rank, goes_before, waits_in, best_of}
+use Rattle.claim_queue.specs.Walks.{Walk, without, given_of}
 use Rattle.claim_queue.specs.Firsts.{IsHeld, IsBest}
 use Rattle.claim_queue.specs.Places.{name_at, told, told_rows, ArePlaced}
 use Rattle.claim_queue.specs.Heaps.{turn_at, comes_before, IsOrdered, IsIn}
-use Rattle.claim_queue.specs.WaitHeaps.{heap_at, AreQueued, HaveHeaps}
-use Rattle.claim_queue.specs.Behind.{is_behind, IsNoSooner, IsFirstUnder, waiting_turn, IsTurnBehind, IsNextTurn, IsPlaceOf, was_given, left_row, left_from, left_of}
+use Rattle.claim_queue.specs.WaitHeaps.{entry_turn, heap_at, AreQueued, HaveHeaps}
+use Rattle.claim_queue.specs.Behind.{is_behind, IsNoSooner, IsAmong, AreGivenUnder, IsFirstUnder, waiting_turn, IsTurnBehind, IsNextTurn, IsPlaceOf, was_given, left_row, left_from, left_of, given_in}
+use Rattle.claim_queue.specs.Counts.{AreAtMost}
 use Rattle.claim_queue.proofs.BehindLemmas.{under-top}
+use Rattle.claim_queue.proofs.GivenLemmas.{fewer-by}
 use Rattle.claim_queue.proofs.HeldLemmas.{within-held}
 use Rattle.claim_queue.proofs.HeapLemmas.{same?, one_way, chain}
 use Rattle.claim_queue.proofs.LeastLemmas.{best-is, best-one}
@@ -213,7 +215,11 @@ next-left name last waits turn is = ap (λ (l : List (Option Waiting)). let w : 
 
 -- ---- what a walk leaves, by its own fields
 
-module _ (walk : Walk) (name : List ℕ) (last : Option Turn) (waits : Waits) (seen : (let w : Walk = record { name = name; left = left_of name last waits } in w) ≡ walk) where
+-- what is seen of a walk
+abbrev pub walk_of : List ℕ → Option Turn → Waits → Walk
+walk_of name last waits = record { name = name; all = waits; left = left_of name last waits }
+
+module _ (walk : Walk) (name : List ℕ) (last : Option Turn) (waits : Waits) (seen : walk_of name last waits ≡ walk) where
   pub walk-best : (place : ℕ) (next : Option Turn) → name_at place waits.queues ≡ name → IsNextTurn (name_at place waits.queues) waits.rows last next → option_map (λ (t : Turn). t.row) next ≡ best_of walk.name walk.left
   walk-best place next named is =
       next-best name last waits next (subst (λ (n : List ℕ). IsNextTurn n waits.rows last next) named is) ∙ ap (λ (w : Walk). best_of w.name w.left) seen
@@ -228,10 +234,14 @@ module _ (walk : Walk) (name : List ℕ) (last : Option Turn) (waits : Waits) (s
       next-best name last waits None is ∙ ap (λ (w : Walk). best_of w.name w.left) seen
 
   pub walk-left : (place : ℕ) (turn : Turn) → name_at place waits.queues ≡ name → IsNextTurn (name_at place waits.queues) waits.rows last (Some turn)
-      → (let w : Walk = record { name = name; left = left_of name (Some turn) waits } in w) ≡ record { name = walk.name; left = without (Some turn.row) walk.left }
+      → walk_of name (Some turn) waits ≡ record walk { left = without (Some turn.row) walk.left }
   walk-left place turn named is =
       let left : left_of name (Some turn) waits ≡ without (Some turn.row) (left_of name last waits) = next-left name last waits turn (subst (λ (n : List ℕ). IsNextTurn n waits.rows last (Some turn)) named is) in
-      ap (λ (l : Waits). let w : Walk = record { name = name; left = l } in w) left ∙ ap (λ (v : Walk). let w : Walk = record { name = v.name; left = without (Some turn.row) v.left } in w) seen
+      ap (λ (l : Waits). let w : Walk = record { name = name; all = waits; left = l } in w) left ∙ ap (λ (v : Walk). let w : Walk = record v { left = without (Some turn.row) v.left } in w) seen
+
+  pub walk-few : (place old new : ℕ) → name_at place waits.queues ≡ name → AreAtMost (3 * given_in (name_at place waits.queues) last waits + 1) old new → AreAtMost (3 * given_of walk + 1) old new
+  walk-few place old new named few =
+      subst (λ (w : Walk). AreAtMost (3 * given_of w + 1) old new) seen (subst (λ (n : List ℕ). AreAtMost (3 * given_in n last waits + 1) old new) named few)
 
 -- ---- the next turn stands in the heap of the queue
 
@@ -271,6 +281,64 @@ module _ (queues : List Queue) (rows : List (Option Entry)) (heaps : List (Vec T
       let is : heap_at place heaps ≡ v.items = (heap-here heaps place v v in_heaps here).0 in
       let next_ = next-in-heap last first (subst (λ (h : List Turn). IsFirstUnder 0 h last first) (sym is) f) in
       subst (λ (k : List Queue). IsNextTurn (name_at place k) waits.rows last first) same (subst (λ (r : List (Option Waiting)). IsNextTurn (name_at place queues) r last first) told_ next_)
+
+  -- ---- the rows that were given stand at the places that the look passes
+
+  given-few : (last : Option Turn) (given : List ℕ) → AreGivenUnder 0 (heap_at place heaps) last given → length given ≤ given_in (name_at place queues) last (record { queues = queues; rows = told_rows queues rows })
+  given-few last given g =
+      let most = fewer-by (name_at place queues) after row given (told_rows queues rows) g.apart own was gone still in
+      omega arith
+    where
+      after : List (Option Waiting)
+      after = left_from (name_at place queues) last 0 (told_rows queues rows)
+
+      row : ℕ → ℕ
+      row = λ k. (turn_at (heap_at place heaps) k).row
+
+      entry : (k : ℕ) → IsAmong k given → (e : Entry) × IsHeld rows (turn_at (heap_at place heaps) k).row e × (e.queue ≡ place) × (turn_at (heap_at place heaps) k ≡ entry_turn e (turn_at (heap_at place heaps) k).row)
+      entry k among = queued.told place (turn_at (heap_at place heaps) k) (k, (g.each k among).2, refl)
+
+      here : (k : ℕ) (among : IsAmong k given) → bytes_eq (name_at (entry k among).0.queue queues) (name_at place queues) ≡ true
+      here k among = name-same (name_at (entry k among).0.queue queues) (name_at place queues) (ap (λ n. name_at n queues) (entry k among).2)
+
+      own : (one other : ℕ) → IsAmong one given → IsAmong other given → (turn_at (heap_at place heaps) one).row ≡ (turn_at (heap_at place heaps) other).row → one ≡ other
+      own one other in_one in_other same =
+          let p = (queued.kept place).1 one (g.each one in_one).2 in
+          let q = (queued.kept place).1 other (g.each other in_other).2 in
+          sym p.1 ∙ (ap (slice_index places) same ∙ q.1)
+
+      was : (k : ℕ) → IsAmong k given → (x : Option Waiting) × (slice_get (told_rows queues rows) (turn_at (heap_at place heaps) k).row ≡ Some x) × (waits_in (name_at place queues) x ≡ true)
+      was k among = let e = entry k among in (Some (told queues e.0), held-told queues rows (turn_at (heap_at place heaps) k).row e.0 e.1, here k among)
+
+      gone : (k : ℕ) → IsAmong k given → (x : Option Waiting) → slice_get (left_from (name_at place queues) last 0 (told_rows queues rows)) (turn_at (heap_at place heaps) k).row ≡ Some x → waits_in (name_at place queues) x ≡ false
+      gone k among x is =
+          let e = entry k among in
+          let at = (turn_at (heap_at place heaps) k).row in
+          let not_behind : is_behind last (waiting_turn (told queues e.0) at) ≡ false = subst (λ (t : Turn). is_behind last t ≡ false) e.3 (g.each k among).3 in
+          let was_ : was_given (name_at place queues) last at (told queues e.0) ≡ true =
+          row-goes (is_behind last (waiting_turn (told queues e.0) at)) (bytes_eq (name_at e.0.queue queues) (name_at place queues)) not_behind (here k among) in
+          let none : left_row (name_at place queues) last at (Some (told queues e.0)) ≡ None = rw was_ refl in
+          let read : slice_get (left_from (name_at place queues) last 0 (told_rows queues rows)) at ≡ Some None =
+          left-at (name_at place queues) last (told_rows queues rows) at
+          ∙ (ap (option_map (left_row (name_at place queues) last at)) (held-told queues rows at e.0 e.1) ∙ ap (λ (o : Option Waiting). Some o) none) in
+          let both : Some x ≡ Some None = sym is ∙ read in
+          let same : x ≡ None = cc in
+          ap (waits_in (name_at place queues)) same
+
+      still : (k : ℕ) (x : Option Waiting) → slice_get (left_from (name_at place queues) last 0 (told_rows queues rows)) k ≡ Some x → waits_in (name_at place queues) x ≡ true
+          → (y : Option Waiting) × (slice_get (told_rows queues rows) k ≡ Some y) × (waits_in (name_at place queues) y ≡ true)
+      still k None is waits = absurd (cc)
+      still k (Some waiting) is waits = (Some waiting, (left-held (name_at place queues) last (told_rows queues rows) k waiting is).0, waits)
+
+  pub next-few : (waits : Waits) (v : Vec Turn Global) (last : Option Turn) (given : List ℕ) (old new : ℕ) → queues ≡ waits.queues → told_rows queues rows ≡ waits.rows → v ≡ slice_index_or heaps place v → AreGivenUnder 0 v.items last given
+      → AreAtMost (3 * length given + 1) old new → AreAtMost (3 * given_in (name_at place waits.queues) last waits + 1) old new
+  next-few waits v last given old new same told_ here g few =
+      let in_heaps : place < length heaps = let e = have.long in omega arith in
+      let is : heap_at place heaps ≡ v.items = (heap-here heaps place v v in_heaps here).0 in
+      let most = given-few last given (subst (λ (h : List Turn). AreGivenUnder 0 h last given) (sym is) g) in
+      let fits : AreAtMost (3 * given_in (name_at place queues) last (record { queues = queues; rows = told_rows queues rows }) + 1) old new = (few.0, (let le = few.1 in omega arith)) in
+      subst (λ (k : List Queue). AreAtMost (3 * given_in (name_at place k) last waits + 1) old new) same
+      (subst (λ (r : List (Option Waiting)). AreAtMost (3 * given_in (name_at place queues) last (record { queues = waits.queues; rows = r }) + 1) old new) told_ fits)
 
 -- ---- where the queue stands
 

@@ -1,8 +1,8 @@
 -- Which turn comes next behind another. The contracts of private functions alone speak of these.
-use Rattle.std.specs.Prelude.{◌≡◌, ℕ, zero, suc, ◌+◌, ◌<◌, Bool, true, false, not, ◌&&◌, List, [], ◌∷◌, length, Option, Some, None, IfSome, if◌then◌else◌}
+use Rattle.std.specs.Prelude.{◌≡◌, ℕ, zero, suc, ◌+◌, ◌<◌, ◌-◌, ◌⊎◌, Bool, true, false, not, ◌&&◌, List, [], ◌∷◌, length, Option, Some, None, IfSome, if◌then◌else◌}
 use Rattle.std.specs.Str.{bytes_eq}
 use Rattle.claim_queue.specs.declared.turns.Turn.{Turn}
-use Rattle.claim_queue.specs.Waits.{Waiting, Waits, rank}
+use Rattle.claim_queue.specs.Waits.{Waiting, Waits, rank, count_in}
 use Rattle.claim_queue.specs.Places.{name_at}
 use Rattle.claim_queue.specs.Firsts.{IsHeld, IsBest}
 use Rattle.claim_queue.specs.Heaps.{turn_at, comes_before, IsBelow, IsIn}
@@ -27,6 +27,21 @@ IsNoSooner turn (Some first) = comes_before turn first ≡ false
 abbrev pub IsUnder : ℕ → ℕ → ℕ → Type 0
 IsUnder zero top place = place ≡ top
 IsUnder (suc levels) top place = (child : ℕ) × IsBelow top child × IsUnder levels child place
+
+-- a place is one of these
+abbrev pub IsAmong : ℕ → List ℕ → Type 0
+IsAmong place [] = ⊥
+IsAmong place (one ∷ places) = (place ≡ one) ⊎ IsAmong place places
+
+-- no place stands there twice
+abbrev pub AreApart : List ℕ → Type 0
+AreApart [] = Unit {0}
+AreApart (one ∷ places) = (IsAmong one places → ⊥) × AreApart places
+
+-- places at or below another, each once, whose turns do not come behind one
+pub record AreGivenUnder (top : ℕ) (heap : List Turn) (last : Option Turn) (places : List ℕ) : Type 0 where
+  pub each : (place : ℕ) → IsAmong place places → (levels : ℕ) × IsUnder levels top place × (place < length heap) × (is_behind last (turn_at heap place) ≡ false)
+  pub apart : AreApart places
 
 -- the first turn at or below a place, of those behind another
 pub record IsFirstUnder (top : ℕ) (heap : List Turn) (last first : Option Turn) : Type 0 where
@@ -73,3 +88,7 @@ left_from name last row (waits ∷ rows) = left_row name last row waits ∷ left
 -- what waits without the rows that were given
 abbrev pub left_of : List ℕ → Option Turn → Waits → Waits
 left_of name last waits = record { queues = waits.queues; rows = left_from name last 0 waits.rows }
+
+-- how many rows of the queue were given in a walk up to a turn
+abbrev pub given_in : List ℕ → Option Turn → Waits → ℕ
+given_in name last waits = count_in name waits - count_in name (left_of name last waits)

@@ -1,43 +1,59 @@
 //! Which turn of a heap comes next behind another: a look that changes nothing.
-ghost use Rattle.std.specs.Prelude.{◌≡◌};
+ghost use Rattle.std.specs.Prelude.{◌≡◌, ℕ, ◌+◌, ◌*◌, List, length};
 ghost use Rattle.claim_queue.specs.Heaps.{IsOrdered};
-ghost use Rattle.claim_queue.specs.Behind.{is_behind, sooner, IsFirstUnder};
+ghost use Rattle.claim_queue.specs.Behind.{is_behind, sooner, IsFirstUnder, AreGivenUnder};
+ghost use Rattle.claim_queue.specs.Counts.{AreAtMost};
 
-use crate::turns::{Turn, is_before};
+use crate::steps::Steps;
+use crate::turns::{Turn, comes_before};
+use std::sync::ledger::Ledger;
 
-/// The first turn at or below a place, of those behind another. It looks below no turn that comes behind the other.
-pub(crate) fn first_under(heap: &[Turn], place: usize, last: Option<Turn>) -> Option<Turn>
+/// The first turn at or below a place, of those behind another. It looks below none that comes behind the other: at most three steps for
+/// each that does not, and one more.
+pub(crate) fn first_under<L: Ledger>(
+    heap: &[Turn],
+    place: usize,
+    last: Option<Turn>,
+    steps: &mut Steps<L>,
+) -> Option<Turn>
     requires { IsOrdered heap.now }
-    ensures { IsFirstUnder place heap.now last result }
+    ensures first { IsFirstUnder place heap.now last result }
+    ensures steps { (given : List ℕ) × AreGivenUnder place heap.now last given × AreAtMost (3 * length given + 1) steps.old steps.new }
 {
     if place >= heap.len() {
         return None;
     }
     let turn = heap[place];
-    if is_behind(last, turn) {
+    if is_behind(last, turn, steps) {
         return Some(turn);
     }
-    let left = first_under(heap, 2 * place + 1, last);
-    let right = first_under(heap, 2 * place + 2, last);
-    sooner(left, right)
+    let left = first_under(heap, 2 * place + 1, last, steps);
+    let right = first_under(heap, 2 * place + 2, last, steps);
+    sooner(left, right, steps)
 }
 
-/// Whether a turn comes behind another, if one is given.
-fn is_behind(last: Option<Turn>, turn: Turn) -> bool
-    ensures { result ≡ is_behind last turn }
+/// Whether a turn comes behind another, if one is given. At most one step.
+fn is_behind<L: Ledger>(last: Option<Turn>, turn: Turn, steps: &mut Steps<L>) -> bool
+    ensures behind { result ≡ is_behind last turn }
+    ensures steps { AreAtMost 1 steps.old steps.new }
 {
     match last {
-        Some(last) => is_before(last, turn),
+        Some(last) => comes_before(last, turn, steps),
         None => true,
     }
 }
 
-/// Of two turns the one that comes before the other, if there are two.
-fn sooner(one: Option<Turn>, other: Option<Turn>) -> Option<Turn>
-    ensures { result ≡ sooner one other }
+/// Of two turns the one that comes before the other, if there are two. At most one step.
+fn sooner<L: Ledger>(
+    one: Option<Turn>,
+    other: Option<Turn>,
+    steps: &mut Steps<L>,
+) -> Option<Turn>
+    ensures sooner { result ≡ sooner one other }
+    ensures steps { AreAtMost 1 steps.old steps.new }
 {
     match (one, other) {
-        (Some(first), Some(second)) if is_before(second, first) => other,
+        (Some(first), Some(second)) if comes_before(second, first, steps) => other,
         (Some(_), _) => one,
         (None, _) => other,
     }

@@ -198,18 +198,18 @@ fn walk_ten<L: Ledger>(rt: &impl Abort, alloc: Global, blank: Blank) -> Result<(
     let other = Text::from_str(alloc, "prov/other")?;
     let mut pending = Pending::new(alloc);
     assert!(rt; pending.count(&queue) == 0);
-    assert!(rt; pending.firsts(&queue).next() == None);
+    assert!(rt; pending.firsts(&queue).next(steps) == None);
     pending.reserve(&queue, 10, 11)?;
     pending.reserve(&other, 1, 11)?;
     assert!(rt; fill_ten(&mut pending, &queue, &other, steps));
     let mut firsts = pending.firsts(&queue);
     for row in [4, 1, 7, 6, 8, 3, 9, 0, 2, 5] {
-        assert!(rt; firsts.next() == Some(row));
+        assert!(rt; firsts.next(steps) == Some(row));
     }
-    assert!(rt; firsts.next() == None);
+    assert!(rt; firsts.next(steps) == None);
     assert!(rt; pending.count(&queue) == 10);
     assert!(rt; pending.best(&queue, steps) == Some(4));
-    assert!(rt; pending.firsts(&other).next() == Some(10));
+    assert!(rt; pending.firsts(&other).next(steps) == Some(10));
     Ok(())
 }
 

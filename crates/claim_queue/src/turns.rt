@@ -15,19 +15,12 @@ pub(crate) struct Turn {
 }
 
 /// Whether one turn comes before another. It is one step.
+#[tactic(auto, unfolding(crate::specs::Heaps::comes_before))]
 pub(crate) fn comes_before<L: Ledger>(one: Turn, other: Turn, steps: &mut Steps<L>) -> bool
     ensures first { result ≡ comes_before one other }
     ensures step { steps.new ≡ steps.old + 1 }
 {
     steps.tick();
-    is_before(one, other)
-}
-
-/// Whether one turn comes before another, where nobody counts.
-#[tactic(auto, unfolding(crate::specs::Heaps::comes_before))]
-pub(crate) fn is_before(one: Turn, other: Turn) -> bool
-    ensures { result ≡ comes_before one other }
-{
     one.first < other.first || (one.first == other.first && is_less(one, other))
 }
 

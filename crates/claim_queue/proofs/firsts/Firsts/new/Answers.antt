@@ -5,4 +5,4 @@ use Rattle.claim_queue.proofs.WalkLemmas.{left-all}
 use Rattle.claim_queue.proofs.firsts.Firsts.new.Goals as goal
 
 pub returns : goal.returns
-returns c = ap (λ (w : Waits). let walk : Walk = record { name = c.args.name.now; left = w } in walk) (left-all c.args.name.now c.args.pending.now)
+returns c = ap (λ (w : Waits). let walk : Walk = record { name = c.args.name.now; all = c.args.pending.now; left = w } in walk) (left-all c.args.name.now c.args.pending.now)
