@@ -19,3 +19,4 @@ pub mod WaitRoom
 pub mod BehindLemmas
 pub mod GivenLemmas
 pub mod WalkLemmas
+pub mod NextLemmas

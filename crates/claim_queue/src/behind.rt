@@ -44,11 +44,7 @@ fn is_behind<L: Ledger>(last: Option<Turn>, turn: Turn, steps: &mut Steps<L>) ->
 }
 
 /// Of two turns the one that comes before the other, if there are two. At most one step.
-fn sooner<L: Ledger>(
-    one: Option<Turn>,
-    other: Option<Turn>,
-    steps: &mut Steps<L>,
-) -> Option<Turn>
+fn sooner<L: Ledger>(one: Option<Turn>, other: Option<Turn>, steps: &mut Steps<L>) -> Option<Turn>
     ensures sooner { result ≡ sooner one other }
     ensures steps { AreAtMost 1 steps.old steps.new }
 {

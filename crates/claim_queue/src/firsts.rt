@@ -38,11 +38,7 @@ impl<'a> Model for Firsts<'a> {
 
 impl<'a> Firsts<'a> {
     /// The rows of the queue at a place, if it is there, from the first one on.
-    pub(crate) fn new(
-        pending: &'a Pending,
-        name: &'a Text,
-        queue: Option<usize>,
-    ) -> Firsts<'a>
+    pub(crate) fn new(pending: &'a Pending, name: &'a Text, queue: Option<usize>) -> Firsts<'a>
         requires { IsPlaceOf queue name.now pending.now }
         ensures { result ≡ record { name = name.now; all = pending.now; left = pending.now } }
     {

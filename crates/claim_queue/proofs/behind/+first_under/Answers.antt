@@ -1,4 +1,4 @@
-use Rattle.std.proofs.Common.{◌≡◌, ◌+◌, ◌*◌, ◌∷◌, ◌++◌, [], false, refl, sym, ◌∙◌, subst, length, Option, arith}
+use Rattle.std.proofs.Common.{◌≡◌, ◌∷◌, ◌++◌, [], false, refl, sym, ◌∙◌, subst, Option, arith}
 use Rattle.claim_queue.specs.declared.turns.Turn.{Turn}
 use Rattle.claim_queue.specs.Heaps.{turn_at}
 use Rattle.claim_queue.specs.Behind.{is_behind, IsFirstUnder}

@@ -1,4 +1,4 @@
-use Rattle.std.proofs.Common.{◌≡◌, ℕ, None, Some, Option, option_map, ap, sym, subst, ◌∙◌}
+use Rattle.std.proofs.Common.{ℕ, Some, Option, option_map, ap, sym, subst, ◌∙◌}
 use Rattle.claim_queue.specs.declared.turns.Turn.{Turn}
 use Rattle.claim_queue.specs.Behind.{IsPlaceOf}
 use Rattle.claim_queue.proofs.WalkLemmas.{walk-best, walk-none, walk-left}

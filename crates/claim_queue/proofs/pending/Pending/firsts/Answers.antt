@@ -1,6 +1,6 @@
 use Rattle.std.proofs.Common.{ap}
 use Rattle.claim_queue.specs.Waits.{Waits}
-use Rattle.claim_queue.proofs.WalkLemmas.{place-is}
+use Rattle.claim_queue.proofs.NextLemmas.{place-is}
 use Rattle.claim_queue.proofs.pending.Pending.firsts.Goals as goal
 
 pub new-requires : goal.new-requires

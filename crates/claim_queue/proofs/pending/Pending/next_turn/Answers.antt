@@ -1,9 +1,9 @@
-use Rattle.std.proofs.Common.{◌≡◌, ◌<◌, ap, sym, subst, length, List, arith}
+use Rattle.std.proofs.Common.{◌<◌, ap, sym, subst, length, List, arith}
 use Rattle.claim_queue.specs.declared.turns.Turn.{Turn}
 use Rattle.claim_queue.specs.Waits.{Waits}
 use Rattle.claim_queue.specs.Heaps.{IsOrdered}
 use Rattle.claim_queue.specs.Behind.{IsFirstUnder, AreGivenUnder}
-use Rattle.claim_queue.proofs.WalkLemmas.{next-ordered, next-some, next-few}
+use Rattle.claim_queue.proofs.NextLemmas.{next-ordered, next-some, next-few}
 use Rattle.claim_queue.proofs.pending.Pending.next_turn.Goals as goal
 
 pub index-requires : goal.index-requires
