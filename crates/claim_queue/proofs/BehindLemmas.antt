@@ -2,7 +2,7 @@
 use Rattle.std.proofs.Common.{◌≡◌, ◌≢◌, ◌⊎◌, inl, inr, ℕ, zero, suc, ◌+◌, ◌*◌, ◌/◌, ◌<◌, ◌≤◌, Bool, true, false, List, length, Option, Some, None, IfSome, refl, sym, ap, ◌∙◌, subst, arith}
 use Rattle.claim_queue.specs.declared.turns.Turn.{Turn}
 use Rattle.claim_queue.specs.Heaps.{turn_at, comes_before, IsBelow, Follows, IsOrdered, IsIn}
-use Rattle.claim_queue.specs.Behind.{is_behind, sooner, IsNoSooner, IsUnder, IsFirstUnder}
+use Rattle.claim_queue.specs.Behind.{is_behind, earlier, IsNoEarlier, IsUnder, IsFirstUnder}
 use Rattle.claim_queue.proofs.HeapLemmas.{same?, one_way, chain, follows-too, follows-self}
 
 -- ---- what is below a place
@@ -40,27 +40,27 @@ under-follows heap ordered (suc levels) top place under lt =
 
 -- ---- of two turns the first
 
-no-sooner-one : (turn : Turn) (one other : Option Turn) → IsNoSooner turn one → IsNoSooner turn (sooner one other)
-no-sooner-one turn None other later = absurd later
-no-sooner-one turn (Some one) None later = later
-no-sooner-one turn (Some one) (Some other) later = by (comes_before other one) refl where
-  by : (t : Bool) → comes_before other one ≡ t → IsNoSooner turn (sooner (Some one) (Some other))
+no-earlier-one : (turn : Turn) (one other : Option Turn) → IsNoEarlier turn one → IsNoEarlier turn (earlier one other)
+no-earlier-one turn None other later = absurd later
+no-earlier-one turn (Some one) None later = later
+no-earlier-one turn (Some one) (Some other) later = by (comes_before other one) refl where
+  by : (t : Bool) → comes_before other one ≡ t → IsNoEarlier turn (earlier (Some one) (Some other))
   by true is = rw is (chain turn one other later (one_way other one is))
   by false is = rw is later
 
-no-sooner-other : (turn : Turn) (one other : Option Turn) → IsNoSooner turn other → IsNoSooner turn (sooner one other)
-no-sooner-other turn None other later = later
-no-sooner-other turn (Some one) None later = absurd later
-no-sooner-other turn (Some one) (Some other) later = by (comes_before other one) refl where
-  by : (t : Bool) → comes_before other one ≡ t → IsNoSooner turn (sooner (Some one) (Some other))
+no-earlier-other : (turn : Turn) (one other : Option Turn) → IsNoEarlier turn other → IsNoEarlier turn (earlier one other)
+no-earlier-other turn None other later = later
+no-earlier-other turn (Some one) None later = absurd later
+no-earlier-other turn (Some one) (Some other) later = by (comes_before other one) refl where
+  by : (t : Bool) → comes_before other one ≡ t → IsNoEarlier turn (earlier (Some one) (Some other))
   by true is = rw is later
   by false is = rw is (chain turn other one later is)
 
-found-sooner : (P : Turn → Type 0) (one other : Option Turn) → IfSome one P → IfSome other P → IfSome (sooner one other) P
-found-sooner P None other p q = q
-found-sooner P (Some one) None p q = p
-found-sooner P (Some one) (Some other) p q = by (comes_before other one) refl where
-  by : (t : Bool) → comes_before other one ≡ t → IfSome (sooner (Some one) (Some other)) P
+found-earlier : (P : Turn → Type 0) (one other : Option Turn) → IfSome one P → IfSome other P → IfSome (earlier one other) P
+found-earlier P None other p q = q
+found-earlier P (Some one) None p q = p
+found-earlier P (Some one) (Some other) p q = by (comes_before other one) refl where
+  by : (t : Bool) → comes_before other one ≡ t → IfSome (earlier (Some one) (Some other)) P
   by true is = rw is q
   by false is = rw is p
 
@@ -80,20 +80,20 @@ module _ (heap : List Turn) (top : ℕ) (last : Option Turn) where
   }
 
   pub below-under : (left right : ℕ) (one other : Option Turn) → left ≡ 2 * top + 1 → right ≡ 2 * top + 2 → is_behind last (turn_at heap top) ≡ false
-      → IsFirstUnder left heap last one → IsFirstUnder right heap last other → IsFirstUnder top heap last (sooner one other)
+      → IsFirstUnder left heap last one → IsFirstUnder right heap last other → IsFirstUnder top heap last (earlier one other)
   below-under left right one other left_is right_is given p q = record {
-    found = found-sooner (λ turn. IsIn turn heap × (is_behind last turn ≡ true)) one other p.found q.found;
+    found = found-earlier (λ turn. IsIn turn heap × (is_behind last turn ≡ true)) one other p.found q.found;
     least = least;
   } where
-    at-child : (levels child place : ℕ) → IsBelow top child → IsUnder levels child place → place < length heap → is_behind last (turn_at heap place) ≡ true → IsNoSooner (turn_at heap place) (sooner one other)
+    at-child : (levels child place : ℕ) → IsBelow top child → IsUnder levels child place → place < length heap → is_behind last (turn_at heap place) ≡ true → IsNoEarlier (turn_at heap place) (earlier one other)
     at-child levels child place below under lt behind = by (same? child left) where
-      by : (child ≡ left) ⊎ (child ≢ left) → IsNoSooner (turn_at heap place) (sooner one other)
-      by (inl is) = no-sooner-one (turn_at heap place) one other (p.least levels place (subst (λ c. IsUnder levels c place) is under) lt behind)
+      by : (child ≡ left) ⊎ (child ≢ left) → IsNoEarlier (turn_at heap place) (earlier one other)
+      by (inl is) = no-earlier-one (turn_at heap place) one other (p.least levels place (subst (λ c. IsUnder levels c place) is under) lt behind)
       by (inr ne) =
           let is : child ≡ right = omega arith in
-          no-sooner-other (turn_at heap place) one other (q.least levels place (subst (λ c. IsUnder levels c place) is under) lt behind)
+          no-earlier-other (turn_at heap place) one other (q.least levels place (subst (λ c. IsUnder levels c place) is under) lt behind)
 
-    least : (levels place : ℕ) → IsUnder levels top place → place < length heap → is_behind last (turn_at heap place) ≡ true → IsNoSooner (turn_at heap place) (sooner one other)
+    least : (levels place : ℕ) → IsUnder levels top place → place < length heap → is_behind last (turn_at heap place) ≡ true → IsNoEarlier (turn_at heap place) (earlier one other)
     least zero place under lt behind =
         let here : is_behind last (turn_at heap place) ≡ false = ap (λ n. is_behind last (turn_at heap n)) under ∙ given in
         let both : true ≡ false = sym behind ∙ here in

@@ -10,7 +10,7 @@ use Rattle.claim_queue.specs.Firsts.{IsHeld, IsBest}
 use Rattle.claim_queue.specs.Places.{name_at, told, told_rows, ArePlaced}
 use Rattle.claim_queue.specs.Heaps.{turn_at, IsOrdered, IsIn}
 use Rattle.claim_queue.specs.WaitHeaps.{entry_turn, heap_at, AreQueued, HaveHeaps}
-use Rattle.claim_queue.specs.Behind.{is_behind, IsNoSooner, IsAmong, AreGivenUnder, IsFirstUnder, waiting_turn, IsTurnBehind, IsNextTurn, IsPlaceOf, was_given, left_row, left_from, given_in}
+use Rattle.claim_queue.specs.Behind.{is_behind, IsNoEarlier, IsAmong, AreGivenUnder, IsFirstUnder, waiting_turn, IsTurnBehind, IsNextTurn, IsPlaceOf, was_given, left_row, left_from, given_in}
 use Rattle.claim_queue.specs.Counts.{AreAtMost}
 use Rattle.claim_queue.proofs.BehindLemmas.{under-top}
 use Rattle.claim_queue.proofs.GivenLemmas.{fewer-by}
@@ -35,13 +35,13 @@ module _ (queues : List Queue) (rows : List (Option Entry)) (heaps : List (Vec T
           behind = g.1;
         }
 
-    least : (row : ℕ) (waiting : Waiting) → IsHeld (told_rows queues rows) row waiting → bytes_eq waiting.queue (name_at place queues) ≡ true → is_behind last (waiting_turn waiting row) ≡ true → IsNoSooner (waiting_turn waiting row) first
+    least : (row : ℕ) (waiting : Waiting) → IsHeld (told_rows queues rows) row waiting → bytes_eq waiting.queue (name_at place queues) ≡ true → is_behind last (waiting_turn waiting row) ≡ true → IsNoEarlier (waiting_turn waiting row) first
     least row waiting held here behind =
         let e = told-held queues rows row waiting held in
         let in_ = in-heap queues rows heaps places (name_at place queues) placed queued place have.apart within refl row e.0 e.1 (ap (λ (w : Waiting). bytes_eq w.queue (name_at place queues)) e.2 ∙ here) in
         let is : turn_at (heap_at place heaps) in_.0 ≡ waiting_turn waiting row = in_.2 ∙ ap (λ (w : Waiting). waiting_turn w row) e.2 in
         let up = under-top in_.0 in
-        subst (λ (t : Turn). IsNoSooner t first) is (f.least up.0 in_.0 up.1 in_.1 (subst (λ (t : Turn). is_behind last t ≡ true) (sym is) behind))
+        subst (λ (t : Turn). IsNoEarlier t first) is (f.least up.0 in_.0 up.1 in_.1 (subst (λ (t : Turn). is_behind last t ≡ true) (sym is) behind))
 
   -- by the heap as it is read
   pub next-ordered : (v : Vec Turn Global) → v ≡ slice_index_or heaps place v → IsOrdered v.items

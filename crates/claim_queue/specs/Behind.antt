@@ -13,15 +13,15 @@ is_behind None turn = true
 is_behind (Some last) turn = comes_before last turn
 
 -- of two turns the one that comes before the other, if there are two
-abbrev pub sooner : Option Turn → Option Turn → Option Turn
-sooner None other = other
-sooner (Some one) None = Some one
-sooner (Some one) (Some other) = if comes_before other one then Some other else Some one
+abbrev pub earlier : Option Turn → Option Turn → Option Turn
+earlier None other = other
+earlier (Some one) None = Some one
+earlier (Some one) (Some other) = if comes_before other one then Some other else Some one
 
 -- there is a first turn, and another does not come before it
-abbrev pub IsNoSooner : Turn → Option Turn → Type 0
-IsNoSooner turn None = ⊥
-IsNoSooner turn (Some first) = comes_before turn first ≡ false
+abbrev pub IsNoEarlier : Turn → Option Turn → Type 0
+IsNoEarlier turn None = ⊥
+IsNoEarlier turn (Some first) = comes_before turn first ≡ false
 
 -- a place is so many levels below another
 abbrev pub IsUnder : ℕ → ℕ → ℕ → Type 0
@@ -46,7 +46,7 @@ pub record AreGivenUnder (top : ℕ) (heap : List Turn) (last : Option Turn) (pl
 -- the first turn at or below a place, of those behind another
 pub record IsFirstUnder (top : ℕ) (heap : List Turn) (last first : Option Turn) : Type 0 where
   pub found : IfSome first (λ turn. IsIn turn heap × (is_behind last turn ≡ true))
-  pub least : (levels place : ℕ) → IsUnder levels top place → place < length heap → is_behind last (turn_at heap place) ≡ true → IsNoSooner (turn_at heap place) first
+  pub least : (levels place : ℕ) → IsUnder levels top place → place < length heap → is_behind last (turn_at heap place) ≡ true → IsNoEarlier (turn_at heap place) first
 
 -- the turn of a row that waits
 abbrev pub waiting_turn : Waiting → ℕ → Turn
@@ -64,7 +64,7 @@ pub record IsTurnBehind (name : List ℕ) (rows : List (Option Waiting)) (last :
 pub record IsNextTurn (name : List ℕ) (rows : List (Option Waiting)) (last first : Option Turn) : Type 0 where
   pub found : IfSome first (IsTurnBehind name rows last)
   pub least : (row : ℕ) (waiting : Waiting) → IsHeld rows row waiting → bytes_eq waiting.queue name ≡ true → is_behind last (waiting_turn waiting row) ≡ true
-      → IsNoSooner (waiting_turn waiting row) first
+      → IsNoEarlier (waiting_turn waiting row) first
 
 -- the place of the queue of a name; where there is none, no row waits in that queue
 abbrev pub IsPlaceOf : Option ℕ → List ℕ → Waits → Type 0

@@ -1,7 +1,7 @@
 //! Which turn of a heap comes next behind another: a look that changes nothing.
 ghost use Rattle.std.specs.Prelude.{◌≡◌, ℕ, ◌+◌, ◌*◌, List, length};
 ghost use Rattle.claim_queue.specs.Heaps.{IsOrdered};
-ghost use Rattle.claim_queue.specs.Behind.{is_behind, sooner, IsFirstUnder, AreGivenUnder};
+ghost use Rattle.claim_queue.specs.Behind.{is_behind, earlier, IsFirstUnder, AreGivenUnder};
 ghost use Rattle.claim_queue.specs.Counts.{AreAtMost};
 
 use crate::steps::Steps;
@@ -29,7 +29,7 @@ pub(crate) fn first_under<L: Ledger>(
     }
     let left = first_under(heap, 2 * place + 1, last, steps);
     let right = first_under(heap, 2 * place + 2, last, steps);
-    sooner(left, right, steps)
+    earlier(left, right, steps)
 }
 
 /// Whether a turn comes behind another, if one is given. At most one step.
@@ -44,8 +44,8 @@ fn is_behind<L: Ledger>(last: Option<Turn>, turn: Turn, steps: &mut Steps<L>) ->
 }
 
 /// Of two turns the one that comes before the other, if there are two. At most one step.
-fn sooner<L: Ledger>(one: Option<Turn>, other: Option<Turn>, steps: &mut Steps<L>) -> Option<Turn>
-    ensures sooner { result ≡ sooner one other }
+fn earlier<L: Ledger>(one: Option<Turn>, other: Option<Turn>, steps: &mut Steps<L>) -> Option<Turn>
+    ensures earlier { result ≡ earlier one other }
     ensures steps { AreAtMost 1 steps.old steps.new }
 {
     match (one, other) {

@@ -25,7 +25,7 @@ pub returns-clause-first : goal.returns-clause-first
 returns-clause-first g t c =
     let heap = c.args.heap.now in
     let given : is_behind c.args.last (turn_at heap c.args.place) ≡ false = sym c.is_behind.ensures.behind ∙ c.if-is_behind.false in
-    subst (λ (first : Option Turn). IsFirstUnder c.args.place heap c.args.last first) (sym c.sooner.ensures.sooner)
+    subst (λ (first : Option Turn). IsFirstUnder c.args.place heap c.args.last first) (sym c.earlier.ensures.earlier)
     (below-under heap c.args.place c.args.last _ _ c.first_under-left.result c.first_under-right.result refl refl given c.first_under-left.ensures.first c.first_under-right.ensures.first)
 
 pub returns-clause-steps : goal.returns-clause-steps
@@ -35,7 +35,7 @@ returns-clause-steps g t c =
     let one = c.is_behind.ensures.steps in
     let left = c.first_under-left.ensures.steps in
     let right = c.first_under-right.ensures.steps in
-    let two = c.sooner.ensures.steps in
+    let two = c.earlier.ensures.steps in
     let long = length-both left.0 right.0 in (
       c.args.place ∷ (left.0 ++ right.0),
       given-more heap c.args.place _ _ c.args.last refl refl left.0 right.0 c.if-place-heap.false given left.1 right.1,
