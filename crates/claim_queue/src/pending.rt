@@ -1,12 +1,15 @@
 //! Rows that wait for a worker, each in its queue.
-ghost use Rattle.std.specs.Prelude.{◌≡◌, ℕ, ◌≤◌, ◌<◌, ◌++◌, ◌∷◌, [], false, length, map, Some, None, IsSome, is_some, option_map, slice_get, slice_set, slice_index_or, MatchResult};
+ghost use Rattle.std.specs.Prelude.{◌≡◌, ℕ, ◌+◌, ◌*◌, ◌≤◌, ◌<◌, ◌++◌, ◌∷◌, [], false, length, map, Some, None, IsSome, is_some, option_map, slice_get, slice_set, slice_index_or, MatchResult};
 ghost use Rattle.std.specs.Str.{bytes_eq};
 ghost use Rattle.claim_queue.specs.Held.{up_to};
 ghost use Rattle.claim_queue.specs.Waits.{no_waits, spare_in, count_in, queue_of, raised, roomier, best_of};
 ghost use Rattle.claim_queue.specs.Places.{name_at};
-ghost use Rattle.claim_queue.specs.Counts.{AreFew};
+ghost use Rattle.claim_queue.specs.Counts.{AreAtMost, AreFew};
+ghost use Rattle.claim_queue.specs.Behind.{IsNextTurn, given_in};
 
+use crate::behind::first_under;
 use crate::entries::{Entry, entry_turn};
+use crate::firsts::Firsts;
 use crate::heap_edits::{insert, remove};
 use crate::queues::{Queue, place_of, raise, room_in};
 use crate::room::{make_heap, make_room};
@@ -55,6 +58,16 @@ impl Pending {
             heaps: Vec::new(alloc),
             rows: Vec::new(alloc),
             places: Vec::new(alloc),
+        }
+    }
+
+    /// How many rows wait in a queue.
+    pub fn count(&self, name: &Text) -> usize
+        ensures { result ≡ count_in name.now self.now }
+    {
+        match place_of(&self.queues, name) {
+            Some(queue) => self.heaps[queue].len(),
+            None => 0,
         }
     }
 
@@ -168,6 +181,28 @@ impl Pending {
             Some(queue) => top_row(&self.heaps[queue]),
             None => None,
         }
+    }
+
+    /// The rows of a queue in the order in which they are claimed. It takes no memory.
+    pub fn firsts<'a>(&'a self, name: &'a Text) -> Firsts<'a>
+        ensures { result ≡ record { name = name.now; all = self.now; left = self.now } }
+    {
+        Firsts::new(self, name, place_of(&self.queues, name))
+    }
+
+    /// The first turn in the queue at a place, of those behind another, if one is given. At most three steps for each that is not behind it,
+    /// and one more.
+    pub(crate) fn next_turn<L: Ledger>(
+        &self,
+        queue: usize,
+        last: Option<Turn>,
+        steps: &mut Steps<L>,
+    ) -> Option<Turn>
+        requires { queue < length self.now.queues }
+        ensures next { IsNextTurn (name_at queue self.now.queues) self.now.rows last result }
+        ensures steps { AreAtMost (3 * given_in (name_at queue self.now.queues) last self.now + 1) steps.old steps.new }
+    {
+        first_under(&self.heaps[queue], 0, last, steps)
     }
 
     /// Whether a row is held, and none for a row for which no room was made.
