@@ -1,5 +1,5 @@
 //! A journal on a disk, and an append to it.
-ghost use Rattle.std.specs.Prelude.{◌≡◌, ◌<◌, ◌≤◌, ◌^◌, ℕ, List, [], ◌∷◌, Option, option_to_list, OnOk, OnErr, IfOk, IfErr};
+ghost use Rattle.std.specs.Prelude.{◌≡◌, ◌≢◌, ◌<◌, ◌≤◌, ◌^◌, ℕ, List, [], ◌∷◌, Option, option_to_list, OnOk, OnErr, IfOk, IfErr};
 ghost use Rattle.causes.specs.Causes.{HasCause, Rose};
 ghost use Rattle.disk_base.specs.Contents.{StopsLeave};
 ghost use Rattle.disk_journal.specs.declared.fault.OpenFault.TheVariants.{Disk, Damaged};
@@ -44,6 +44,7 @@ impl<D: Disk> Journal<D> {
         ensures any_moment { D.tells → (bodies : List (List ℕ)) (pending : Option (List ℕ)) → IsImage [] bodies pending (D.contents disk).bytes
             → StopsLeave (D.contents disk) (D.contents (disk_after (λ j. j.disk) result)) (IsWithin [] bodies (option_to_list pending)) }
         ensures cause { IfErr result (λ e. e.0 ≡ Disk → Rose (D.faults disk) (D.faults e.1)) }
+        ensures spared { IfErr result (λ e. e.0 ≢ Disk → D.faults e.1 ≡ D.faults disk) }
         ensures later { D.faults disk ≤ D.faults (disk_after (λ j. j.disk) result) }
         ensures kept { IfOk result (λ o. D.faults o.0.disk ≡ D.faults disk) }
     {

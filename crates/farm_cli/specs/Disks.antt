@@ -36,11 +36,12 @@ pub record IsMissing {F S C N T I D : Type 0} (old new : Lendings F S C N T I D)
   pub could : CanOpenAmong old.disk name (Err (record {}))
   pub left : LeavesConsole old new
 
--- why a disk has no farm that could be opened: a call of it failed, or what it holds is damaged at this place; want of memory is free
+-- why a disk has no farm that could be opened: a call of it failed; or none did, and what it holds is damaged at this place, or memory ran out
 abbrev pub IsRefusedFor : {F S C N T I D : Type 0} → Views F S C N T I D → S → S → OpenFault → Type 0
 IsRefusedFor views given back faults.Disk = Rose (views.disk_faults given) (views.disk_faults back)
-IsRefusedFor views given back (faults.Damaged place) = views.disk_tells → IsFarmDamaged (views.disk_contents given).bytes place
-IsRefusedFor views given back faults.NoMemory = Unit {0}
+IsRefusedFor views given back (faults.Damaged place) =
+    (views.disk_faults back ≡ views.disk_faults given) × (views.disk_tells → IsFarmDamaged (views.disk_contents given).bytes place)
+IsRefusedFor views given back faults.NoMemory = views.disk_faults back ≡ views.disk_faults given
 
 -- The disk was opened, had no farm that could be opened, and came back; and nothing else was asked for. Over what an earlier farm left, a stop since
 -- then leaves what it might have left before, or the same records, or these and the one that was pending behind them.

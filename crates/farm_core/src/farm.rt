@@ -1,5 +1,5 @@
 //! The farm over a disk: what was acknowledged is on it.
-ghost use Rattle.std.specs.Prelude.{◌≡◌, ◌≤◌, ◌^◌, ◌-◌, false, true, ℕ, List, [], length, Option, option_to_list, IfOk, IfErr};
+ghost use Rattle.std.specs.Prelude.{◌≡◌, ◌≢◌, ◌≤◌, ◌^◌, ◌-◌, false, true, ℕ, List, [], length, Option, option_to_list, IfOk, IfErr};
 ghost use Rattle.causes.specs.Causes.{HasCause, Rose};
 ghost use Rattle.disk_base.specs.Contents.{StopsLeave};
 ghost use Rattle.disk_journal.specs.Images.{IsImage, IsWithin};
@@ -50,6 +50,7 @@ fn open_records<D: Disk>(alloc: Global, disk: D) -> Result<(Tables, Records<D>),
     ensures any_moment { D.tells → (bodies : List (List ℕ)) (pending : Option (List ℕ)) → IsImage [] bodies pending (D.contents disk).bytes
         → StopsLeave (D.contents disk) (D.contents (disk_left (λ o. o.1.disk) result)) (IsWithin [] bodies (option_to_list pending)) }
     ensures cause { IfErr result (λ e. e.0 ≡ Disk → Rose (D.faults disk) (D.faults e.1)) }
+    ensures spared { IfErr result (λ e. e.0 ≢ Disk → D.faults e.1 ≡ D.faults disk) }
     ensures later { D.faults disk ≤ D.faults (disk_left (λ o. o.1.disk) result) }
     ensures kept { IfOk result (λ o. D.faults o.1.disk ≡ D.faults disk) }
 {
@@ -77,6 +78,7 @@ impl<D: Disk> Farm<D> {
         ensures any_moment { D.tells → (bodies : List (List ℕ)) (pending : Option (List ℕ)) → IsImage [] bodies pending (D.contents disk).bytes
             → StopsLeave (D.contents disk) (D.contents (disk_left (λ farm. farm.records.disk) result)) (IsWithin [] bodies (option_to_list pending)) }
         ensures cause { IfErr result (λ e. e.0 ≡ Disk → Rose (D.faults disk) (D.faults e.1)) }
+        ensures spared { IfErr result (λ e. e.0 ≢ Disk → D.faults e.1 ≡ D.faults disk) }
         ensures later { D.faults disk ≤ D.faults (disk_left (λ farm. farm.records.disk) result) }
         ensures kept { IfOk result (λ farm. D.faults farm.records.disk ≡ D.faults disk) }
     {

@@ -4,13 +4,10 @@ ghost use Rattle.http_wire.specs.Memory.{sink_written, write_faults};
 
 use causes::Failed;
 use http_wire::{
-    HostSink, HostSource, Joined, Link, ListEnd, MemoryLink, MemorySink, MemorySource, Message,
-    MessageList, ReadAllFault, Reader, Sink, Source, StreamLink, Wire, read_all, read_messages,
-    write_all,
+    Joined, ListEnd, MemoryLink, MemorySink, MemorySource, Message, MessageList, ReadAllFault,
+    Reader, Sink, Wire, read_all, read_messages, write_all,
 };
 use std::alloc::{AllocError, Global};
-use std::io;
-use std::io::{Cursor, ErrorKind, Read, Write};
 
 const PING: &[u8] = b"GET /api/queue/v1/ping HTTP/1.1\r\n\r\n";
 
@@ -193,72 +190,6 @@ fn parts_of_a_message(rt: HostRuntime) {
         b"\r\nPUT /a?b HTTP/1.1\r\nAuthorization: Hawk x\r\nauthorization: y\r\nContent-Type:text/plain\r\nConnection: keep-alive\r\nContent-Length: 2\r\n\r\nhi";
     assert!(rt; begins_so(rt.alloc(), other) == Ok(false));
     assert!(rt; begins_so(rt.alloc(), PING) == Ok(false));
-}
-
-/// A stream whose reads fail, and whose writes take nothing.
-#[derive(Drop)]
-struct Broken;
-
-impl Read for Broken {
-    fn read(&mut self, _buf: &mut [u8]) -> io::Result<usize> {
-        Err(io::Error::from(ErrorKind::BrokenPipe))
-    }
-}
-
-impl Write for Broken {
-    fn write(&mut self, _buf: &[u8]) -> io::Result<usize> {
-        Ok(0)
-    }
-
-    fn flush(&mut self) -> io::Result<()> {
-        Ok(())
-    }
-}
-
-/// Whether a source over a stream of `hello` reads all five bytes into a buffer of eight.
-fn reads_hello(alloc: Global, wanted: &[u8]) -> Option<bool> {
-    let bytes = Vec::from_slice(alloc, b"hello").ok()?;
-    let mut source = HostSource::new(Cursor::new(bytes));
-    let mut buf = [0; 8];
-    let read = source.read(&mut buf);
-    Some(read == Ok(5) && buf.as_slice() == wanted)
-}
-
-/// Whether a link over a stream of `hi` reads both bytes, and writes five after them.
-fn reads_and_writes(alloc: Global, wanted: &[u8]) -> Option<bool> {
-    let bytes = Vec::from_slice(alloc, b"hi").ok()?;
-    let mut link = StreamLink::new(Cursor::new(bytes));
-    let mut buf = [0; 8];
-    let read = link.read(&mut buf);
-    let write = link.write(b"hello");
-    Some(read == Ok(2) && write == Ok(5) && buf.as_slice() == wanted)
-}
-
-#[test]
-fn host_objects(rt: HostRuntime) {
-    let alloc = rt.alloc();
-    assert!(rt; reads_hello(alloc, b"hello\0\0\0") == Some(true));
-    assert!(rt; reads_hello(alloc, b"help!\0\0\0") == Some(false));
-    assert!(rt; reads_and_writes(alloc, b"hi\0\0\0\0\0\0") == Some(true));
-    assert!(rt; reads_and_writes(alloc, b"ho\0\0\0\0\0\0") == Some(false));
-    let mut sink = HostSink::new(Cursor::new(Vec::new(alloc)));
-    assert!(rt; sink.write(b"hello") == Ok(5));
-}
-
-#[test]
-fn host_sources_keep_the_reason_of_a_fault(rt: HostRuntime) {
-    let mut source = HostSource::new(Broken);
-    assert!(rt; source.why().is_none());
-    assert!(rt; source.read(&mut [0; 8]) == Err(Failed));
-    assert!(rt; source.why() == Some(ErrorKind::BrokenPipe));
-}
-
-#[test]
-fn host_sinks_keep_the_reason_of_a_fault(rt: HostRuntime) {
-    let mut sink = HostSink::new(Broken);
-    assert!(rt; sink.why().is_none());
-    assert!(rt; sink.write(b"hello") == Err(Failed));
-    assert!(rt; sink.why() == Some(ErrorKind::WriteZero));
 }
 
 /// A sink with room for so many bytes, whose writes of these numbers fail.
