@@ -6,7 +6,7 @@ use Rattle.farm_text.specs.Document.{Document}
 use Rattle.jsone_values.specs.declared.faults.Fault.{Fault}
 use Rattle.jsone_expr.specs.declared.nodes.Node.{Node}
 use Rattle.jsone_expr.specs.declared.nodes.Node.TheVariants.{Number as number_node, Text as text_node, Literal as literal_node, Name as name_node, Unary as unary_node, Left as left_node, Binary as binary_node, Group as group_node, Member as member_node, Index as index_node, Slice as slice_node, Begin as begin_node, Item as item_node, Call as call_node, Items as items_node, Field as field_node, Entries as entries_node}
-use Rattle.jsone_eval.specs.Ends.{beyond, EndsOf, AreEnds, met, place_in}
+use Rattle.jsone_eval.specs.Ends.{beyond, EndsOf, met, place_in}
 use Rattle.jsone_eval.specs.Machine.{Part, Moved, went, ended, pushed, IsPushed, IsGathered, IsStep, passed, Runs, Does, Leads, values_in, parts_in}
 use Rattle.jsone_eval.specs.declared.evaluator.EvalFault.{EvalFault}
 use Rattle.jsone_eval.specs.declared.machine.Machine.{Machine}

@@ -1,4 +1,4 @@
-use Rattle.std.proofs.Common.{◌≡◌, ◌≤◌, ℕ, length, drop, reverse}
+use Rattle.std.proofs.Common.{◌≤◌, length, drop, reverse}
 use Rattle.jsone_eval.specs.Ends.{EndsOf}
 use Rattle.jsone_eval.proofs.EndLemmas.{Opens}
 use Rattle.jsone_eval.proofs.ends.ends_of.Given as goal

@@ -1,4 +1,4 @@
-use Rattle.std.proofs.Common.{◌≡◌, ◌+◌, ◌<◌, ℕ, zero, suc, length, drop, get_or, slice_index_or, arith, refl, sym, ap, subst, ◌∙◌, add-one}
+use Rattle.std.proofs.Common.{◌≡◌, ◌+◌, ◌<◌, zero, drop, get_or, slice_index_or, arith, refl, sym, ap, subst, ◌∙◌, add-one}
 use Rattle.std.specs.Bool.{MatchBool}
 use Rattle.farm_text.specs.Doc.{document}
 use Rattle.jsone_expr.specs.declared.nodes.Node.{Node}

@@ -1,4 +1,4 @@
-use Rattle.std.proofs.Common.{◌≡◌, ℕ, ◌-◌, zero, length, [], drop}
+use Rattle.std.proofs.Common.{◌≡◌, ◌-◌, zero, length, [], drop}
 use Rattle.jsone_eval.specs.Machine.{Runs, values_in, parts_in}
 use Rattle.jsone_eval.specs.Outcomes.{Outcome}
 use Rattle.jsone_eval.specs.Scopes.{scopes_of}
