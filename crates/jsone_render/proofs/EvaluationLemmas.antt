@@ -1,5 +1,5 @@
 -- An expression's text, and what it comes to.
-use Rattle.std.proofs.Common.{ℕ, List, IfOk}
+use Rattle.std.proofs.Common.{ℕ, List}
 use Rattle.jsone_expr.specs.declared.nodes.Node.{Node}
 use Rattle.jsone_expr.specs.Texts.{IsParsed, IsTooDeep, IsBadByte}
 use Rattle.jsone_expr.proofs.TextLemmas.{tree_or_bad}

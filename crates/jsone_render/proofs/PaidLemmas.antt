@@ -1,20 +1,16 @@
 -- What is paid for a template is no less than what its value weighs.
-use Rattle.std.proofs.Common.{◌≡◌, ℕ, ◌+◌, ◌<◌, ◌≤◌, codes, Bool, true, false, List, [], ◌∷◌, ◌++◌, length, decimal, if◌then◌else◌, is_some, Option, Some, None, Result, Ok, Err, is_eq, nat_cmp, nat_le, inl, inr, refl, sym, ap, subst, ◌∙◌, arith}
+use Rattle.std.proofs.Common.{◌≡◌, ℕ, ◌+◌, ◌≤◌, Bool, true, false, List, [], ◌∷◌, if◌then◌else◌, Option, Some, None, Result, Ok, Err, inl, inr, sym, subst, arith}
 use Rattle.std.proofs.lemmas.Bool.{cases_lt, le-leb, lt-leb}
 use Rattle.std.specs.Bool.{MatchBool}
-use Rattle.std.specs.Cmp.Lexicographic.{slice_cmp}
-use Rattle.std.specs.List.{list_all}
-use Rattle.farm_text.specs.Document.{Document, null, boolean, whole, text, array, object, items_of, Items, no_items, item, Members, no_members, member, member_at, put}
-use Rattle.farm_text.specs.Reading.{escaped}
+use Rattle.farm_text.specs.Document.{Document, boolean}
 use Rattle.jsone_values.specs.declared.faults.Fault.{Fault}
-use Rattle.jsone_values.specs.Members.{listed}
 use Rattle.jsone_values.specs.Truth.{is_true}
-use Rattle.jsone_values.specs.Weights.{weight, items_weight, members_weight}
+use Rattle.jsone_values.specs.Weights.{weight}
 use Rattle.jsone_expr.specs.Trees.{Tree, number, text as text_tree, literal, name, unary, binary, group, member as member_tree, index, slice, call, items, entries, Side, absent, present, Trees, no_trees, tree, Fields, no_fields, field}
-use Rattle.jsone_eval.specs.Operators.{IsSigned, decides, IsJoined}
+use Rattle.jsone_eval.specs.Operators.{decides}
 use Rattle.jsone_eval.specs.Outcomes.{Outcome as EvalOutcome, given as eval_given, faulted as eval_faulted, too_much as eval_too_much, paid, at_node, Then as EvalThen, AtNode}
-use Rattle.jsone_eval.specs.Values.{Setting, text_at, key_span, WithKey, Evaluates, SideEvaluates, EachEvaluates, FieldsEvaluate, IsOutcome}
-use Rattle.jsone_render.specs.Expressions.{told, ByTree, Evaluated}
+use Rattle.jsone_eval.specs.Values.{Setting, text_at, key_span, WithKey, Evaluates, SideEvaluates, EachEvaluates, FieldsEvaluate}
+use Rattle.jsone_render.specs.Expressions.{told, Evaluated}
 use Rattle.jsone_render.specs.Outcomes.{Outcome, given, faulted, too_much}
 
 -- what is paid by then is at most what may be, and no less than the value weighs beyond what was paid before

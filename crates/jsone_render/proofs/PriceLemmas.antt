@@ -1,5 +1,5 @@
 -- A template pays no less than its value weighs.
-use Rattle.std.proofs.Common.{◌≡◌, ℕ, ◌+◌, ◌<◌, ◌≤◌, codes, Bool, true, false, List, [], ◌∷◌, ◌++◌, length, decimal, if◌then◌else◌, is_some, Option, Some, None, Result, Ok, Err, Ordering, Less, Equal, Greater, is_eq, nat_cmp, nat_le, inl, inr, refl, sym, ap, subst, ◌∙◌, arith}
+use Rattle.std.proofs.Common.{◌≡◌, ℕ, ◌+◌, ◌≤◌, codes, Bool, true, false, List, [], ◌∷◌, ◌++◌, length, decimal, if◌then◌else◌, is_some, Option, Some, None, Result, Ok, Err, Ordering, Less, Equal, Greater, is_eq, nat_cmp, inl, inr, refl, sym, ap, subst, ◌∙◌, arith}
 use Rattle.std.proofs.lemmas.Bool.{cases_lt, le-leb, lt-leb}
 use Rattle.std.specs.Bool.{MatchBool}
 use Rattle.std.specs.Ordering.{match_ordering}
@@ -23,9 +23,9 @@ use Rattle.jsone_render.specs.Forms.{Form, plain, faulty, alone, binding, key_of
 use Rattle.jsone_render.specs.Maps.{keys_of, key_text, kept_at, KeysRender}
 use Rattle.jsone_render.specs.Merges.{merged}
 use Rattle.jsone_render.specs.Names.{is_name}
-use Rattle.jsone_render.specs.Outcomes.{Outcome, given, faulted, too_much, pay, worth, price_of, at_operator, as_found, under, After, or_null, kept, Meaning, Operand}
+use Rattle.jsone_render.specs.Outcomes.{Outcome, given, faulted, too_much, pay, worth, at_operator, as_found, After, or_null, kept, Meaning, Operand}
 use Rattle.jsone_render.specs.Sorting.{IsSortOf, KeysEvaluated, Sorted, SortedBy}
-use Rattle.jsone_render.specs.Templates.{IsGivenBy, Given, SpanRenders, FromNowRenders, AloneRenders, BoundOver, FormRenders, Under, Renders, ItemsRender, ValuesRender, MemberRenders, BranchRenders, InnerRenders, IsRendered}
+use Rattle.jsone_render.specs.Templates.{IsGivenBy, Given, FromNowRenders, AloneRenders, BoundOver, FormRenders, Under, Renders, ItemsRender, ValuesRender, MemberRenders, BranchRenders, InnerRenders, IsRendered}
 use Rattle.jsone_render.specs.Texts.{Part, last, escaped, valued, unended, Valued, shown, as_outcome, PartsRender, Interpolated, Written}
 use Rattle.jsone_render.proofs.PaidLemmas.{Up, evaluated_up}
 

@@ -1,5 +1,5 @@
 -- What is kept of a text that was read as an expression; for private clauses.
-use Rattle.std.specs.Prelude.{◌≡◌, ℕ, List}
+use Rattle.std.specs.Prelude.{ℕ, List}
 use Rattle.jsone_expr.specs.Texts.{IsParsed, IsTooDeep}
 use Rattle.jsone_eval.specs.Ends.{AreEnds}
 use Rattle.jsone_render.specs.declared.found.Found.{Found}
