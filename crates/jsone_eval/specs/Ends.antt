@@ -1,4 +1,4 @@
--- Where right sides that are passed over end; for private clauses.
+-- Where right sides end that may be passed over.
 use Rattle.std.specs.Prelude.{◌≡◌, ◌≤◌, ◌+◌, ℕ, zero, suc, List, [], ◌∷◌, length, drop}
 use Rattle.jsone_expr.specs.declared.nodes.Node.{Node}
 use Rattle.jsone_expr.specs.declared.nodes.Node.TheVariants.{Left as left_node, Binary as binary_node}
@@ -20,7 +20,7 @@ EndsOf nodes (x ∷ xs) (e ∷ es) = (drop e nodes ≡ beyond 1 xs) × (length n
 abbrev pub AreEnds : List Node → List ℕ → Type 0
 AreEnds nodes ends = EndsOf nodes nodes ends
 
--- the places behind the right sides that are not begun yet, walking from the end, the innermost first
+-- for private clauses: the places behind the right sides that are not begun yet, walking from the end, the innermost first
 abbrev pub met : Node → ℕ → List ℕ → List ℕ
 met (left_node g) place [] = []
 met (left_node g) place (e ∷ es) = es
