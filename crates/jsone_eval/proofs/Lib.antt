@@ -4,5 +4,6 @@ pub mod CallLemmas
 pub mod OneValue
 pub mod PieceLemmas
 pub mod EvalLemmas
+pub mod EndLemmas
 pub mod ContextLemmas
 pub mod PartLemmas

@@ -22,3 +22,5 @@ pub mod RenderLemmas
 pub mod SizeLemmas
 pub mod TurnLemmas
 pub mod ContextLemmas
+pub mod PaidLemmas
+pub mod PriceLemmas

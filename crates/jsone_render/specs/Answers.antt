@@ -9,10 +9,6 @@ use Rattle.jsone_values.specs.declared.faults.Fault.{Fault}
 use Rattle.jsone_values.specs.declared.faults.Stop.{Stop}
 use Rattle.jsone_values.specs.declared.faults.Stop.TheVariants.{Fault as stop_fault, NoMemory as no_memory}
 use Rattle.jsone_values.specs.Truth.{is_true}
-use Rattle.jsone_expr.specs.Texts.{IsParsed, IsTooDeep}
-use Rattle.jsone_expr.specs.declared.parser.ParseFault.{ParseFault}
-use Rattle.jsone_expr.specs.declared.parser.ParseFault.TheVariants.{Syntax as syntax_fault, TooDeep as too_deep_fault, NoMemory as parse_memory}
-use Rattle.jsone_expr.specs.declared.parser.Tree.{Tree as ExprTree}
 use Rattle.jsone_render.specs.declared.binders.Names.{Names}
 use Rattle.jsone_render.specs.declared.binders.Names.TheVariants.{One as one_name, Two as two_names, Three as three_names}
 use Rattle.jsone_render.specs.declared.forms.MapForm.{MapForm}
@@ -70,13 +66,6 @@ abbrev pub Finishes : Result Doc Stop → ℕ → Result (Option Doc) RenderFaul
 Finishes (Ok d) n r m = Answers found_in (λ o. o ≡ worth n (Some (document d))) r m
 Finishes (Err (stop_fault f)) n r m = r ≡ Err (here f)
 Finishes (Err no_memory) n r m = r ≡ Err NoMemory
-
--- what was read of an expression's text
-abbrev pub IsParse : List ℕ → Result ExprTree ParseFault → Type 0
-IsParse source (Ok tree) = (tree.text.now ≡ source) × IsParsed source tree.nodes.items
-IsParse source (Err (syntax_fault i)) = ¬ HasTree source
-IsParse source (Err too_deep_fault) = IsTooDeep source
-IsParse source (Err parse_memory) = Unit {0}
 
 -- names that a key binds
 abbrev pub names_in : Names → List (List ℕ)

@@ -1,53 +1,36 @@
 //! Texts of a template, in which `${e}` is the value of an expression.
-ghost use Rattle.std.specs.Prelude.{◌≡◌, ◌+◌, ◌++◌, ◌∷◌, [], ℕ, List, length, IfOk, MatchResult, MatchBool, string_bytes, Ok, Err};
+ghost use Rattle.std.specs.Prelude.{◌≡◌, ◌+◌, ◌++◌, ◌∷◌, [], ℕ, List, length, IfOk, MatchResult, MatchBool, string_bytes, Ok};
 ghost use Rattle.farm_text.specs.Document.{Document};
 ghost use Rattle.farm_text.specs.Doc.{document};
 ghost use Rattle.jsone_eval.specs.Scopes.{scopes_of};
-ghost use Rattle.jsone_render.specs.Answers.{Answers, Kept, found_in, EndsAt, IsParse, IsStop};
+ghost use Rattle.jsone_render.specs.Answers.{Answers, Kept, found_in, EndsAt, IsStop};
 ghost use Rattle.jsone_render.specs.Expressions.{HasTree};
 ghost use Rattle.jsone_render.specs.Texts.{ends_with_dollar, shown, Valued, Interpolated, Written, TextRenders};
 
 use crate::ends::only_end;
 use crate::faults::RenderFault;
 use crate::paths::here;
-use crate::renderer::{Renderer, parsed};
+use crate::readings::Readings;
+use crate::renderer::Renderer;
 use farm_text::{Doc, Text};
-use jsone_expr::{ParseFault, Tree};
 use jsone_values::builtins::text_of;
 use jsone_values::faults::{Fault, Stop};
 use std::alloc::{AllocError, Global};
 
-fn is_deep(fault: ParseFault) -> Result<bool, AllocError>
-    ensures { (source : List ℕ) → IsParse source (Err fault)
-        → IfOk result (λ is. MatchBool is (HasTree source) (¬ HasTree source)) }
-{
-    match fault {
-        ParseFault::TooDeep => Ok(true),
-        ParseFault::Syntax(_) => Ok(false),
-        ParseFault::NoMemory => Err(AllocError),
-    }
-}
-
-fn is_tree(tree: &Result<Tree, ParseFault>) -> Result<bool, AllocError>
-    ensures { (source : List ℕ) → IsParse source tree.now
-        → IfOk result (λ is. MatchBool is (HasTree source) (¬ HasTree source)) }
-{
-    match tree {
-        Ok(_) => Ok(true),
-        Err(fault) => is_deep(*fault),
-    }
-}
-
 /// Whether the text is an expression, however deep.
-fn has_tree(alloc: Global, source: &[u8]) -> Result<bool, AllocError>
+fn has_tree(alloc: Global, readings: &mut Readings, source: &[u8]) -> Result<bool, AllocError>
     ensures { IfOk result (λ is. MatchBool is (HasTree source.now) (¬ HasTree source.now)) }
 {
-    is_tree(&parsed(alloc, source))
+    let reading = readings.take(alloc, source)?;
+    let has_tree = reading.has_tree();
+    readings.keep(reading)?;
+    Ok(has_tree)
 }
 
 /// The expression that ends before the first `}` before which one can end, and what stands behind that.
 fn cut_expression<'a>(
     alloc: Global,
+    readings: &mut Readings,
     behind: &'a str,
 ) -> Result<Option<(&'a [u8], &'a str)>, AllocError>
     ensures { IfOk result (EndsAt behind.now) }
@@ -56,7 +39,7 @@ fn cut_expression<'a>(
     match only_end(bytes) {
         Some(end) => {
             let source = &bytes[..end];
-            if has_tree(alloc, source)? {
+            if has_tree(alloc, readings, source)? {
                 Ok(Some((source, &behind[end + 1..])))
             } else {
                 Ok(None)
@@ -116,7 +99,7 @@ impl<'a> Renderer<'a> {
                 out.push_str("{")?;
                 rest = behind;
             } else {
-                match cut_expression(alloc, behind)? {
+                match cut_expression(alloc, &mut self.readings, behind)? {
                     Some((source, next)) => {
                         let value = match self.valued(alloc, source) {
                             Ok(value) => value,
