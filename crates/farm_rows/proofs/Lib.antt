@@ -25,6 +25,8 @@ pub mod PlanLemmas
 pub mod WaitLemmas
 pub mod PageLemmas
 pub mod ListLemmas
+pub mod ListingLemmas
+pub mod DependantLemmas
 pub mod ServedLemmas
 pub mod SummaryLemmas
 pub mod GraphCrossing

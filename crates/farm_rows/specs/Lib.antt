@@ -6,6 +6,7 @@ pub mod Left
 pub mod Changes
 pub mod Waits
 pub mod Lists
+pub mod Listing
 pub mod Summary
 pub mod Starts
 pub mod Plans

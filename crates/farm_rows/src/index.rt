@@ -2,7 +2,7 @@
 //! falls due first, and which is ready first.
 //!
 //! Each part of it may be given up, and then all tasks are walked over. Functions take the tasks beside it.
-ghost use Rattle.std.specs.Prelude.{◌≡◌, ◌≤◌, ◌<◌, ◌++◌, ◌∷◌, [], List, None, find, filter, min, nat_le, length, option_copied};
+ghost use Rattle.std.specs.Prelude.{◌≡◌, ◌≤◌, ◌<◌, ◌++◌, ◌∷◌, [], List, None, IfSome, find, filter, min, nat_le, nat_lt, length, take, option_copied};
 ghost use Rattle.std.specs.List.{position, reduce};
 ghost use Rattle.run_states.specs.Rows.{Row, loses_claim};
 ghost use Rattle.farm_rows.specs.Contents.{row_with};
@@ -10,12 +10,17 @@ ghost use Rattle.farm_rows.specs.Changes.{has_id};
 ghost use Rattle.farm_rows.specs.Due.{all_due_moments, meets_deadline};
 ghost use Rattle.farm_rows.specs.Ready.{is_ready};
 ghost use Rattle.farm_rows.specs.Placed.{in_group};
+ghost use Rattle.farm_rows.specs.Listing.{places_of, starting_at};
 ghost use Rattle.farm_rows.specs.Indexed.{IsIndexOf, IsIndexBut};
 
 use crate::dependencies::DependencyGraph;
-use crate::dependencies::kept::{keep_added, keep_changed, known_ready, note_added};
+use crate::dependencies::kept::{
+    keep_added, keep_changed, known_dependants, known_ready, note_added,
+};
 use crate::dues::{Dues, keep_dues, known_deadline, known_lease, reserve};
 use crate::groups::{first_of, keep_first, note_first};
+use crate::listing::{PlacePage, page_from};
+use crate::lists::TaskList;
 use crate::places::{keep_noted, note_new, place_of, row_with};
 use crate::rows::Rows;
 use crate::settle::ready_place;
@@ -130,6 +135,29 @@ impl Index {
         match known_ready(&self.graph) {
             Some(place) => place,
             None => ready_place(&Rows::new(rows, self)),
+        }
+    }
+
+    /// The places of the tasks of a list, from one on, so many at most, where they can be told without a walk.
+    pub(crate) fn listed(
+        &self,
+        rows: &[TaskRow],
+        list: &TaskList,
+        start: usize,
+        limit: u16,
+    ) -> Option<PlacePage<'_>>
+        requires { IsIndexOf self.now rows.now }
+        ensures { IfSome result (λ page. (page.places.now ≡ take limit (starting_at start (places_of list.now rows.now)))
+            × (page.more ≡ nat_lt limit (length (starting_at start (places_of list.now rows.now))))) }
+    {
+        match list {
+            TaskList::Group(_) => None,
+            TaskList::Dependants(id) => {
+                match known_dependants(&self.graph, rows, self.places.as_ref(), *id) {
+                    Some(places) => Some(page_from(places, start, usize::from(limit))),
+                    None => None,
+                }
+            }
         }
     }
 

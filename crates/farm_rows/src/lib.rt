@@ -12,6 +12,7 @@ mod dues;
 mod groups;
 mod index;
 mod laws;
+mod listing;
 mod lists;
 mod moves;
 mod picks;
