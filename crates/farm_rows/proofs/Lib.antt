@@ -7,7 +7,7 @@ pub mod AdvanceLemmas
 pub mod FitLemmas
 pub mod PlaceLemmas
 pub mod PlacedLemmas
-pub mod GroupLemmas
+pub mod MemberLemmas
 pub mod FirstLemmas
 pub mod IndexLemmas
 pub mod TableLemmas

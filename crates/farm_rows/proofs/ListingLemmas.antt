@@ -12,7 +12,7 @@ use Rattle.farm_rows.specs.declared.lists.TaskList.{TaskList}
 use Rattle.farm_rows.specs.Lists.{is_listed, listed}
 use Rattle.farm_rows.specs.Listing.{places_from, places_of, starting_at}
 
-not-below : (a b : ℕ) → b < a → nat_le a b ≡ false
+pub not-below : (a b : ℕ) → b < a → nat_le a b ≡ false
 not-below a b less = by (nat_le a b) refl where
   by : (t : Bool) → nat_le a b ≡ t → nat_le a b ≡ false
   by false is = is
@@ -51,7 +51,7 @@ page-within list rows start limit =
 
 -- ---- the places from one on
 
-whole-from : (start : ℕ) (places : List ℕ) → All (λ p. start ≤ p) places → starting_at start places ≡ places
+pub whole-from : (start : ℕ) (places : List ℕ) → All (λ p. start ≤ p) places → starting_at start places ≡ places
 whole-from start [] all = refl
 whole-from start (p ∷ places) all =
     let first : start ≤ p = all 0 0 (omega arith) in

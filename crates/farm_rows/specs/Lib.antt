@@ -7,6 +7,7 @@ pub mod Changes
 pub mod Waits
 pub mod Lists
 pub mod Listing
+pub mod Members
 pub mod Summary
 pub mod Starts
 pub mod Plans

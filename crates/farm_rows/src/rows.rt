@@ -3,7 +3,7 @@ ghost use Rattle.std.specs.Prelude.{◌≡◌, IfSome, find, length, nat_lt, opt
 ghost use Rattle.std.specs.List.{position};
 ghost use Rattle.farm_rows.specs.Changes.{has_id};
 ghost use Rattle.farm_rows.specs.Contents.{row_with};
-ghost use Rattle.farm_rows.specs.Placed.{in_group};
+ghost use Rattle.farm_rows.specs.Members.{in_group};
 ghost use Rattle.farm_rows.specs.Listing.{places_of, starting_at};
 ghost use Rattle.farm_rows.specs.Indexed.{IsIndexOf};
 
