@@ -69,7 +69,7 @@ pub(crate) fn page_behind<'a>(
         × (p.more ≡ has_more after limit (listed list.now rows.now)))) }
 {
     match start_of(rows, list, after) {
-        Some(start) => Ok(Some(page_behind_first(alloc, rows, list, start, limit)?)),
+        Some(start) => Ok(Some(page_starting_at(alloc, rows, list, start, limit)?)),
         None => Ok(None),
     }
 }
@@ -105,7 +105,7 @@ fn start_behind(rows: &Rows<'_>, list: &TaskList, token: SlugId) -> Option<usize
 }
 
 /// The first tasks of a list behind so many of all tasks, so many at most.
-fn page_behind_first<'a>(
+fn page_starting_at<'a>(
     alloc: Global,
     rows: &Rows<'a>,
     list: &TaskList,

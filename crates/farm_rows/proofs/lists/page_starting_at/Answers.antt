@@ -3,7 +3,7 @@ use Rattle.std.specs.Prelude.{All}
 use Rattle.std.proofs.lemmas.Result.{IfOk-weaker}
 use Rattle.run_states.specs.Rows.{Row}
 use Rattle.farm_rows.proofs.ListingLemmas.{listed-page, page-within}
-use Rattle.farm_rows.proofs.lists.page_behind_first.Goals as goal
+use Rattle.farm_rows.proofs.lists.page_starting_at.Goals as goal
 
 pub page_at-requires : goal.page_at-requires
 page_at-requires c =
