@@ -1,11 +1,10 @@
 -- The tasks that wait for one are those that a graph keeps as its dependants.
-use Rattle.std.proofs.Common.{◌≡◌, ◌≢◌, ℕ, ◌+◌, ◌<◌, Bool, true, false, not, ◌&&◌, ◌||◌, cond, List, [], ◌∷◌, filter, length, Some, None, bytes_eq, refl, ap, sym, ◌∙◌, subst, arith, ◌==◌}
+use Rattle.std.proofs.Common.{◌≡◌, ℕ, ◌+◌, ◌<◌, Bool, true, false, not, ◌||◌, cond, List, [], ◌∷◌, filter, length, Some, None, bytes_eq, refl, ap, sym, ◌∙◌, arith, ◌==◌}
 use Rattle.std.specs.List.{list_any, list_all, position}
 use Rattle.std.proofs.lemmas.Bool.{and_parts}
 use Rattle.std.proofs.lemmas.Slice.Eq.{bytes_eq-Decides}
 use Rattle.run_states.specs.Rows.{Row}
 use Rattle.dep_graph.specs.Nodes.{Task, rows_of, is_in, dependants_of}
-use Rattle.farm_rows.specs.declared.lists.TaskList.{TaskList}
 use Rattle.farm_rows.specs.declared.lists.TaskList.TheVariants.{Dependants}
 use Rattle.farm_rows.specs.Changes.{has_id}
 use Rattle.farm_rows.specs.Lists.{is_listed}

@@ -30,6 +30,7 @@ pub mod DependantLemmas
 pub mod ServedLemmas
 pub mod SummaryLemmas
 pub mod GraphCrossing
+pub mod MemberCrossing
 pub mod CrossingLemmas
 pub mod DependencyLemmas
 pub mod FirstReadyLemmas

@@ -1,6 +1,6 @@
 -- The tasks of each group, by their places: what is told of them, and what comes with a task more.
-use Rattle.std.proofs.Common.{◌≡◌, ◌≢◌, ℕ, zero, suc, ◌+◌, ◌<◌, ◌≤◌, Bool, true, false, cond, List, [], ◌∷◌, ◌++◌, find, length, take, nat_lt, nat_le, slice_get, bytes_eq, Option, Some, None, refl, sym, ◌∙◌, ap, subst, arith}
-use Rattle.std.specs.Prelude.{All, MatchOption, filter}
+use Rattle.std.proofs.Common.{◌≡◌, ◌≢◌, ℕ, zero, suc, ◌+◌, ◌<◌, Bool, true, false, cond, List, [], ◌∷◌, ◌++◌, find, length, take, nat_lt, nat_le, slice_get, bytes_eq, Option, Some, None, refl, sym, ◌∙◌, ap, subst, arith}
+use Rattle.std.specs.Prelude.{All, MatchOption}
 use Rattle.std.specs.List.{last_or}
 use Rattle.std.specs.Option.{ForSome, option_map_or}
 use Rattle.std.proofs.lemmas.Bool.{le-leb, ltb-true, ltb-false}
@@ -9,7 +9,7 @@ use Rattle.std.proofs.lemmas.Slice.Eq.{bytes_eq-Decides}
 use Rattle.task_defs.specs.declared.task_def.TaskDef.{TaskDef}
 use Rattle.run_states.specs.Rows.{Row}
 use Rattle.run_states.specs.Later.{RowsLater}
-use Rattle.task_groups.specs.Members.{TaskGroup, TaskGroups, group_with, rows_of, last_row, joined}
+use Rattle.task_groups.specs.Members.{TaskGroup, TaskGroups, rows_of, last_row, joined}
 use Rattle.task_groups.specs.Pages.{rows_after}
 use Rattle.task_groups.proofs.JoinLemmas.{rows-joined, group-joined_other}
 use Rattle.farm_rows.specs.declared.lists.TaskList.TheVariants.{Group}

@@ -1,5 +1,5 @@
 //! The tasks of each group, by their places. Only `note` takes memory.
-ghost use Rattle.std.specs.Prelude.{◌≡◌, ◌+◌, ◌<◌, ◌^◌, ◌↔◌, ◌∷◌, [], ◌++◌, IfSome, IsTrue, MatchOption, Some, length, nat_lt, slice_get, take};
+ghost use Rattle.std.specs.Prelude.{◌≡◌, ◌+◌, ◌<◌, ◌^◌, ◌↔◌, ◌∷◌, [], ◌++◌, IsTrue, MatchOption, Some, length, nat_lt, slice_get, take};
 ghost use Rattle.task_groups.specs.Members.{no_groups, rows_of};
 ghost use Rattle.farm_rows.specs.Listing.{starting_at};
 ghost use Rattle.farm_rows.specs.Members.{joining_of, AreMembers};

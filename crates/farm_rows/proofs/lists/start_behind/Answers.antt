@@ -1,4 +1,4 @@
-use Rattle.std.proofs.Common.{◌≡◌, ◌+◌, ◌≤◌, true, false, Some, length, drop, get_or, List, ap, sym, ◌∙◌, subst, arith}
+use Rattle.std.proofs.Common.{◌≡◌, ◌+◌, ◌≤◌, true, false, Some, length, drop, get_or, List, ap, sym, ◌∙◌, subst}
 use Rattle.std.specs.List.{position}
 use Rattle.run_states.specs.Rows.{Row}
 use Rattle.farm_rows.specs.Changes.{on_row, has_id}

@@ -1,7 +1,6 @@
 use Rattle.std.proofs.Common.{◌≡◌, ℕ, List, length, nat_lt, take, ap, ◌∙◌}
 use Rattle.task_groups.specs.Members.{TaskGroup, TaskGroups, rows_of}
 use Rattle.task_groups.specs.Pages.{rows_after}
-use Rattle.farm_rows.specs.Listing.{starting_at}
 use Rattle.farm_rows.proofs.MemberLemmas.{after-before}
 use Rattle.farm_rows.proofs.members.Members.list.Goals as goal
 
