@@ -12,16 +12,13 @@ use Rattle.farm_rows.specs.contracts.members.Members.{the_row}
 use Rattle.farm_rows.specs.contracts.members.Members.TheInside.{the_type as inside_type}
 
 group_send : IsSend group.the_row
-group_send = declared_send group.the_type (
-  search (crosses, maps.crosses, sendable) depth 40 fits 50000,
-  (search (crosses, maps.crosses, sendable) depth 40 fits 50000, (search (crosses, sendable) depth 40 fits 50000, tt)),
-)
+group_send = declared_send group.the_type (search (crosses, maps.crosses, sendable) depth 60 fits 50000)
 
 groups_send : IsSend groups.the_row
-groups_send = view_send _ _ _ _ _ (declared_send groups_type (search (group_send, crosses, sendable) depth 40 fits 50000, (search (group_send, crosses, sendable) depth 40 fits 50000, tt)))
+groups_send = view_send _ _ _ _ _ (declared_send groups_type (search (group_send, crosses, maps.crosses, sendable) depth 60 fits 50000))
 
 noted_send : IsSend noted.the_row
-noted_send = view_send _ _ _ _ _ (declared_send noted_type (search (crosses, maps.crosses, sendable) depth 40 fits 50000, (search (crosses, maps.crosses, sendable) depth 40 fits 50000, tt)))
+noted_send = view_send _ _ _ _ _ (declared_send noted_type (search (crosses, maps.crosses, sendable) depth 60 fits 50000))
 
 pub members_send : IsSend the_row
-members_send = view_send _ _ _ _ _ (declared_send inside_type (groups_send, (search (noted_send, crosses, sendable) depth 40 fits 50000, tt)))
+members_send = view_send _ _ _ _ _ (declared_send inside_type (search (groups_send, noted_send, crosses, sendable) depth 60 fits 50000))

@@ -1,6 +1,6 @@
 //! The tasks of each group, by their places. Only `note` takes memory.
-ghost use Rattle.std.specs.Prelude.{◌≡◌, ◌+◌, ◌<◌, ◌^◌, ◌↔◌, ◌∷◌, [], ◌++◌, IsTrue, MatchOption, Some, length, nat_lt, slice_get, take};
-ghost use Rattle.task_groups.specs.Members.{no_groups, rows_of};
+ghost use Rattle.std.specs.Prelude.{◌≡◌, ◌+◌, ◌<◌, ◌^◌, ◌↔◌, ◌∷◌, [], ◌++◌, IfSome, IsTrue, MatchOption, OnOk, Some, length, nat_lt, slice_get, take};
+ghost use Rattle.task_groups.specs.Members.{no_groups, rows_of, kept_scheduler};
 ghost use Rattle.farm_rows.specs.Listing.{starting_at};
 ghost use Rattle.farm_rows.specs.Members.{joining_of, AreMembers};
 
@@ -53,7 +53,9 @@ impl Members {
         group: SlugId,
         scheduler: &str,
     ) -> Result<(), AllocError>
-        ensures { self.new.groups ≡ self.old.groups }
+        ensures same { self.new.groups ≡ self.old.groups }
+        ensures room { OnOk result (IfSome (kept_scheduler group self.old.groups) (λ kept. kept ≡ scheduler.now)
+            → self.new.room ≡ Some (joining_of group scheduler.now)) }
     {
         self.noted = None;
         let noted = Noted::new(alloc, group, scheduler)?;
