@@ -15,7 +15,7 @@ some-is : {A : Type 0} (x y : A) → Some x ≡ Some y → x ≡ y
 some-is x y is = cc
 
 -- the first place that passes, where there is one, and behind the last, where there is none
-place-some : {A : Type 0} (test : A → Bool) (xs : List A) (place : ℕ) → position test xs ≡ Some place → (position_or_len test xs ≡ place) × (place < length xs)
+pub place-some : {A : Type 0} (test : A → Bool) (xs : List A) (place : ℕ) → position test xs ≡ Some place → (position_or_len test xs ≡ place) × (place < length xs)
 place-some test xs place is = by (nat_lt (position_or_len test xs) (length xs)) refl where
   by : (b : Bool) → nat_lt (position_or_len test xs) (length xs) ≡ b → (position_or_len test xs ≡ place) × (place < length xs)
   by true less =
@@ -45,7 +45,7 @@ unknown-behind ids id named none =
     position_or_len_push (λ other. bytes_eq other named) ids id
     ∙ ap (λ b. cond b (length ids + cond (bytes_eq id named) 0 1) (place_in ids named)) (equal (place_in ids named) (length ids) none)
 
-long : (rows : List Row) → length (ids_of rows) ≡ length rows
+pub long : (rows : List Row) → length (ids_of rows) ≡ length rows
 long rows = length-map rows (λ (row : Row). row.id)
 
 -- the place of a task that stands

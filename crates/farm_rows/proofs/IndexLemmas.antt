@@ -14,7 +14,7 @@ use Rattle.farm_rows.specs.Dated.{MayBeDue, IsPutAt}
 use Rattle.farm_rows.specs.Dependencies.{MayBeDependencies, MayBeDependenciesBut}
 use Rattle.farm_rows.specs.Indexed.{IsIndexOf, IsIndexBut}
 use Rattle.farm_rows.proofs.DependencyLemmas.{may-change}
-use Rattle.farm_rows.proofs.GroupLemmas.{grouped-same, groups-stay}
+use Rattle.farm_rows.proofs.MemberLemmas.{members-later}
 use Rattle.farm_rows.proofs.PlaceLemmas.{place-within}
 use Rattle.farm_rows.proofs.PlacedLemmas.{ids_of, placed-same}
 
@@ -65,7 +65,7 @@ index-changed index dues graph rows place row but here put waiting =
     let ids = ids-later but.before rows later.stay later.long in
     record {
       placed = placed-same index.places but.before rows ids right.placed;
-      grouped = grouped-same index.groups but.before rows (groups-stay but.before rows later.stay ids) right.grouped;
+      members = members-later index.members but.before rows later.stay later.long right.members;
       due = put but.before rows (record { here = here; others = later.others }) right.due;
       waiting = waiting;
     }

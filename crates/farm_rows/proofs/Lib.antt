@@ -7,7 +7,7 @@ pub mod AdvanceLemmas
 pub mod FitLemmas
 pub mod PlaceLemmas
 pub mod PlacedLemmas
-pub mod GroupLemmas
+pub mod MemberLemmas
 pub mod FirstLemmas
 pub mod IndexLemmas
 pub mod TableLemmas
@@ -25,9 +25,12 @@ pub mod PlanLemmas
 pub mod WaitLemmas
 pub mod PageLemmas
 pub mod ListLemmas
+pub mod ListingLemmas
+pub mod DependantLemmas
 pub mod ServedLemmas
 pub mod SummaryLemmas
 pub mod GraphCrossing
+pub mod MemberCrossing
 pub mod CrossingLemmas
 pub mod DependencyLemmas
 pub mod FirstReadyLemmas

@@ -4,14 +4,15 @@ use Rattle.run_states.specs.Rows.{Row}
 use Rattle.run_states.specs.Later.{RowsLater}
 use Rattle.farm_rows.specs.declared.index.Index.{Index}
 use Rattle.farm_rows.specs.Sweep.{IsKept}
-use Rattle.farm_rows.specs.Placed.{ArePlaced, AreGrouped}
+use Rattle.farm_rows.specs.Placed.{ArePlaced}
+use Rattle.farm_rows.specs.Members.{MayBeMembers}
 use Rattle.farm_rows.specs.Dated.{MayBeDue}
 use Rattle.farm_rows.specs.Dependencies.{MayBeDependencies}
 
 -- all that is kept beside these tasks is right, as far as it is kept
 pub record IsIndexOf (index : Index) (rows : List Row) : Type 0 where
   pub placed : ArePlaced index.places rows
-  pub grouped : AreGrouped index.groups rows
+  pub members : MayBeMembers index.members rows
   pub due : MayBeDue index.dues rows
   pub waiting : MayBeDependencies index.graph rows
 

@@ -6,6 +6,8 @@ pub mod Left
 pub mod Changes
 pub mod Waits
 pub mod Lists
+pub mod Listing
+pub mod Members
 pub mod Summary
 pub mod Starts
 pub mod Plans

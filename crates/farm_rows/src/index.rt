@@ -1,21 +1,27 @@
-//! What is kept beside the tasks, so that they are found without a walk over all: where each stands, which is the first of each group, what
-//! falls due first, and which is ready first.
+//! What is kept beside the tasks, so that they are found without a walk over all: where each stands, which are of each group, what falls
+//! due first, and which wait for which.
 //!
 //! Each part of it may be given up, and then all tasks are walked over. Functions take the tasks beside it.
-ghost use Rattle.std.specs.Prelude.{◌≡◌, ◌≤◌, ◌<◌, ◌++◌, ◌∷◌, [], List, None, find, filter, min, nat_le, length, option_copied};
+ghost use Rattle.std.specs.Prelude.{◌≡◌, ◌≤◌, ◌<◌, ◌++◌, ◌∷◌, [], List, None, IfSome, find, filter, min, nat_le, nat_lt, length, take, option_copied};
 ghost use Rattle.std.specs.List.{position, reduce};
 ghost use Rattle.run_states.specs.Rows.{Row, loses_claim};
 ghost use Rattle.farm_rows.specs.Contents.{row_with};
 ghost use Rattle.farm_rows.specs.Changes.{has_id};
 ghost use Rattle.farm_rows.specs.Due.{all_due_moments, meets_deadline};
 ghost use Rattle.farm_rows.specs.Ready.{is_ready};
-ghost use Rattle.farm_rows.specs.Placed.{in_group};
+ghost use Rattle.farm_rows.specs.Members.{in_group};
+ghost use Rattle.farm_rows.specs.Listing.{places_of, starting_at};
 ghost use Rattle.farm_rows.specs.Indexed.{IsIndexOf, IsIndexBut};
 
 use crate::dependencies::DependencyGraph;
-use crate::dependencies::kept::{keep_added, keep_changed, known_ready, note_added};
+use crate::dependencies::kept::{
+    keep_added, keep_changed, known_dependants, known_ready, note_added,
+};
 use crate::dues::{Dues, keep_dues, known_deadline, known_lease, reserve};
-use crate::groups::{first_of, keep_first, note_first};
+use crate::listing::{PlacePage, page_from};
+use crate::lists::TaskList;
+use crate::members::Members;
+use crate::members::kept::{first_of, keep_member, known_members, note_member};
 use crate::places::{keep_noted, note_new, place_of, row_with};
 use crate::rows::Rows;
 use crate::settle::ready_place;
@@ -32,8 +38,8 @@ use std::collections::BTreeMap;
 pub(crate) struct Index {
     /// The place of each task by its id.
     places: Option<Places>,
-    /// The place of the first task of each group.
-    groups: Option<Places>,
+    /// The places of the tasks of each group.
+    members: Option<Members>,
     /// When each task falls due.
     dues: Option<Dues>,
     /// Which tasks wait for which, and which of them are ready.
@@ -47,7 +53,7 @@ impl Index {
     {
         Index {
             places: Some(BTreeMap::new(alloc)),
-            groups: Some(BTreeMap::new(alloc)),
+            members: Some(Members::new(alloc)),
             dues: Some(Dues::new(alloc)),
             graph: Some(DependencyGraph::new(alloc)),
         }
@@ -59,7 +65,7 @@ impl Index {
     {
         Index {
             places: None,
-            groups: None,
+            members: None,
             dues: None,
             graph: None,
         }
@@ -86,7 +92,7 @@ impl Index {
         requires { IsIndexOf self.now rows.now }
         ensures { option_copied result ≡ find (in_group group) rows.now }
     {
-        first_of(rows, self.groups.as_ref(), group)
+        first_of(&self.members, rows, group)
     }
 
     /// The first moment at which something falls due, of those up to this one.
@@ -133,6 +139,29 @@ impl Index {
         }
     }
 
+    /// The places of the tasks of a list, from one on, so many at most, where they can be told without a walk.
+    pub(crate) fn listed(
+        &self,
+        rows: &[TaskRow],
+        list: &TaskList,
+        start: usize,
+        limit: u16,
+    ) -> Option<PlacePage<'_>>
+        requires { IsIndexOf self.now rows.now }
+        ensures { IfSome result (λ page. (page.places.now ≡ take limit (starting_at start (places_of list.now rows.now)))
+            × (page.more ≡ nat_lt limit (length (starting_at start (places_of list.now rows.now))))) }
+    {
+        match list {
+            TaskList::Group(group) => known_members(&self.members, *group, start, limit),
+            TaskList::Dependants(id) => {
+                match known_dependants(&self.graph, rows, self.places.as_ref(), *id) {
+                    Some(places) => Some(page_from(places, start, usize::from(limit))),
+                    None => None,
+                }
+            }
+        }
+    }
+
     /// Makes room for a task that is to be created behind these. All that is kept stays right, also where memory is wanting.
     pub(crate) fn note(
         &mut self,
@@ -148,7 +177,7 @@ impl Index {
         note_added(&mut self.graph, alloc, rows, self.places.as_ref(), creation)?;
         let place = rows.len() as u32;
         note_new(&mut self.places, creation.id, place)?;
-        note_first(&mut self.groups, rows, creation.definition.task_group_id)?;
+        note_member(&mut self.members, alloc, creation)?;
         reserve(&mut self.dues, place)
     }
 
@@ -160,7 +189,7 @@ impl Index {
         keep_added(&mut self.graph, rows, self.places.as_ref(), row);
         let place = rows.len();
         keep_noted(&mut self.places, row.id(), place);
-        keep_first(&mut self.groups, rows, row.definition().task_group_id);
+        keep_member(&mut self.members, rows, row);
         keep_dues(&mut self.dues, place, row);
     }
 

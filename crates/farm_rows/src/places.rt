@@ -101,7 +101,7 @@ pub(crate) fn keep_noted(places: &mut Option<Places>, id: SlugId, place: usize)
 }
 
 /// Whether this place is noted of an id, where places are kept.
-pub(crate) fn is_noted(places: &Option<Places>, id: SlugId, place: usize) -> bool
+fn is_noted(places: &Option<Places>, id: SlugId, place: usize) -> bool
     ensures { result ≡ is_noted places.now id place }
 {
     match places {

@@ -1,12 +1,15 @@
 //! The tasks, with what is kept beside them.
-ghost use Rattle.std.specs.Prelude.{◌≡◌, find, option_copied};
+ghost use Rattle.std.specs.Prelude.{◌≡◌, IfSome, find, length, nat_lt, option_copied, take};
 ghost use Rattle.std.specs.List.{position};
 ghost use Rattle.farm_rows.specs.Changes.{has_id};
 ghost use Rattle.farm_rows.specs.Contents.{row_with};
-ghost use Rattle.farm_rows.specs.Placed.{in_group};
+ghost use Rattle.farm_rows.specs.Members.{in_group};
+ghost use Rattle.farm_rows.specs.Listing.{places_of, starting_at};
 ghost use Rattle.farm_rows.specs.Indexed.{IsIndexOf};
 
 use crate::index::Index;
+use crate::listing::PlacePage;
+use crate::lists::TaskList;
 use farm_text::SlugId;
 use run_states::TaskRow;
 use std::marker::Model;
@@ -69,5 +72,13 @@ impl<'a> Rows<'a> {
         ensures { option_copied result ≡ find (in_group group) self.now }
     {
         self.index.first_of(self.list, group)
+    }
+
+    /// The places of the tasks of a list, from one on, so many at most, where they can be told without a walk.
+    pub(crate) fn listed(&self, list: &TaskList, start: usize, limit: u16) -> Option<PlacePage<'a>>
+        ensures { IfSome result (λ page. (page.places.now ≡ take limit (starting_at start (places_of list.now self.now)))
+            × (page.more ≡ nat_lt limit (length (starting_at start (places_of list.now self.now))))) }
+    {
+        self.index.listed(self.list, list, start, limit)
     }
 }

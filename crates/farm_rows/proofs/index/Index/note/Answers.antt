@@ -5,15 +5,15 @@ use Rattle.farm_rows.proofs.index.Index.note.Goals as goal
 pub returns-in_err-note_new : goal.returns-in_err-note_new
 returns-in_err-note_new c = record {
   placed = c.note_new.ensures (ids_of c.args.rows.now) (other-ids c.args.creation.now.id c.args.rows.now c.requires.unknown) c.requires.index.placed;
-  grouped = c.requires.index.grouped;
+  members = c.requires.index.members;
   due = c.requires.index.due;
   waiting = c.note_added.ensures c.args.rows.now c.requires.index.waiting;
 }
 
-pub returns-in_err-note_first : goal.returns-in_err-note_first
-returns-in_err-note_first c = record {
+pub returns-in_err-note_member : goal.returns-in_err-note_member
+returns-in_err-note_member c = record {
   placed = c.note_new.ensures (ids_of c.args.rows.now) (other-ids c.args.creation.now.id c.args.rows.now c.requires.unknown) c.requires.index.placed;
-  grouped = c.note_first.ensures;
+  members = c.note_member.ensures c.args.rows.now c.requires.index.members;
   due = c.requires.index.due;
   waiting = c.note_added.ensures c.args.rows.now c.requires.index.waiting;
 }
@@ -21,7 +21,7 @@ returns-in_err-note_first c = record {
 pub returns : goal.returns
 returns c = record {
   placed = c.note_new.ensures (ids_of c.args.rows.now) (other-ids c.args.creation.now.id c.args.rows.now c.requires.unknown) c.requires.index.placed;
-  grouped = c.note_first.ensures;
+  members = c.note_member.ensures c.args.rows.now c.requires.index.members;
   due = c.reserve.ensures c.args.rows.now c.requires.index.due;
   waiting = c.note_added.ensures c.args.rows.now c.requires.index.waiting;
 }

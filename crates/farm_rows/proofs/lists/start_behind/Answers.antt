@@ -1,10 +1,10 @@
-use Rattle.std.proofs.Common.{◌≡◌, ◌+◌, ◌-◌, true, false, Some, length, take, drop, get_or, List, ap, sym, ◌∙◌, subst}
+use Rattle.std.proofs.Common.{◌≡◌, ◌+◌, ◌≤◌, true, false, Some, length, drop, get_or, List, ap, sym, ◌∙◌, subst}
 use Rattle.std.specs.List.{position}
 use Rattle.run_states.specs.Rows.{Row}
 use Rattle.farm_rows.specs.Changes.{on_row, has_id}
 use Rattle.farm_rows.specs.Lists.{is_listed, listed, behind_id}
-use Rattle.farm_rows.proofs.ListLemmas.{token-lost, token-found, token-rest}
-use Rattle.farm_rows.proofs.lists.behind_id.Goals as goal
+use Rattle.farm_rows.proofs.ListLemmas.{token-lost, token-found, token-start}
+use Rattle.farm_rows.proofs.lists.start_behind.Goals as goal
 
 pub returns-in_default : goal.returns-in_default
 returns-in_default c = token-lost c.args.list.now c.args.token c.args.rows.now (sym c.in_default.ensures)
@@ -18,8 +18,8 @@ returns-then-is_listed c =
     let row = c.index-all-place.result in
     let first : position (has_id token) all ≡ Some place = ap (position (has_id token)) c.list-all.ensures ∙ sym c.in-Some.ensures in
     let passes : is_listed list (get_or all place row) ≡ true = ap (is_listed list) (sym c.index-all-place.is) ∙ (sym c.is_listed.ensures ∙ c.if-is_listed.true) in
-    subst (λ (rows : List Row). (on_row (is_listed list) token rows ≡ true) × (listed list (take (length all - (place + 1)) (drop (place + 1) all)) ≡ behind_id token (listed list rows)))
-    c.list-all.ensures (token-rest list token all place row first passes)
+    subst (λ (rows : List Row). (on_row (is_listed list) token rows ≡ true) × (place + 1 ≤ length rows) × (listed list (drop (place + 1) rows) ≡ behind_id token (listed list rows)))
+    c.list-all.ensures (token-start list token all place row first passes)
 
 pub returns-else-is_listed : goal.returns-else-is_listed
 returns-else-is_listed c =
