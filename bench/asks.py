@@ -14,7 +14,7 @@ import tempfile
 import time
 
 TOP = os.path.dirname(os.path.dirname(os.path.abspath(__file__)))
-PROGRAM = os.path.join(TOP, "crates", "farm_cli", "out", "farm_cli")
+PROGRAM = os.path.join(TOP, "crates", "farm", "out", "farm")
 PING = b"GET /api/queue/v1/ping HTTP/1.1\r\n\r\n"
 MORE = 998
 RUNS = 25

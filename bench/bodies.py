@@ -12,7 +12,7 @@ import tempfile
 import time
 
 TOP = os.path.dirname(os.path.dirname(os.path.abspath(__file__)))
-PROGRAM = os.path.join(TOP, "crates", "farm_cli", "out", "farm_cli")
+PROGRAM = os.path.join(TOP, "crates", "farm", "out", "farm")
 FARM = '[[role]]\nid = "anonymous"\nscopes = ["*"]\n'
 MOST = 1_048_576
 

@@ -33,6 +33,7 @@ WANTED = [
     lambda told: [it["status"]["taskId"][-1] for it in told["tasks"]] == ["A"] and "continuationToken" not in told,
     lambda told: [it["status"]["taskId"][-1] for it in told["tasks"]] == ["Q"],
     lambda told: STATE(told, "exception", "exception"),
+    lambda told: STATE(told, "pending", "pending") and told["status"]["taskGroupId"] == told["status"]["taskId"],
 ]
 
 port = int(sys.argv[1]) if len(sys.argv) > 1 else 8080

@@ -11,16 +11,16 @@ use Rattle.api_routes.specs.Calls.{Request, Calls}
 use Rattle.api_routes.specs.Names.{route_name}
 use Rattle.api_routes.specs.Routes.{path_of, query_of, request_of, IsCallOf}
 
--- what a call of a path, a query and a body is read from
-abbrev pub request_for : List ℕ → List ℕ → List ℕ → List (List ℕ) → Request
-request_for path query body parameters =
-    record { path = path; parts = map percent_decode parameters; query = query; body = body }
+-- what a call of these parts of a path, a query and a body is read from
+abbrev pub request_for : List ℕ → List ℕ → List (List ℕ) → Request
+request_for query body parameters =
+    record { parts = map percent_decode parameters; query = query; body = body }
 
 pub routed-some : (message : Message) (route : Route) (parameters : List (List ℕ)) (path query body : List ℕ) (r : Result Call AllocError) → path ≡ path_of message.target → query ≡ query_of message.target → body ≡ message.body
-    → Fits route message.method path parameters → IfOk r (Calls route (request_for path query body parameters)) → IfOk r (IsCallOf message)
+    → Fits route message.method path parameters → IfOk r (Calls route (request_for query body parameters)) → IfOk r (IsCallOf message)
 unfolding IsCallOf
 routed-some message route parameters path query body (Ok call) at asks says fits calls =
-    let request : request_for path query body parameters ≡ request_of message parameters = rw (at, asks, says) refl in
+    let request : request_for query body parameters ≡ request_of message parameters = rw (asks, says) refl in
     inl (route, parameters, subst (λ (p : List ℕ). Fits route message.method p parameters) at fits, subst (λ (r : Request). Calls route r call) request calls)
 routed-some message route parameters path query body (Err e) at asks says fits calls = tt
 

@@ -4,6 +4,7 @@ pub mod FitLemmas
 pub mod HeadLemmas
 pub mod NameLemmas
 pub mod NumberLemmas
+pub mod PayloadLemmas
 pub mod PhraseLemmas
 pub mod QueryLemmas
 pub mod QueueLemmas

@@ -14,8 +14,8 @@ use Rattle.farm_machine.specs.declared.question.Parameter.TheVariants.{TaskId, T
 use Rattle.farm_machine.specs.Written.{IsSaidCall}
 use Rattle.route_table.specs.declared.route.Route.{Route}
 use Rattle.route_table.specs.declared.route.Route.TheVariants as routes
-use Rattle.api_routes.specs.Bodies.{IsTaskBody, IsCreateCall, IsWorkBody, IsReasonBody}
-use Rattle.api_routes.specs.Calls.{Request, Calls, task_or, CallsTask, CallsCreate, run_of, CallsRunOr, CallsRun, Reclaims, Reports, CallsQueue, CallsOfQueue, Counts, list_or, CallsList}
+use Rattle.api_routes.specs.Bodies.{IsTaskBody, IsCreateCall, IsWorkBody, IsReasonBody, IsTriggerBody}
+use Rattle.api_routes.specs.Calls.{Request, Calls, task_or, CallsTask, CallsCreate, run_of, CallsRunOr, CallsRun, Reclaims, Reports, CallsQueue, CallsOfQueue, Counts, list_or, CallsList, CallsHookOf, CallsHook}
 use Rattle.api_routes.specs.Routes.{IsCallOf}
 
 -- a call that is this one
@@ -92,6 +92,23 @@ said-list asks named said query [] call is = absurd is
 said-list asks named said query (id ∷ []) call is = said-is call _ is (said-list_or asks named said (slug_of id) _ _)
 said-list asks named said query (id ∷ part ∷ parts) call is = absurd is
 
+-- ---- of a hook
+
+said-payload : (body group id : List ℕ) (call : Call) → IsTriggerBody body group id call → IsSaidCall call
+said-payload body group id (CreateTask creation) is = absurd is
+said-payload body group id _ is = tt
+
+said-hook_of : (body group id : List ℕ) (call : Call) → CallsHookOf body group id call → IsSaidCall call
+said-hook_of body group id call (inl bad) = said-is call _ bad.1 tt
+said-hook_of body group id call (inr (inl bad)) = said-is call _ bad.2 tt
+said-hook_of body group id call (inr (inr named)) = said-payload body group id call named.2
+
+said-hook : (body : List ℕ) (parts : List (List ℕ)) (call : Call) → CallsHook body parts call → IsSaidCall call
+said-hook body [] call is = absurd is
+said-hook body (group ∷ []) call is = absurd is
+said-hook body (group ∷ id ∷ []) call is = said-hook_of body group id call is
+said-hook body (group ∷ id ∷ part ∷ parts) call is = absurd is
+
 -- ---- of any route
 
 said-route : (route : Route) (request : Request) (call : Call) → Calls route request call → IsSaidCall call
@@ -112,7 +129,7 @@ said-route routes.ListTaskGroup request call is = said-list ListTaskGroup TaskGr
 said-route routes.ListDependentTasks request call is = said-list ListDependentTasks TaskId (λ id page. tt) request.query request.parts call is
 said-route routes.PendingTasks request call is = said-of_queue Counts (λ queue call is. said-is call _ is tt) request.parts call is
 said-route routes.PendingTasksInTwo request call is = said-of_queue Counts (λ queue call is. said-is call _ is tt) request.parts call is
-said-route routes.TriggerHook request call is = said-is call _ is tt
+said-route routes.TriggerHook request call is = said-hook request.body request.parts call is
 
 pub said-call : (message : Message) (call : Call) → IsCallOf message call → IsSaidCall call
 unfolding IsCallOf

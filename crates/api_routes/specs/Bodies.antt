@@ -1,7 +1,7 @@
--- The call that the body of a message says (the queue service's bodies of the Taskcluster reference, as JSON, RFC 8259).
+-- The call that the body of a message says (the bodies of the queue and hooks services of the Taskcluster reference, as JSON, RFC 8259).
 use Rattle.std.specs.Prelude.{◌≡◌, ◌⊎◌, ℕ, ◌≤◌, Bool, true, false, pos, codes, List, [], ◌∷◌, Option, Some, None}
 use Rattle.serde_json.specs.Data.{Data}
-use Rattle.farm_text.specs.Document.{Document, whole, text, object, members_of, data_of}
+use Rattle.farm_text.specs.Document.{Document, Members, whole, text, object, members_of, data_of}
 use Rattle.farm_text.specs.Reading.{IsJson, unwhole}
 use Rattle.task_defs.specs.Definitions.{Says, rules}
 use Rattle.task_defs.specs.Faults.{IsFault}
@@ -14,9 +14,9 @@ use Rattle.farm_record.specs.declared.change.Report.{Report}
 use Rattle.farm_record.specs.declared.change.Report.TheVariants as reports
 use Rattle.farm_record.specs.declared.change.RunName.{RunName}
 use Rattle.farm_machine.specs.declared.question.BodyFault.{BodyFault}
-use Rattle.farm_machine.specs.declared.question.BodyFault.TheVariants.{NotJson, NotWhole, NoDefinition, NoWork, NoReason}
+use Rattle.farm_machine.specs.declared.question.BodyFault.TheVariants.{NotJson, NotWhole, NoDefinition, NoWork, NoReason, NoPayload}
 use Rattle.farm_machine.specs.declared.question.Call.{Call}
-use Rattle.farm_machine.specs.declared.question.Call.TheVariants.{BadParameter, BadBody, CreateTask, ClaimWork, ReportRun}
+use Rattle.farm_machine.specs.declared.question.Call.TheVariants.{BadParameter, BadBody, CreateTask, ClaimWork, ReportRun, TriggerHook}
 use Rattle.farm_machine.specs.declared.question.WorkRequest.{WorkRequest}
 use Rattle.farm_machine.specs.declared.question.Parameter.TheVariants.{TaskId}
 
@@ -106,3 +106,17 @@ IsReasonBody body name (ReportRun report) =
     (report.id ≡ name.id) × (report.run ≡ name.run) × ((d : Document) × IsDocument body d × SaysReason d report.reason)
 IsReasonBody body name (BadBody fault) = HasFault IsNoReason body fault
 IsReasonBody body name call = ⊥
+
+-- ---- triggerHook
+
+-- a document is none that a hook is triggered with: it is no object
+abbrev pub IsNoPayload : Document → BodyFault → Type 0
+IsNoPayload d NoPayload = (members : Members) → ¬ (d ≡ object members)
+IsNoPayload d fault = ⊥
+
+-- the call of a body that is to trigger the hook of this group and this id
+abbrev pub IsTriggerBody : List ℕ → List ℕ → List ℕ → Call → Type 0
+IsTriggerBody body group id (TriggerHook trigger) =
+    (trigger.hook.group ≡ group) × (trigger.hook.id ≡ id) × IsDocument body (object trigger.payload)
+IsTriggerBody body group id (BadBody fault) = HasFault IsNoPayload body fault
+IsTriggerBody body group id call = ⊥

@@ -1,6 +1,7 @@
--- What each route calls, given what of a message its call is read from (the queue service's routes of the Taskcluster reference).
+-- What each route calls, given what of a message its call is read from (the routes of the queue and hooks services of the Taskcluster reference).
 use Rattle.std.specs.Prelude.{◌≡◌, ◌⊎◌, ℕ, decimal, codes, bytes_eq, List, [], ◌∷◌, find, Option, Some, None}
 use Rattle.std.specs.List.{range_with_len}
+use Rattle.call_rules.specs.HookNames.{IsHookGroupId, IsHookId}
 use Rattle.farm_text.specs.Slug.{slug_of}
 use Rattle.task_defs.specs.Forms.{IsIdentifier, queue_name}
 use Rattle.task_defs.specs.Values.{IsQueue}
@@ -9,20 +10,18 @@ use Rattle.farm_record.specs.declared.change.Report.{Report}
 use Rattle.farm_record.specs.declared.change.Report.TheVariants.{Completed, Failed}
 use Rattle.farm_record.specs.declared.change.RunName.{RunName}
 use Rattle.farm_machine.specs.declared.question.Call.{Call}
-use Rattle.farm_machine.specs.declared.question.Call.TheVariants.{NoRoute, BadParameter, Ping, Task, Status, ListTaskGroup, ListDependentTasks, PendingTasks, ReclaimTask, ReportRun, ScheduleTask, RerunTask, CancelTask}
+use Rattle.farm_machine.specs.declared.question.Call.TheVariants.{BadParameter, Ping, Task, Status, ListTaskGroup, ListDependentTasks, PendingTasks, ReclaimTask, ReportRun, ScheduleTask, RerunTask, CancelTask}
 use Rattle.farm_machine.specs.declared.question.PageRequest.{PageRequest}
 use Rattle.farm_machine.specs.declared.question.Parameter.{Parameter}
-use Rattle.farm_machine.specs.declared.question.Parameter.TheVariants.{TaskId, RunId, TaskGroupId, Queue, Limit, ContinuationToken}
+use Rattle.farm_machine.specs.declared.question.Parameter.TheVariants.{TaskId, RunId, TaskGroupId, Queue, HookGroupId, HookId, Limit, ContinuationToken}
 use Rattle.route_table.specs.declared.route.Route.{Route}
 use Rattle.route_table.specs.declared.route.Route.TheVariants as routes
-use Rattle.api_routes.specs.Bodies.{IsCreateCall, IsWorkBody, IsReasonBody}
-use Rattle.api_routes.specs.Names.{route_name}
+use Rattle.api_routes.specs.Bodies.{IsCreateCall, IsWorkBody, IsReasonBody, IsTriggerBody}
 use Rattle.api_routes.specs.Queries.{values_of, limit_of, token_of}
 
--- what of a message a call is read from: its path; the parts of the path that stand for the route's parameters, percent-decoded (RFC 3986,
--- section 2.1); its query; and its body
+-- what of a message a call is read from: the parts of its path that stand for the route's parameters, percent-decoded (RFC 3986, section 2.1);
+-- its query; and its body
 pub record Request : Type 0 where
-  pub path : List ℕ
   pub parts : List (List ℕ)
   pub query : List ℕ
   pub body : List ℕ
@@ -102,7 +101,21 @@ CallsList asks named query (id ∷ []) call =
     call ≡ list_or asks named (slug_of id) (limit_of (values_of (codes "limit") query)) (token_of (values_of (codes "continuationToken") query))
 CallsList asks named query parts call = ⊥
 
--- ---- the table, a line a route; no hooks are served, so that of triggerHook calls nothing
+-- ---- of a hook
+
+-- the call of the hook of this group and this id: the first of them that is off its form is told
+abbrev pub CallsHookOf : List ℕ → List ℕ → List ℕ → Call → Type 0
+CallsHookOf body group id call =
+    ((¬ IsHookGroupId group) × (call ≡ BadParameter HookGroupId))
+    ⊎ (IsHookGroupId group × (¬ IsHookId id) × (call ≡ BadParameter HookId))
+    ⊎ (IsHookGroupId group × IsHookId id × IsTriggerBody body group id call)
+
+-- its group and its id are parts of the path
+abbrev pub CallsHook : List ℕ → List (List ℕ) → Call → Type 0
+CallsHook body (group ∷ id ∷ []) call = CallsHookOf body group id call
+CallsHook body parts call = ⊥
+
+-- ---- the table, a line a route
 
 abbrev pub Calls : Route → Request → Call → Type 0
 Calls routes.Ping request call = call ≡ Ping
@@ -122,4 +135,4 @@ Calls routes.ListTaskGroup request call = CallsList ListTaskGroup TaskGroupId re
 Calls routes.ListDependentTasks request call = CallsList ListDependentTasks TaskId request.query request.parts call
 Calls routes.PendingTasks request call = CallsOfQueue Counts request.parts call
 Calls routes.PendingTasksInTwo request call = CallsOfQueue Counts request.parts call
-Calls routes.TriggerHook request call = call ≡ NoRoute (route_name request.path)
+Calls routes.TriggerHook request call = CallsHook request.body request.parts call

@@ -25,7 +25,6 @@ query_of target = after_first (λ b. b == 63) target
 -- what a call of a message is read from, where these parts of its path stand for the parameters of its route
 abbrev pub request_of : Message → List (List ℕ) → Request
 request_of message parameters = record {
-  path = path_of message.target;
   parts = map percent_decode parameters;
   query = query_of message.target;
   body = message.body;

@@ -3,15 +3,16 @@ ghost use Rattle.std.specs.Prelude.{◌≡◌, ℕ, List, IfOk, MatchOption};
 ghost use Rattle.farm_text.specs.Doc.{document};
 ghost use Rattle.farm_machine.specs.declared.question.WorkRequest.{WorkRequest as Request};
 ghost use Rattle.task_defs.specs.Forms.{IsIdentifier};
-ghost use Rattle.api_routes.specs.Bodies.{IsTaskBody, IsWorkBody, SaysWork, IsReasonBody};
+ghost use Rattle.api_routes.specs.Bodies.{IsTaskBody, IsWorkBody, SaysWork, IsReasonBody, IsTriggerBody};
 ghost use Rattle.api_routes.specs.Said.{IsSaid};
 
 use crate::requests::{asked_of, reason_of};
-use farm_machine::question::{BodyFault, Call, WorkRequest};
+use call_rules::HookName;
+use farm_machine::question::{BodyFault, Call, Trigger, WorkRequest};
 use farm_record::{Creation, Resolution, RunName};
 use farm_text::{Doc, ReadFault, SlugId, Text};
 use std::alloc::{AllocError, Global};
-use task_defs::{DefError, Identifier, TaskQueue, read_task};
+use task_defs::{DefError, Identifier, Object, TaskQueue, read_task};
 
 /// What a body is: a document, or none for this reason.
 #[derive(Drop)]
@@ -105,5 +106,19 @@ pub(crate) fn reason_call(alloc: Global, name: RunName, body: &[u8]) -> Result<C
             reason,
         })),
         None => Ok(Call::BadBody(BodyFault::NoReason)),
+    }
+}
+
+/// The call to trigger this hook with the object that the body is, or the body's fault.
+pub(crate) fn payload_call(alloc: Global, hook: HookName, body: &[u8]) -> Result<Call, AllocError>
+    ensures { IfOk result (IsTriggerBody body.now hook.group hook.id) }
+{
+    let doc = match read(alloc, body)? {
+        Said::Document(doc) => doc,
+        Said::Fault(fault) => return Ok(Call::BadBody(fault)),
+    };
+    match Object::from_doc(doc) {
+        Some(payload) => Ok(Call::TriggerHook(Trigger { hook, payload })),
+        None => Ok(Call::BadBody(BodyFault::NoPayload)),
     }
 }

@@ -5,12 +5,14 @@ ghost use Rattle.farm_text.specs.Slug.{slug_of};
 ghost use Rattle.task_defs.specs.Forms.{queue_name};
 ghost use Rattle.api_routes.specs.Arity.{arity};
 ghost use Rattle.api_routes.specs.Bodies.{IsReasonBody, IsWorkBody};
-ghost use Rattle.api_routes.specs.Calls.{Calls, CallsTask, CallsCreate, CallsRun, CallsQueue, CallsOfQueue, CallsList, Reclaims, Reports, Counts};
+ghost use Rattle.api_routes.specs.Calls.{Calls, CallsTask, CallsCreate, CallsRun, CallsQueue, CallsOfQueue, CallsList, CallsHook, Reclaims, Reports, Counts};
 
-use crate::bodies::{definition_call, reason_call, work_call};
-use crate::names::no_route;
-use crate::parts::{Named, decoded, decoded_id, name_in_two, queue_of, run_name};
+use crate::bodies::{definition_call, payload_call, reason_call, work_call};
+use crate::parts::{
+    Named, decoded, decoded_id, hook_group_id, hook_id, name_in_two, queue_of, run_name,
+};
 use crate::queries::{PageAsked, page_of};
+use call_rules::HookName;
 use farm_machine::question::{Call, Parameter};
 use farm_record::{Report, Resolution};
 use route_table::Route;
@@ -21,13 +23,11 @@ pub(crate) fn route_call(
     alloc: Global,
     route: Route,
     parts: &[&[u8]],
-    path: &[u8],
     query: &[u8],
     body: &[u8],
 ) -> Result<Call, AllocError>
     requires { length parts.now ≡ arity route }
     ensures { IfOk result (Calls route (record {
-      path = path.now;
       parts = map percent_decode (map (λ part. part.now) parts.now);
       query = query.now;
       body = body.now;
@@ -51,7 +51,7 @@ pub(crate) fn route_call(
         Route::ListDependentTasks => dependants_call(alloc, parts[0], query),
         Route::PendingTasks => pending_call(alloc, parts[0]),
         Route::PendingTasksInTwo => pending_in_two(alloc, parts[0], parts[1]),
-        Route::TriggerHook => no_route(alloc, path),
+        Route::TriggerHook => trigger_call(alloc, parts[0], parts[1], body),
     }
 }
 
@@ -232,4 +232,17 @@ fn dependants_call(alloc: Global, id: &[u8], query: &[u8]) -> Result<Call, Alloc
         PageAsked::Page(page) => Ok(Call::ListDependentTasks(id, page)),
         PageAsked::Bad(parameter) => Ok(Call::BadParameter(parameter)),
     }
+}
+
+/// The call to trigger the hook whose group and id are percent-encoded in a path, with this body.
+fn trigger_call(alloc: Global, group: &[u8], id: &[u8], body: &[u8]) -> Result<Call, AllocError>
+    ensures { IfOk result (CallsHook body.now (percent_decode group.now ∷ percent_decode id.now ∷ [])) }
+{
+    let Some(group) = hook_group_id(alloc, group)? else {
+        return Ok(Call::BadParameter(Parameter::HookGroupId));
+    };
+    let Some(id) = hook_id(alloc, id)? else {
+        return Ok(Call::BadParameter(Parameter::HookId));
+    };
+    payload_call(alloc, HookName { group, id }, body)
 }

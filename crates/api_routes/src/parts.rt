@@ -5,12 +5,14 @@ ghost use Rattle.percent_encoding.specs.Percent.{percent_decode};
 ghost use Rattle.farm_text.specs.Slug.{slug_of};
 ghost use Rattle.task_defs.specs.Forms.{IsIdentifier, queue_name};
 ghost use Rattle.task_defs.specs.Values.{IsQueue};
+ghost use Rattle.call_rules.specs.HookNames.{IsHookGroupId, IsHookId};
 ghost use Rattle.api_routes.specs.Calls as calls;
 ghost use Rattle.api_routes.specs.Named.{named_of};
 
+use call_rules::{HookGroupId, HookId};
 use farm_machine::question::Parameter;
 use farm_record::RunName;
-use farm_text::SlugId;
+use farm_text::{SlugId, Text};
 use itoa::Buffer;
 use percent_encoding::percent_decode;
 use std::alloc::{AllocError, Global};
@@ -109,6 +111,30 @@ pub(crate) fn queue_of(alloc: Global, name: &[u8]) -> Result<Option<TaskQueue>, 
 {
     match str::from_utf8(name) {
         Ok(name) => TaskQueue::from_name(alloc, name),
+        Err(_) => Ok(None),
+    }
+}
+
+/// The id of a group of hooks that is percent-encoded in a path, where it is one.
+pub(crate) fn hook_group_id(alloc: Global, part: &[u8]) -> Result<Option<HookGroupId>, AllocError>
+    ensures { IfOk result (λ found. MatchOption found (¬ IsHookGroupId (percent_decode part.now))
+        (λ group. IsHookGroupId (percent_decode part.now) × (group ≡ percent_decode part.now))) }
+{
+    let text = decoded(alloc, part)?;
+    match str::from_utf8(&text) {
+        Ok(text) => Ok(HookGroupId::new(Text::from_str(alloc, text)?)),
+        Err(_) => Ok(None),
+    }
+}
+
+/// The id of a hook that is percent-encoded in a path, where it is one.
+pub(crate) fn hook_id(alloc: Global, part: &[u8]) -> Result<Option<HookId>, AllocError>
+    ensures { IfOk result (λ found. MatchOption found (¬ IsHookId (percent_decode part.now))
+        (λ id. IsHookId (percent_decode part.now) × (id ≡ percent_decode part.now))) }
+{
+    let text = decoded(alloc, part)?;
+    match str::from_utf8(&text) {
+        Ok(text) => Ok(HookId::new(Text::from_str(alloc, text)?)),
         Err(_) => Ok(None),
     }
 }

@@ -18,7 +18,7 @@ pub fn call_of(alloc: Global, table: &Table, message: &Message) -> Result<Call, 
     match table.route(alloc, message.method.as_slice(), path)? {
         Some(Found { route, parameters }) => {
             let body = message.body.as_slice();
-            route_call(alloc, route, parameters.as_slice(), path, query, body)
+            route_call(alloc, route, parameters.as_slice(), query, body)
         }
         None => no_route(alloc, path),
     }

@@ -12,6 +12,7 @@ use Rattle.farm_text.proofs.SlugLemmas.{slug_of_uuid}
 use Rattle.scope_sets.specs.Scopes.{IsPrintable}
 use Rattle.scope_sets.specs.Expressions.{Expression, one, view}
 use Rattle.scope_sets.specs.declared.expressions.Expr.{Expr, One, the_lemmas}
+use Rattle.call_rules.specs.HookNames.{IsHookByte, IsHookGroupId, IsHookId}
 use Rattle.call_rules.specs.Texts.{is_printable, are_printable}
 use Rattle.task_defs.specs.Forms.{IsIdentifierByte, IsProjectByte, IsIdentifier, IsProject}
 
@@ -39,6 +40,16 @@ identifier_printable t form = All-weaker IsIdentifierByte IsPrintable identifier
 
 pub project_printable : (t : List ℕ) → IsProject t → All IsPrintable t
 project_printable t form = All-weaker IsProjectByte IsPrintable project_byte t form.bytes
+
+hook_byte : (b : ℕ) → IsHookByte b → IsPrintable b
+hook_byte b (inl h) = identifier_byte b h
+hook_byte b (inr e) = (omega (arith, e), omega (arith, e))
+
+pub group_printable : (t : List ℕ) → IsHookGroupId t → All IsPrintable t
+group_printable t form = All-weaker IsIdentifierByte IsPrintable identifier_byte t form.bytes
+
+pub hook_printable : (t : List ℕ) → IsHookId t → All IsPrintable t
+hook_printable t form = All-weaker IsHookByte IsPrintable hook_byte t form.bytes
 
 pub printable : (bs : List ℕ) → are_printable bs ≡ true → All IsPrintable bs
 printable [] all = All-nil IsPrintable

@@ -1,2 +1,3 @@
+pub mod HookNames
 pub mod Policy
 pub mod Texts

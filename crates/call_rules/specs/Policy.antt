@@ -1,4 +1,4 @@
--- What each call asks of its caller's scopes: the table of calls (this project's profile, formed after the scopes of the Taskcluster reference's queue service).
+-- What each call asks of its caller's scopes: the table of calls (this project's profile, formed after the scopes of the Taskcluster reference's queue and hooks services).
 use Rattle.std.specs.Prelude.{ℕ, nat_le, List, [], ◌∷◌, ◌++◌, map, codes, decimal}
 use Rattle.std.specs.List.{filter}
 use Rattle.farm_text.specs.Slug.{slug_text}
@@ -9,8 +9,10 @@ use Rattle.task_defs.specs.declared.choices.Priority.{Priority}
 use Rattle.task_defs.specs.declared.choices.Priority.TheVariants.{Highest, VeryHigh, High, Medium, Low, VeryLow, Lowest}
 use Rattle.task_defs.specs.declared.names.TaskQueue.{TaskQueue}
 use Rattle.task_defs.specs.declared.task_def.TaskDef.{TaskDef}
+use Rattle.call_rules.specs.HookNames.{hook_name}
 use Rattle.call_rules.specs.declared.calls.Call.{Call}
-use Rattle.call_rules.specs.declared.calls.Call.TheVariants.{Ping, Task, Status, ListTaskGroup, ListDependentTasks, PendingTasks, CreateTask, ClaimWork, ReclaimTask, ResolveRun, ScheduleTask, RerunTask, CancelTask}
+use Rattle.call_rules.specs.declared.calls.Call.TheVariants.{Ping, Task, Status, ListTaskGroup, ListDependentTasks, PendingTasks, CreateTask, ClaimWork, ReclaimTask, ResolveRun, ScheduleTask, RerunTask, CancelTask, TriggerHook}
+use Rattle.call_rules.specs.declared.hook_names.HookName.{HookName}
 
 -- the place of a priority, from the highest
 abbrev pub rank : Priority → ℕ
@@ -101,6 +103,14 @@ rerun_policy id def = manage_policy (codes "queue:rerun-task:") (codes "queue:re
 abbrev pub cancel_policy : List ℕ → TaskDef → Expression
 cancel_policy id def = manage_policy (codes "queue:cancel-task:") (codes "queue:cancel-task-in-project:") id def
 
+-- what triggerHook asks
+abbrev pub trigger_policy : HookName → Expression
+trigger_policy hook = one (codes "hooks:trigger-hook:" ++ hook_name hook.group hook.id)
+
+-- the scope that a hook has: what roles give to it, its tasks may ask for
+abbrev pub hook_start : HookName → List ℕ
+hook_start hook = codes "assume:hook-id:" ++ hook_name hook.group hook.id
+
 -- the table of calls, a line each
 abbrev pub policy : Call → Expression
 policy Ping = all_of no_members
@@ -116,3 +126,4 @@ policy (ResolveRun id run) = resolve_policy id run
 policy (ScheduleTask id def) = schedule_policy id def.now
 policy (RerunTask id def) = rerun_policy id def.now
 policy (CancelTask id def) = cancel_policy id def.now
+policy (TriggerHook hook) = trigger_policy hook.now

@@ -4,6 +4,8 @@ ghost use Rattle.scope_sets.specs.Expressions.{view, all_of, no_members};
 ghost use Rattle.call_rules.specs.Policy.{policy};
 
 use crate::create::create_policy;
+use crate::hook_names::HookName;
+use crate::hooks::trigger_scope;
 use crate::manage::{cancel_scopes, rerun_scopes, schedule_scopes};
 use crate::reads::{
     list_dependants_scope, list_group_scope, pending_scope, status_scope, task_scope,
@@ -43,6 +45,8 @@ pub enum Call<'a> {
     RerunTask(SlugId, &'a TaskDef),
     /// To cancel the task with this id and definition.
     CancelTask(SlugId, &'a TaskDef),
+    /// To trigger the hook of this name.
+    TriggerHook(&'a HookName),
 }
 
 /// What the call asks of its caller's scopes.
@@ -63,6 +67,7 @@ pub fn expression(alloc: Global, call: Call<'_>) -> Result<Expr, AllocError>
         Call::ScheduleTask(id, def) => schedule_scopes(alloc, id, def),
         Call::RerunTask(id, def) => rerun_scopes(alloc, id, def),
         Call::CancelTask(id, def) => cancel_scopes(alloc, id, def),
+        Call::TriggerHook(hook) => trigger_scope(alloc, hook),
     }
 }
 

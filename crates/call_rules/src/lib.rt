@@ -6,6 +6,8 @@
 
 mod calls;
 mod create;
+mod hook_names;
+mod hooks;
 mod laws;
 mod manage;
 mod reads;
@@ -14,6 +16,8 @@ mod work;
 
 pub use calls::{Call, expression, ping_scopes};
 pub use create::create_policy;
+pub use hook_names::{HookGroupId, HookId, HookName, is_hook_group_id, is_hook_id};
+pub use hooks::{hook_name, hook_scope, trigger_scope};
 pub use laws::a_lower_priority_asks_less;
 pub use manage::{cancel_scopes, rerun_scopes, schedule_scopes};
 pub use reads::{list_dependants_scope, list_group_scope, pending_scope, status_scope, task_scope};

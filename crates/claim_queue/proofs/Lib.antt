@@ -2,3 +2,17 @@ pub mod HeldLemmas
 pub mod PlaceLemmas
 pub mod FirstLemmas
 pub mod LeastLemmas
+pub mod HeapLemmas
+pub mod MoveLemmas
+pub mod StepLemmas
+pub mod EditLemmas
+pub mod TableLemmas
+pub mod DueLemmas
+pub mod WaitLemmas
+pub mod WiderLemmas
+pub mod QueueLemmas
+pub mod ReserveLemmas
+pub mod DueMoves
+pub mod WaitMoves
+pub mod DueRoom
+pub mod WaitRoom

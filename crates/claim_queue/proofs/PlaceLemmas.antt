@@ -1,39 +1,13 @@
 -- Entries and what they tell.
-use Rattle.std.proofs.Common.{◌≡◌, ℕ, zero, suc, ◌+◌, ◌-◌, ◌<◌, ◌≤◌, Bool, true, false, if◌then◌else◌, List, [], ◌∷◌, ◌++◌, map, length, replicate, Option, Some, None, option_map, refl, sym, ap, ◌∙◌, slice_get, slice_index_or, slice_set, subst, arith}
-use Rattle.std.specs.List.{filter, reduce, count_by}
+use Rattle.std.proofs.Common.{◌≡◌, ℕ, zero, suc, ◌+◌, ◌-◌, ◌<◌, ◌≤◌, Bool, true, false, List, [], ◌∷◌, ◌++◌, map, length, replicate, Option, Some, None, option_map, refl, sym, ap, ◌∙◌, slice_get, slice_index_or, slice_set, subst, arith}
 use Rattle.std.specs.Str.{bytes_eq}
 use Rattle.claim_queue.specs.declared.entries.Entry.{Entry}
 use Rattle.claim_queue.specs.declared.queues.Queue.{Queue}
-use Rattle.claim_queue.specs.Held.{held_from, up_to}
-use Rattle.claim_queue.specs.Waits.{Waiting, Waits, knows, raised, with_room, roomier, room_in, waits_in, count_in, spare_in, goes_before, better, best_of}
-use Rattle.claim_queue.specs.Places.{name_at, told, told_rows, ArePlaced, better_entry}
-use Rattle.claim_queue.proofs.HeldLemmas.{held_from-map, filter-map, reduce-map, within-held, count-map}
+use Rattle.claim_queue.specs.Held.{up_to}
+use Rattle.claim_queue.specs.Waits.{Waiting, Waits, knows, raised, with_room, roomier, room_in, count_in, spare_in}
+use Rattle.claim_queue.specs.Places.{name_at, told, told_rows, ArePlaced}
+use Rattle.claim_queue.proofs.HeldLemmas.{within-held}
 use Rattle.std.proofs.lemmas.List.{map-set}
-
--- what an entry and its row tell
-abbrev tell : List Queue → Entry × ℕ → Waiting × ℕ
-tell queues r = (told queues r.0, r.1)
-
-tell-better : (queues : List Queue) (a b : Entry × ℕ) → tell queues (better_entry a b) ≡ better (tell queues a) (tell queues b)
-tell-better queues a b = by (goes_before (told [] b.0) (told [] a.0)) where
-  by : (t : Bool) → tell queues (if t then b else a) ≡ (if t then tell queues b else tell queues a)
-  by true = refl
-  by false = refl
-
-row-told : (queues : List Queue) (o : Option (Entry × ℕ)) → option_map (λ (r : Waiting × ℕ). r.1) (option_map (tell queues) o) ≡ option_map (λ (r : Entry × ℕ). r.1) o
-row-told queues None = refl
-row-told queues (Some r) = refl
-
--- the best of the entries is the best of what they tell
-pub best-told : (queues : List Queue) (rows : List (Option Entry)) (queue : List ℕ) (waits : Waits) → waits.rows ≡ told_rows queues rows
-    → best_of queue waits ≡ option_map (λ (r : Entry × ℕ). r.1) (reduce better_entry (filter (λ r. bytes_eq (told queues r.0).queue queue) (held_from 0 rows)))
-best-told queues rows queue waits is =
-    let all : held_from 0 waits.rows ≡ map (tell queues) (held_from 0 rows) = ap (held_from 0) is ∙ held_from-map (told queues) 0 rows in
-    let kept : filter (λ (r : Waiting × ℕ). bytes_eq r.0.queue queue) (held_from 0 waits.rows) ≡ map (tell queues) (filter (λ (r : Entry × ℕ). bytes_eq (told queues r.0).queue queue) (held_from 0 rows)) =
-    ap (filter (λ (r : Waiting × ℕ). bytes_eq r.0.queue queue)) all ∙ filter-map (tell queues) (λ (r : Waiting × ℕ). bytes_eq r.0.queue queue) (held_from 0 rows) in
-    let chosen : reduce better (filter (λ (r : Waiting × ℕ). bytes_eq r.0.queue queue) (held_from 0 waits.rows)) ≡ option_map (tell queues) (reduce better_entry (filter (λ (r : Entry × ℕ). bytes_eq (told queues r.0).queue queue) (held_from 0 rows))) =
-    ap (reduce better) kept ∙ reduce-map (tell queues) better_entry better (tell-better queues) (filter (λ (r : Entry × ℕ). bytes_eq (told queues r.0).queue queue) (held_from 0 rows)) in
-    ap (option_map (λ (r : Waiting × ℕ). r.1)) chosen ∙ row-told queues (reduce better_entry (filter (λ (r : Entry × ℕ). bytes_eq (told queues r.0).queue queue) (held_from 0 rows)))
 
 -- ---- the places of entries
 
@@ -65,12 +39,12 @@ placed-wider places wider [] le placed = tt
 placed-wider places wider (None ∷ rows) le placed = placed-wider places wider rows le placed
 placed-wider places wider (Some e ∷ rows) le placed = (let h = placed.0 in omega arith, placed-wider places wider rows le placed.1)
 
-name-front : (queues more : List Queue) (place : ℕ) → place < length queues → name_at place (queues ++ more) ≡ name_at place queues
+pub name-front : (queues more : List Queue) (place : ℕ) → place < length queues → name_at place (queues ++ more) ≡ name_at place queues
 name-front [] more place within = absurd (omega arith)
 name-front (queue ∷ queues) more zero within = refl
 name-front (queue ∷ queues) more (suc place) within = name-front queues more place (omega arith)
 
-name-raised : (name : List ℕ) (room : ℕ) (queues : List Queue) (place : ℕ) → name_at place (map (raised name room) queues) ≡ name_at place queues
+pub name-raised : (name : List ℕ) (room : ℕ) (queues : List Queue) (place : ℕ) → name_at place (map (raised name room) queues) ≡ name_at place queues
 name-raised name room [] place = refl
 name-raised name room (queue ∷ queues) zero = by (bytes_eq queue.name name) refl where
   by : (t : Bool) → bytes_eq queue.name name ≡ t → name_at zero (map (raised name room) (queue ∷ queues)) ≡ queue.name
@@ -133,6 +107,13 @@ no-spare name queues waits is none spare =
     let left : 1 ≤ 0 - count_in name waits = subst P zero_ spare in
     omega arith
 
+-- and no room is left in it
+pub spare-none : (name : List ℕ) (queues : List Queue) (waits : Waits) → queues ≡ waits.queues → ((place : ℕ) → place < length queues → bytes_eq (name_at place queues) name ≡ false) → 0 ≡ spare_in name waits
+spare-none name queues waits same none =
+    let zero_ : room_in name waits.queues ≡ 0 = ap (room_in name) (sym same) ∙ no-room name queues none in
+    let left : 0 - count_in name waits ≡ 0 = omega arith in
+    sym (ap (λ n. n - count_in name waits) zero_ ∙ left)
+
 -- a row that is told stands among the entries
 pub told-within : (queues : List Queue) (rows : List (Option Entry)) (waits : Waits) (row : ℕ) → waits.rows ≡ told_rows queues rows → slice_get waits.rows row ≡ Some None → row < length rows
 told-within queues rows waits row is absent =
@@ -152,15 +133,6 @@ pub told-clear : (queues : List Queue) (rows : List (Option Entry)) (waits : Wai
 told-clear queues rows waits row told_ =
     map-set (option_map (told queues)) rows row None ∙ ap (λ (l : List (Option Waiting)). slice_set l row None) told_
 
--- the best of the entries, by what the call has
-pub best-shown : (queues seen : List Queue) (rows found : List (Option Entry)) (name : List ℕ) (waits : Waits) (best : Option (Entry × ℕ)) → told_rows queues rows ≡ waits.rows → seen ≡ queues → found ≡ rows
-    → best ≡ reduce better_entry (filter (λ r. bytes_eq (told seen r.0).queue name) (held_from 0 found)) → option_map (λ (r : Entry × ℕ). r.1) best ≡ best_of name waits
-best-shown queues seen rows found name waits best told_ same_queues same_rows is =
-    let e : best ≡ reduce better_entry (filter (λ r. bytes_eq (told queues r.0).queue name) (held_from 0 rows)) =
-    is ∙ (ap (λ (k : List Queue). reduce better_entry (filter (λ r. bytes_eq (told k r.0).queue name) (held_from 0 found))) same_queues
-    ∙ ap (λ (k : List (Option Entry)). reduce better_entry (filter (λ r. bytes_eq (told queues r.0).queue name) (held_from 0 k))) same_rows) in
-    ap (option_map (λ (r : Entry × ℕ). r.1)) e ∙ sym (best-told queues rows name waits (sym told_))
-
 -- ---- the collection as it is seen
 
 abbrev pub waits_of : List Queue → List (Option Waiting) → Waits
@@ -169,44 +141,54 @@ waits_of queues rows = record { queues = queues; rows = rows }
 pub waits-same : (queues later : List Queue) (rows after : List (Option Waiting)) → queues ≡ later → rows ≡ after → waits_of queues rows ≡ waits_of later after
 waits-same queues later rows after p q = ap (λ (k : List Queue). waits_of k rows) p ∙ ap (λ (r : List (Option Waiting)). waits_of later r) q
 
--- how many entries of a queue there are
-pub count-shown : (name : List ℕ) (queues seen : List Queue) (rows found : List (Option Entry)) (waits : Waits) (count : ℕ) → told_rows queues rows ≡ waits.rows → seen ≡ queues → found ≡ rows
-    → count ≡ count_by (λ row. waits_in name (option_map (told seen) row)) found → count ≡ count_in name waits
-count-shown name queues seen rows found waits count told_ same_queues same_rows is =
-    is ∙ (ap (λ (k : List Queue). count_by (λ row. waits_in name (option_map (told k) row)) found) same_queues
-    ∙ (ap (count_by (λ row. waits_in name (option_map (told queues) row))) same_rows
-    ∙ (count-map (option_map (told queues)) (waits_in name) rows ∙ ap (count_by (waits_in name)) told_)))
+-- nothing is changed
+pub stays-shown : (queues later : List Queue) (rows after : List (Option Entry)) (waits : Waits) → later ≡ queues → after ≡ rows → waits_of queues (told_rows queues rows) ≡ waits → waits_of later (told_rows later after) ≡ waits
+stays-shown queues later rows after waits same_queues same_rows seen =
+    ap (λ (k : List Queue). waits_of k (told_rows k after)) same_queues ∙ (ap (λ (r : List (Option Entry)). waits_of queues (told_rows queues r)) same_rows ∙ seen)
 
 -- room is made in a queue that is known
-pub room-known : (name : List ℕ) (more below room : ℕ) (queues after : List Queue) (rows later : List (Option Entry)) (waits : Waits) → ArePlaced (length queues) rows → queues ≡ waits.queues → told_rows queues rows ≡ waits.rows
-    → room ≡ count_in name waits + more → knows name queues ≡ true → after ≡ map (raised name room) queues → later ≡ up_to below rows → waits_of after (told_rows after later) ≡ roomier name more below waits
-room-known name more below room queues after rows later waits placed same told_ room_is known after_is later_is =
-    let known_ : knows name waits.queues ≡ true = ap (knows name) (sym same) ∙ known in
-    let wanted : with_room name (count_in name waits + more) waits.queues ≡ map (raised name (count_in name waits + more)) waits.queues = rw known_ refl in
-    let new_queues : after ≡ with_room name (count_in name waits + more) waits.queues =
-    after_is ∙ (ap (λ n. map (raised name n) queues) room_is ∙ (ap (map (raised name (count_in name waits + more))) same ∙ sym wanted)) in
+pub wider-shown : (name : List ℕ) (room below : ℕ) (queues after : List Queue) (rows later : List (Option Entry)) (waits : Waits) → ArePlaced (length queues) rows → queues ≡ waits.queues → told_rows queues rows ≡ waits.rows
+    → after ≡ map (raised name room) queues → later ≡ up_to below rows → waits_of after (told_rows after later) ≡ waits_of (map (raised name room) waits.queues) (up_to below waits.rows)
+wider-shown name room below queues after rows later waits placed same told_ after_is later_is =
     let new_rows : told_rows after later ≡ up_to below waits.rows =
     ap (told_rows after) later_is ∙ (ap (λ (k : List Queue). told_rows k (up_to below rows)) after_is
     ∙ (told-raised name room queues (up_to below rows) (placed-more (length queues) rows (below - length rows) placed)
     ∙ (told-up_to queues below rows ∙ ap (up_to below) told_))) in
-    waits-same after (with_room name (count_in name waits + more) waits.queues) (told_rows after later) (up_to below waits.rows) new_queues new_rows
+    waits-same after (map (raised name room) waits.queues) (told_rows after later) (up_to below waits.rows) (after_is ∙ ap (map (raised name room)) same) new_rows
+
+pub known-roomier : (name : List ℕ) (more below room : ℕ) (waits : Waits) → room ≡ count_in name waits + more → knows name waits.queues ≡ true → waits_of (map (raised name room) waits.queues) (up_to below waits.rows) ≡ roomier name more below waits
+known-roomier name more below room waits room_is known =
+    let wanted : with_room name (count_in name waits + more) waits.queues ≡ map (raised name (count_in name waits + more)) waits.queues = rw known refl in
+    ap (λ (k : List Queue). waits_of k (up_to below waits.rows)) (ap (λ n. map (raised name n) waits.queues) room_is ∙ sym wanted)
 
 -- room is made in a queue that was not known
-pub room-new : (name : List ℕ) (more below room : ℕ) (queues after : List Queue) (rows later : List (Option Entry)) (waits : Waits) → ArePlaced (length queues) rows → queues ≡ waits.queues → told_rows queues rows ≡ waits.rows
-    → room ≡ count_in name waits + more → knows name queues ≡ false → after ≡ queues ++ record { name = name; room = room } ∷ [] → later ≡ up_to below rows → waits_of after (told_rows after later) ≡ roomier name more below waits
-room-new name more below room queues after rows later waits placed same told_ room_is known after_is later_is =
-    let known_ : knows name waits.queues ≡ false = ap (knows name) (sym same) ∙ known in
-    let made : ℕ → Queue = λ n. record { name = name; room = n } in
-    let wanted : with_room name (count_in name waits + more) waits.queues ≡ waits.queues ++ made (count_in name waits + more) ∷ [] = rw known_ refl in
-    let new_queues : after ≡ with_room name (count_in name waits + more) waits.queues =
-    after_is ∙ (ap (λ n. queues ++ made n ∷ []) room_is ∙ (ap (λ (k : List Queue). k ++ made (count_in name waits + more) ∷ []) same ∙ sym wanted)) in
+pub new-shown : (name : List ℕ) (room below : ℕ) (queues after : List Queue) (rows later : List (Option Entry)) (waits : Waits) → ArePlaced (length queues) rows → queues ≡ waits.queues → told_rows queues rows ≡ waits.rows
+    → after ≡ queues ++ record { name = name; room = room } ∷ [] → later ≡ up_to below rows → waits_of after (told_rows after later) ≡ waits_of (waits.queues ++ record { name = name; room = room } ∷ []) (up_to below waits.rows)
+new-shown name room below queues after rows later waits placed same told_ after_is later_is =
+    let made : Queue = record { name = name; room = room } in
     let new_rows : told_rows after later ≡ up_to below waits.rows =
     ap (told_rows after) later_is ∙ (ap (λ (k : List Queue). told_rows k (up_to below rows)) after_is
-    ∙ (told-wider queues (made room ∷ []) (up_to below rows) (placed-more (length queues) rows (below - length rows) placed)
+    ∙ (told-wider queues (made ∷ []) (up_to below rows) (placed-more (length queues) rows (below - length rows) placed)
     ∙ (told-up_to queues below rows ∙ ap (up_to below) told_))) in
-    waits-same after (with_room name (count_in name waits + more) waits.queues) (told_rows after later) (up_to below waits.rows) new_queues new_rows
+    waits-same after (waits.queues ++ made ∷ []) (told_rows after later) (up_to below waits.rows) (after_is ∙ ap (λ (k : List Queue). k ++ made ∷ []) same) new_rows
+
+pub new-roomier : (name : List ℕ) (more below room : ℕ) (waits : Waits) → room ≡ count_in name waits + more → knows name waits.queues ≡ false → waits_of (waits.queues ++ record { name = name; room = room } ∷ []) (up_to below waits.rows) ≡ roomier name more below waits
+new-roomier name more below room waits room_is known =
+    let made : ℕ → Queue = λ n. record { name = name; room = n } in
+    let wanted : with_room name (count_in name waits + more) waits.queues ≡ waits.queues ++ made (count_in name waits + more) ∷ [] = rw known refl in
+    ap (λ (k : List Queue). waits_of k (up_to below waits.rows)) (ap (λ n. waits.queues ++ made n ∷ []) room_is ∙ sym wanted)
 
 pub placed-after : (places wider : ℕ) (rows later : List (Option Entry)) (below : ℕ) → ArePlaced places rows → places ≤ wider → later ≡ up_to below rows → ArePlaced wider later
 placed-after places wider rows later below placed le is =
     let P : List (Option Entry) → Type 0 = λ r. ArePlaced wider r in
     subst P (sym is) (placed-more wider rows (below - length rows) (placed-wider places wider rows le placed))
+
+-- a row that tells nothing has no entry
+none-told : (queues : List Queue) (rows : List (Option Entry)) (row : ℕ) → slice_get (told_rows queues rows) row ≡ Some None → slice_get rows row ≡ Some None
+none-told queues [] row none = cc
+none-told queues (None ∷ rows) zero none = refl
+none-told queues (Some e ∷ rows) zero none = absurd (cc)
+none-told queues (o ∷ rows) (suc row) none = none-told queues rows row none
+
+pub not-told : (queues : List Queue) (rows : List (Option Entry)) (waits : Waits) (row : ℕ) → told_rows queues rows ≡ waits.rows → slice_get waits.rows row ≡ Some None → slice_get rows row ≡ Some None
+not-told queues rows waits row is none = none-told queues rows row (ap (λ (l : List (Option Waiting)). slice_get l row) is ∙ none)

@@ -3,3 +3,7 @@ pub mod Dues
 pub mod Waits
 pub mod Places
 pub mod Firsts
+pub mod Heaps
+pub mod Counts
+pub mod DueHeaps
+pub mod WaitHeaps

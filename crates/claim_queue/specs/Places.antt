@@ -1,9 +1,9 @@
 -- How rows that wait are kept: each with the place of its queue. The contracts of private functions alone speak of these.
-use Rattle.std.specs.Prelude.{ℕ, ◌<◌, List, [], ◌∷◌, map, Option, Some, None, option_map, slice_get, if◌then◌else◌}
+use Rattle.std.specs.Prelude.{ℕ, ◌<◌, List, [], ◌∷◌, map, Option, Some, None, option_map, slice_get}
 use Rattle.std.specs.Option.{option_map_or}
 use Rattle.claim_queue.specs.declared.entries.Entry.{Entry}
 use Rattle.claim_queue.specs.declared.queues.Queue.{Queue}
-use Rattle.claim_queue.specs.Waits.{Waiting, goes_before}
+use Rattle.claim_queue.specs.Waits.{Waiting}
 
 -- the name of the queue at a place
 abbrev pub name_at : ℕ → List Queue → List ℕ
@@ -22,7 +22,3 @@ abbrev pub ArePlaced : ℕ → List (Option Entry) → Type 0
 ArePlaced places [] = Unit {0}
 ArePlaced places (None ∷ rows) = ArePlaced places rows
 ArePlaced places (Some entry ∷ rows) = (entry.queue < places) × ArePlaced places rows
-
--- of two entries, each with its row, the one that goes before the other, and else the first
-abbrev pub better_entry : Entry × ℕ → Entry × ℕ → Entry × ℕ
-better_entry best row = if goes_before (told [] row.0) (told [] best.0) then row else best

@@ -1,5 +1,5 @@
 -- Rows that wait for a worker, each in its queue (the queue service of the Taskcluster reference: by priority, then the longest waiting).
-use Rattle.std.specs.Prelude.{ℕ, ◌+◌, ◌-◌, max, Bool, false, ◌&&◌, ◌||◌, ◌==◌, nat_lt, List, [], ◌∷◌, ◌++◌, map, find, filter, Option, option_map, if◌then◌else◌}
+use Rattle.std.specs.Prelude.{ℕ, ◌+◌, ◌-◌, max, Bool, false, ◌&&◌, ◌||◌, ◌==◌, nat_lt, List, [], ◌∷◌, ◌++◌, map, find, filter, Option, None, option_map, slice_index_or, if◌then◌else◌}
 use Rattle.std.specs.Option.{option_map_or}
 use Rattle.std.specs.List.{list_any, count_by, reduce}
 use Rattle.std.specs.Str.{bytes_eq}
@@ -34,6 +34,10 @@ waits_in name row = option_map_or (λ waiting. bytes_eq waiting.queue name) row 
 -- how many rows wait in the queue
 abbrev pub count_in : List ℕ → Waits → ℕ
 count_in name waits = count_by (waits_in name) waits.rows
+
+-- the queue in which a row waits
+abbrev pub queue_of : ℕ → Waits → List ℕ
+queue_of row waits = option_map_or (λ waiting. waiting.queue) (slice_index_or waits.rows row None) []
 
 -- for how many more rows there is room in the queue
 abbrev pub spare_in : List ℕ → Waits → ℕ

@@ -1,23 +1,33 @@
 //! Rows that wait for a worker, each in its queue.
-ghost use Rattle.std.specs.Prelude.{◌≡◌, ◌≤◌, Some, None, IsSome, is_some, option_map, slice_get, slice_set, slice_index_or, MatchResult};
-ghost use Rattle.claim_queue.specs.Waits.{no_waits, spare_in, roomier, best_of};
+ghost use Rattle.std.specs.Prelude.{◌≡◌, ℕ, ◌≤◌, ◌<◌, ◌++◌, ◌∷◌, [], false, length, map, Some, None, IsSome, is_some, option_map, slice_get, slice_set, slice_index_or, MatchResult};
+ghost use Rattle.std.specs.Str.{bytes_eq};
+ghost use Rattle.claim_queue.specs.Held.{up_to};
+ghost use Rattle.claim_queue.specs.Waits.{no_waits, spare_in, count_in, queue_of, raised, roomier, best_of};
+ghost use Rattle.claim_queue.specs.Places.{name_at};
+ghost use Rattle.claim_queue.specs.Counts.{AreFew};
 
-use crate::entries::{Entry, best_entry, count_in};
-use crate::queues::{Queue, knows, place_of, raise, room_in};
-use crate::room::make_rows;
+use crate::entries::{Entry, entry_turn};
+use crate::heap_edits::{insert, remove};
+use crate::queues::{Queue, place_of, raise, room_in};
+use crate::room::{make_heap, make_room};
+use crate::steps::Steps;
+use crate::turns::{Turn, top_row};
 use farm_text::Text;
 use std::alloc::{AllocError, Global};
 use std::marker::Model;
+use std::sync::ledger::Ledger;
 use task_defs::Priority;
 
 /// Rows that wait for a worker, each in its queue.
 ///
 /// Contracts see the queues, each with the number of rows for which room was made in it, and of each row where it waits, if it is held.
-/// Rows may be held up to the number for which room was made.
+/// Rows may be held up to the number for which room was made. Each queue has an array heap, whose best row stands at the top.
 #[derive(Debug, Drop)]
 pub struct Pending {
     queues: Vec<Queue>,
+    heaps: Vec<Vec<Turn>>,
     rows: Vec<Option<Entry>>,
+    places: Vec<usize>,
 }
 
 impl Model for Pending {
@@ -27,10 +37,12 @@ impl Model for Pending {
     ghost Value = { Waits };
 
     ghost use Rattle.claim_queue.specs.Places.{told_rows, ArePlaced};
+    ghost use Rattle.claim_queue.specs.WaitHeaps.{AreQueued, HaveHeaps};
 
     ghost view = { λ p. record { queues = p.queues.items; rows = told_rows p.queues.items p.rows.items } };
 
-    ghost invariant = { λ p. (length p.rows.items < 2 ^ 32) × ArePlaced (length p.queues.items) p.rows.items };
+    ghost invariant = { λ p. (length p.rows.items < 2 ^ 32) × ArePlaced (length p.queues.items) p.rows.items
+        × AreQueued p.rows.items p.heaps.items p.places.items × HaveHeaps p.queues.items p.heaps.items };
 }
 
 impl Pending {
@@ -40,7 +52,9 @@ impl Pending {
     {
         Pending {
             queues: Vec::new(alloc),
+            heaps: Vec::new(alloc),
             rows: Vec::new(alloc),
+            places: Vec::new(alloc),
         }
     }
 
@@ -48,53 +62,110 @@ impl Pending {
     pub fn spare(&self, name: &Text) -> usize
         ensures { result ≡ spare_in name.now self.now }
     {
-        room_in(&self.queues, name).saturating_sub(count_in(&self.queues, &self.rows, name))
+        match place_of(&self.queues, name) {
+            Some(queue) => room_in(&self.queues, name).saturating_sub(self.heaps[queue].len()),
+            None => 0,
+        }
     }
 
     /// Makes room in a queue for so many more rows, and for all rows below a number. Where memory runs out, all stays as it was.
     pub fn reserve(&mut self, name: &Text, more: u32, below: u32) -> Result<(), AllocError>
         ensures { MatchResult result (λ _. self.new ≡ roomier name.now more below self.old) (λ _. self.new ≡ self.old) }
     {
-        let room = count_in(&self.queues, &self.rows, name) + more as usize;
-        if knows(&self.queues, name) {
-            make_rows(&mut self.rows, below)?;
-            raise(&mut self.queues, name, room);
-            return Ok(());
+        match place_of(&self.queues, name) {
+            Some(queue) => {
+                let room = self.heaps[queue].len() + more as usize;
+                self.make_wider(queue, name, room, below)
+            }
+            None => self.make_queue(name, more as usize, below),
         }
+    }
+
+    /// Makes room for so many rows in the queue at a place, and for all rows below a number.
+    fn make_wider(
+        &mut self,
+        queue: usize,
+        name: &Text,
+        room: usize,
+        below: u32,
+    ) -> Result<(), AllocError>
+        requires place { queue < length self.old.queues }
+        requires named { name_at queue self.old.queues ≡ name.now }
+        ensures { let made = map (raised name.now room) self.old.queues in
+            MatchResult result (λ _. self.new ≡ record { queues = made; rows = up_to below self.old.rows }) (λ _. self.new ≡ self.old) }
+    {
+        make_room(
+            &mut self.heaps[queue],
+            &mut self.places,
+            &mut self.rows,
+            room,
+            below,
+        )?;
+        raise(&mut self.queues, name, room);
+        Ok(())
+    }
+
+    /// Makes room for so many rows in a queue that comes behind the others, and for all rows below a number.
+    fn make_queue(&mut self, name: &Text, room: usize, below: u32) -> Result<(), AllocError>
+        requires { (place : ℕ) → place < length self.old.queues → bytes_eq (name_at place self.old.queues) name.now ≡ false }
+        ensures { let made = self.old.queues ++ record { name = name.now; room = room } ∷ [] in
+            MatchResult result (λ _. self.new ≡ record { queues = made; rows = up_to below self.old.rows }) (λ _. self.new ≡ self.old) }
+    {
         let name = name.clone()?;
-        self.queues.reserve(1)?;
-        make_rows(&mut self.rows, below)?;
+        let heap = make_heap(
+            &mut self.queues,
+            &mut self.heaps,
+            &mut self.places,
+            &mut self.rows,
+            room,
+            below,
+        )?;
         if self.queues.push(Queue { name, room }).is_err() {
+            unreachable!();
+        }
+        if self.heaps.push(heap).is_err() {
             unreachable!();
         }
         Ok(())
     }
 
     /// Lets a row wait in a queue. It takes no memory.
-    pub fn add(&mut self, row: u32, name: &Text, priority: Priority, number: u64)
+    pub fn add<L: Ledger>(
+        &mut self,
+        row: u32,
+        name: &Text,
+        priority: Priority,
+        number: u64,
+        steps: &mut Steps<L>,
+    )
         requires room { 1 ≤ spare_in name.now self.old }
         requires absent { slice_get self.old.rows row ≡ Some None }
-        ensures { self.new ≡ record self.old {
+        ensures rows { self.new ≡ record self.old {
           rows = slice_set self.old.rows row (Some (record { queue = name.now; priority = priority; number = number }));
         } }
+        ensures steps { AreFew (count_in name.now self.old) steps.old steps.new }
     {
         let Some(queue) = place_of(&self.queues, name) else {
             unreachable!();
         };
-        self.rows[row as usize] = Some(Entry {
+        let entry = Entry {
             queue,
             priority,
             number,
-        });
+        };
+        let turn = entry_turn(entry, row);
+        insert(&mut self.heaps[queue], &mut self.places, turn, steps);
+        self.rows[row as usize] = Some(entry);
     }
 
     /// The row that is claimed next in a queue: of those that wait in it the one of the highest priority, and of these the one with the
-    /// least number.
-    pub fn best(&self, name: &Text) -> Option<u32>
-        ensures { result ≡ best_of name.now self.now }
+    /// least number. It takes no step.
+    pub fn best<L: Ledger>(&self, name: &Text, steps: &mut Steps<L>) -> Option<u32>
+        ensures row { result ≡ best_of name.now self.now }
+        ensures steps { steps.new ≡ steps.old }
     {
-        match best_entry(&self.queues, &self.rows, name) {
-            Some(best) => Some(best.1),
+        match place_of(&self.queues, name) {
+            Some(queue) => top_row(&self.heaps[queue]),
             None => None,
         }
     }
@@ -110,10 +181,15 @@ impl Pending {
     }
 
     /// Lets a row wait no longer. It takes no memory.
-    pub fn remove(&mut self, row: u32)
+    pub fn remove<L: Ledger>(&mut self, row: u32, steps: &mut Steps<L>)
         requires { IsSome (slice_index_or self.old.rows row None) }
-        ensures { self.new ≡ record self.old { rows = slice_set self.old.rows row None } }
+        ensures rows { self.new ≡ record self.old { rows = slice_set self.old.rows row None } }
+        ensures steps { AreFew (count_in (queue_of row self.old) self.old) steps.old steps.new }
     {
+        let Some(entry) = self.rows[row as usize] else {
+            unreachable!();
+        };
+        remove(&mut self.heaps[entry.queue], &mut self.places, row, steps);
         self.rows[row as usize] = None;
     }
 }

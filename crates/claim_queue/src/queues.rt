@@ -1,7 +1,7 @@
 //! The queues for which room was made.
 ghost use Rattle.std.specs.Prelude.{◌≡◌, ◌<◌, ℕ, length, map, find, false, IfSome, IfNone, option_copied};
 ghost use Rattle.std.specs.Str.{bytes_eq};
-ghost use Rattle.claim_queue.specs.Waits.{knows, raised, room_in};
+ghost use Rattle.claim_queue.specs.Waits.{raised, room_in};
 ghost use Rattle.claim_queue.specs.Places.{name_at};
 
 use farm_text::Text;
@@ -43,15 +43,6 @@ fn with_name<'a>(queues: &'a [Queue], name: &Text) -> Option<&'a Queue>
     queues
         .iter()
         .find(|queue| queue.name.as_str() == name.as_str())
-}
-
-/// Whether room was made in a queue.
-pub(crate) fn knows(queues: &[Queue], name: &Text) -> bool
-    ensures { result ≡ knows name.now queues.now }
-{
-    queues
-        .iter()
-        .any(|queue| queue.name.as_str() == name.as_str())
 }
 
 /// Whether a queue has a name.

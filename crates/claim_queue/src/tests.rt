@@ -1,7 +1,12 @@
 //! The collections, against answers that were worked by hand.
+ghost use Rattle.std.specs.Prelude.{◌≡◌, ◌<◌, OnOk};
+
 use super::*;
 use farm_text::{Moment, Text};
-use std::alloc::Global;
+use std::alloc::{AllocError, Global};
+use std::marker::Brand;
+use std::process::Abort;
+use std::sync::ledger::{Blank, Ledger};
 use std::test::Fail;
 use task_defs::Priority;
 
@@ -10,29 +15,31 @@ fn moment(millis: u64) -> Moment {
 }
 
 /// Holds a row, where there is room for it.
-fn hold(dues: &mut DueRows, row: u32, millis: u64) -> bool {
+fn hold<L: Ledger>(dues: &mut DueRows, row: u32, millis: u64, steps: &mut Steps<L>) -> bool {
     let may = dues.spare() >= 1 && dues.at(row) == Some(None);
     if may {
-        dues.add(row, moment(millis));
+        dues.add(row, moment(millis), steps);
     }
     may
 }
 
 /// Lets a held row fall due at another moment, or no longer where none is given.
-fn change(dues: &mut DueRows, row: u32, at: Option<u64>) -> bool {
+fn change<L: Ledger>(dues: &mut DueRows, row: u32, at: Option<u64>, steps: &mut Steps<L>) -> bool {
     match (dues.at(row), at) {
-        (Some(Some(_)), Some(millis)) => dues.shift(row, moment(millis)),
-        (Some(Some(_)), None) => dues.remove(row),
+        (Some(Some(_)), Some(millis)) => dues.shift(row, moment(millis), steps),
+        (Some(Some(_)), None) => dues.remove(row, steps),
         _ => return false,
     }
     true
 }
 
 /// Rows 0 to 4, of which 1 falls due at 30, and 3 and 4 at 20.
-fn three_dues(alloc: Global) -> Result<DueRows, Fail> {
+fn three_dues<L: Ledger>(alloc: Global, steps: &mut Steps<L>) -> Result<DueRows, Fail> {
     let mut dues = Leases::new(alloc);
     dues.reserve(3, 5)?;
-    let held = hold(&mut dues, 1, 30) && hold(&mut dues, 4, 20) && hold(&mut dues, 3, 20);
+    let held = hold(&mut dues, 1, 30, steps)
+        && hold(&mut dues, 4, 20, steps)
+        && hold(&mut dues, 3, 20, steps);
     if held {
         Ok(dues)
     } else {
@@ -42,92 +49,191 @@ fn three_dues(alloc: Global) -> Result<DueRows, Fail> {
 
 #[test]
 fn without_room_nothing_is_held(rt: HostRuntime) -> Result<(), Fail> {
-    let mut dues = Deadlines::new(rt.alloc());
-    assert!(rt; !hold(&mut dues, 0, 5));
+    hold_by_room::<Brand>(&rt, rt.alloc(), Blank::new(1))
+}
+
+fn hold_by_room<L: Ledger>(rt: &impl Abort, alloc: Global, blank: Blank) -> Result<(), Fail>
+    requires name { blank.name ≡ L.name }
+    requires parts { blank.parts ≡ L.parts }
+    requires some { 0 < blank.parts }
+{
+    let steps = &mut Steps::<L>::new(blank);
+    let mut dues = Deadlines::new(alloc);
+    assert!(rt; !hold(&mut dues, 0, 5, steps));
     dues.reserve(1, 2)?;
-    assert!(rt; hold(&mut dues, 1, 5));
-    assert!(rt; !hold(&mut dues, 0, 5));
+    assert!(rt; hold(&mut dues, 1, 5, steps));
+    assert!(rt; !hold(&mut dues, 0, 5, steps));
     assert!(rt; dues.spare() == 0);
-    assert!(rt; change(&mut dues, 1, None));
-    assert!(rt; hold(&mut dues, 0, 5));
+    assert!(rt; change(&mut dues, 1, None, steps));
+    assert!(rt; hold(&mut dues, 0, 5, steps));
     Ok(())
 }
 
 #[test]
 fn the_first_due_is_the_earliest_and_of_these_the_least_row(rt: HostRuntime) -> Result<(), Fail> {
-    let mut dues = three_dues(rt.alloc())?;
-    assert!(rt; dues.first_due(moment(19)) == None);
-    assert!(rt; dues.first_due(moment(20)) == Some((moment(20), 3)));
-    assert!(rt; dues.first_due(moment(40)) == Some((moment(20), 3)));
-    assert!(rt; change(&mut dues, 3, Some(31)));
-    assert!(rt; dues.first_due(moment(40)) == Some((moment(20), 4)));
-    assert!(rt; change(&mut dues, 4, None));
-    assert!(rt; dues.first_due(moment(40)) == Some((moment(30), 1)));
-    assert!(rt; dues.first_due(moment(29)) == None);
+    ask_first_due::<Brand>(&rt, rt.alloc(), Blank::new(1))
+}
+
+fn ask_first_due<L: Ledger>(rt: &impl Abort, alloc: Global, blank: Blank) -> Result<(), Fail>
+    requires name { blank.name ≡ L.name }
+    requires parts { blank.parts ≡ L.parts }
+    requires some { 0 < blank.parts }
+{
+    let steps = &mut Steps::<L>::new(blank);
+    let mut dues = three_dues(alloc, steps)?;
+    assert!(rt; dues.first_due(moment(19), steps) == None);
+    assert!(rt; dues.first_due(moment(20), steps) == Some((moment(20), 3)));
+    assert!(rt; dues.first_due(moment(40), steps) == Some((moment(20), 3)));
+    assert!(rt; change(&mut dues, 3, Some(31), steps));
+    assert!(rt; dues.first_due(moment(40), steps) == Some((moment(20), 4)));
+    assert!(rt; change(&mut dues, 4, None, steps));
+    assert!(rt; dues.first_due(moment(40), steps) == Some((moment(30), 1)));
+    assert!(rt; dues.first_due(moment(29), steps) == None);
     Ok(())
 }
 
 /// Lets a row wait in a queue, where there is room for it.
-fn wait(pending: &mut Pending, row: u32, queue: &Text, priority: Priority, number: u64) -> bool {
+fn wait<L: Ledger>(
+    pending: &mut Pending,
+    row: u32,
+    queue: &Text,
+    priority: Priority,
+    number: u64,
+    steps: &mut Steps<L>,
+) -> bool {
     let may = pending.spare(queue) >= 1 && pending.holds(row) == Some(false);
     if may {
-        pending.add(row, queue, priority, number);
+        pending.add(row, queue, priority, number, steps);
     }
     may
 }
 
 /// Lets a row wait no longer, where it waits.
-fn leave(pending: &mut Pending, row: u32) -> bool {
+fn leave<L: Ledger>(pending: &mut Pending, row: u32, steps: &mut Steps<L>) -> bool {
     let waits = pending.holds(row) == Some(true);
     if waits {
-        pending.remove(row);
+        pending.remove(row, steps);
     }
     waits
 }
 
 /// In one queue wait row 0 with number 4 and row 2 with number 3, both low, and row 1 very low with number 0; in another row 3, highest.
-fn fill(pending: &mut Pending, queue: &Text, other: &Text) -> bool {
-    wait(pending, 0, queue, Priority::Low, 4)
-        && wait(pending, 1, queue, Priority::VeryLow, 0)
-        && wait(pending, 2, queue, Priority::Low, 3)
-        && wait(pending, 3, other, Priority::Highest, 9)
+fn fill<L: Ledger>(
+    pending: &mut Pending,
+    queue: &Text,
+    other: &Text,
+    steps: &mut Steps<L>,
+) -> bool {
+    wait(pending, 0, queue, Priority::Low, 4, steps)
+        && wait(pending, 1, queue, Priority::VeryLow, 0, steps)
+        && wait(pending, 2, queue, Priority::Low, 3, steps)
+        && wait(pending, 3, other, Priority::Highest, 9, steps)
 }
 
 /// The best rows of a queue, again and again.
-fn takes(pending: &mut Pending, queue: &Text, row: u32) -> bool {
-    pending.best(queue) == Some(row) && leave(pending, row)
+fn takes<L: Ledger>(pending: &mut Pending, queue: &Text, row: u32, steps: &mut Steps<L>) -> bool {
+    pending.best(queue, steps) == Some(row) && leave(pending, row, steps)
 }
 
 #[test]
 fn the_best_is_of_the_first_priority_and_then_the_least_number(
     rt: HostRuntime,
 ) -> Result<(), Fail> {
-    let queue = Text::from_str(rt.alloc(), "prov/wt")?;
-    let other = Text::from_str(rt.alloc(), "prov/other")?;
-    let mut pending = Pending::new(rt.alloc());
-    assert!(rt; pending.best(&queue) == None);
+    take_best::<Brand>(&rt, rt.alloc(), Blank::new(1))
+}
+
+fn take_best<L: Ledger>(rt: &impl Abort, alloc: Global, blank: Blank) -> Result<(), Fail>
+    requires name { blank.name ≡ L.name }
+    requires parts { blank.parts ≡ L.parts }
+    requires some { 0 < blank.parts }
+{
+    let steps = &mut Steps::<L>::new(blank);
+    let queue = Text::from_str(alloc, "prov/wt")?;
+    let other = Text::from_str(alloc, "prov/other")?;
+    let mut pending = Pending::new(alloc);
+    assert!(rt; pending.best(&queue, steps) == None);
     pending.reserve(&queue, 3, 4)?;
     pending.reserve(&other, 1, 4)?;
-    assert!(rt; fill(&mut pending, &queue, &other));
-    assert!(rt; takes(&mut pending, &queue, 2));
-    assert!(rt; takes(&mut pending, &queue, 0));
-    assert!(rt; takes(&mut pending, &queue, 1));
-    assert!(rt; pending.best(&queue) == None);
-    assert!(rt; pending.best(&other) == Some(3));
+    assert!(rt; fill(&mut pending, &queue, &other, steps));
+    assert!(rt; takes(&mut pending, &queue, 2, steps));
+    assert!(rt; takes(&mut pending, &queue, 0, steps));
+    assert!(rt; takes(&mut pending, &queue, 1, steps));
+    assert!(rt; pending.best(&queue, steps) == None);
+    assert!(rt; pending.best(&other, steps) == Some(3));
     Ok(())
 }
 
 #[test]
 fn each_queue_has_room_of_its_own(rt: HostRuntime) -> Result<(), Fail> {
-    let queue = Text::from_str(rt.alloc(), "prov/wt")?;
-    let other = Text::from_str(rt.alloc(), "prov/other")?;
-    let mut pending = Pending::new(rt.alloc());
+    wait_by_room::<Brand>(&rt, rt.alloc(), Blank::new(1))
+}
+
+fn wait_by_room<L: Ledger>(rt: &impl Abort, alloc: Global, blank: Blank) -> Result<(), Fail>
+    requires name { blank.name ≡ L.name }
+    requires parts { blank.parts ≡ L.parts }
+    requires some { 0 < blank.parts }
+{
+    let steps = &mut Steps::<L>::new(blank);
+    let queue = Text::from_str(alloc, "prov/wt")?;
+    let other = Text::from_str(alloc, "prov/other")?;
+    let mut pending = Pending::new(alloc);
     pending.reserve(&queue, 1, 9)?;
-    assert!(rt; !wait(&mut pending, 0, &other, Priority::Low, 0));
-    assert!(rt; wait(&mut pending, 0, &queue, Priority::Low, 0));
+    assert!(rt; !wait(&mut pending, 0, &other, Priority::Low, 0, steps));
+    assert!(rt; wait(&mut pending, 0, &queue, Priority::Low, 0, steps));
     assert!(rt; pending.spare(&queue) == 0);
-    assert!(rt; !wait(&mut pending, 1, &queue, Priority::Low, 1));
+    assert!(rt; !wait(&mut pending, 1, &queue, Priority::Low, 1, steps));
     pending.reserve(&queue, 2, 9)?;
     assert!(rt; pending.spare(&queue) == 2);
+    Ok(())
+}
+
+/// Rows of which each falls due before all those that were added before it rise to the top, and leave in their order.
+#[test]
+fn the_last_added_rises_to_the_top(rt: HostRuntime) -> Result<(), Fail> {
+    rise_to_the_top::<Brand>(&rt, rt.alloc(), Blank::new(1))
+}
+
+fn rise_to_the_top<L: Ledger>(rt: &impl Abort, alloc: Global, blank: Blank) -> Result<(), Fail>
+    requires name { blank.name ≡ L.name }
+    requires parts { blank.parts ≡ L.parts }
+    requires some { 0 < blank.parts }
+{
+    let steps = &mut Steps::<L>::new(blank);
+    let mut dues = Leases::new(alloc);
+    dues.reserve(9, 9)?;
+    for row in 0..9 {
+        assert!(rt; hold(&mut dues, row, 90 - 10 * row as u64, steps));
+        assert!(rt; dues.first_due(moment(90), steps) == Some((moment(90 - 10 * row as u64), row)));
+    }
+    for left in 0..9 {
+        let first = (moment(10 + 10 * left as u64), 8 - left);
+        assert!(rt; dues.first_due(moment(90), steps) == Some(first));
+        assert!(rt; change(&mut dues, 8 - left, None, steps));
+    }
+    assert!(rt; dues.first_due(moment(90), steps) == None);
+    Ok(())
+}
+
+/// The first row that is added takes no step.
+#[test]
+fn an_add_to_none_takes_no_step(rt: HostRuntime) -> Result<(), Fail> {
+    count_first::<Brand>(rt.alloc(), Blank::new(1))?;
+    Ok(())
+}
+
+fn count_first<L: Ledger>(alloc: Global, blank: Blank) -> Result<(), AllocError>
+    requires name { blank.name ≡ L.name }
+    requires parts { blank.parts ≡ L.parts }
+    requires some { 0 < blank.parts }
+{
+    add_to_none(alloc, &mut Steps::<L>::new(blank))
+}
+
+fn add_to_none<L: Ledger>(alloc: Global, steps: &mut Steps<L>) -> Result<(), AllocError>
+    ensures { OnOk result (steps.new ≡ steps.old) }
+{
+    let mut leases = Leases::new(alloc);
+    leases.reserve(1, 1)?;
+    leases.add(0, Moment::FIRST, steps);
     Ok(())
 }

@@ -246,7 +246,7 @@ kept-moved tasks edges task_capacity now edge_capacity row progress room same ke
 -- ---- one step of making room, and of adding edges
 
 -- the names up to a place, and the one there
-take-more : (names : List ℕ) (i : ℕ) (name : ℕ) → i < length names → name ≡ get_or names i name → take (i + 1) names ≡ take i names ++ name ∷ []
+pub take-more : (names : List ℕ) (i : ℕ) (name : ℕ) → i < length names → name ≡ get_or names i name → take (i + 1) names ≡ take i names ++ name ∷ []
 take-more names i name within at =
     let one : i + 1 ≡ suc i = omega arith in
     ap (λ n. take n names) one ∙ (take-suc names i name within ∙ ap (λ n. take i names ++ n ∷ []) (sym at))
@@ -285,7 +285,7 @@ rooms-fewer rows left name edges rooms place row at is = rooms place row at (by 
   by false it = rw it is
 
 -- the names before a place are not the one there
-not-before : (names : List ℕ) (i name : ℕ) → IsDistinct ◌==◌ names → i < length names → name ≡ get_or names i name → is_in (take i names) name ≡ false
+pub not-before : (names : List ℕ) (i name : ℕ) → IsDistinct ◌==◌ names → i < length names → name ≡ get_or names i name → is_in (take i names) name ≡ false
 unfolding IsDistinct
 not-before [] i name distinct within at = absurd (omega arith)
 not-before (n ∷ ns) zero name distinct within at = refl
@@ -353,9 +353,6 @@ room-next rows names row i name place old edges within at here adds =
     let P : List ℕ → Type 0 = λ l. is_in l name ≡ true in
     adds.rooms place name here (subst P (sym (drop-more names i name within at)) first)
 
-pub adds-whole : (rows names : List ℕ) (row i : ℕ) (old : List (List ℕ)) (edges : List Edges) → length names ≤ i → AddsSo rows names row i old edges → edges_of edges ≡ with_edges rows row names old
-adds-whole rows names row i old edges past adds = adds.lists ∙ ap (λ (l : List ℕ). with_edges rows row l old) (take_all i names past)
-
 -- how long the lists of edges are
 pub length-with : (rows : List ℕ) (row : ℕ) (named : List ℕ) (lists : List (List ℕ)) → length lists ≡ length rows → length (with_edges rows row named lists) ≡ length rows
 length-with [] row named [] long = refl
@@ -390,3 +387,6 @@ distinct-of (r ∷ rs) is = by (distinct-of rs) (is_in rs r) refl where
   by : (all_distinct rs ≡ true → IsDistinct ◌==◌ rs) → (b : Bool) → is_in rs r ≡ b → IsDistinct ◌==◌ (r ∷ rs)
   by rest true it = absurd (let e : false ≡ true = rw it at is in cc)
   by rest false it = let others : all_distinct rs ≡ true = rw it at is in (differs-from r rs it, rest others)
+
+pub place-within-tasks : (tasks : List Task) (row place : ℕ) → slice_get (rows_of tasks) place ≡ Some row → place < length tasks
+place-within-tasks tasks row place at = let within = place-within (rows_of tasks) row place at in let long = rows-length tasks in omega arith

@@ -1,8 +1,8 @@
 -- What a graph keeps as a task is added, and as room for one is made.
-use Rattle.std.proofs.Common.{◌≡◌, ℕ, Bool, true, false, List, [], ◌∷◌, ◌++◌, map, Option, Some, None, refl, sym, ◌∙◌, ap, subst, ◌==◌}
+use Rattle.std.proofs.Common.{◌≡◌, ℕ, Bool, true, false, List, [], ◌∷◌, ◌++◌, map, length, Option, Some, None, refl, sym, ◌∙◌, ap, subst, ◌==◌}
 use Rattle.std.specs.Prelude.{◌||◌, All, if◌then◌else◌}
 use Rattle.std.specs.List.{IsDistinct, AllByRecursion}
-use Rattle.std.proofs.lemmas.List.{map-append}
+use Rattle.std.proofs.lemmas.List.{map-append, length-map}
 use Rattle.std.proofs.lemmas.List.Elements.{All-head, All-tail}
 use Rattle.dep_graph.specs.declared.edges.Edges.{Edges}
 use Rattle.dep_graph.specs.declared.graph.Addition.{Addition}
@@ -101,3 +101,8 @@ kept-room tasks now edges after task_capacity edge_capacity task_now edge_now ro
       unnamed = subst R (sym same) kept.unnamed;
       room_is = λ x is. let e : addition ≡ x = (let f : Some addition ≡ Some x = is in cc) in let H : Addition → Type 0 = λ a. HasRoom now after task_now edge_now a in subst H e fits;
     }
+
+-- there are as many lists of edges as tasks
+pub edges-long : (tasks : List Task) (edges : List Edges) (task_capacity edge_capacity : ℕ) (room : Option Addition) → IsKept tasks edges task_capacity edge_capacity room → length (edges_of edges) ≡ length (rows_of tasks)
+edges-long tasks edges task_capacity edge_capacity room kept =
+    ap length kept.edges_are ∙ (length-map tasks (λ (task : Task). dependants_of tasks task.row) ∙ sym (length-map tasks (λ (task : Task). task.row)))

@@ -1,14 +1,8 @@
 -- The task of a row: no two tasks have one row.
-use Rattle.std.proofs.Common.{◌≡◌, ℕ, zero, suc, ◌<◌, Bool, true, false, ◌&&◌, List, [], ◌∷◌, ◌++◌, length, get_or, Option, Some, None, refl, sym, ◌∙◌, ap, subst, arith, min, ◌==◌, position, nat_lt}
-use Rattle.std.specs.Prelude.{slice_get, filter, if◌then◌else◌, IfSome, IfNone}
-use Rattle.std.specs.List.{IsDistinct, AllByRecursion, list_any, fold, reduce, position_or_len}
-use Rattle.std.specs.Option.{option_map_or}
+use Rattle.std.proofs.Common.{◌≡◌, ℕ, zero, suc, ◌<◌, Bool, true, false, ◌&&◌, List, [], ◌∷◌, length, get_or, Some, None, refl, sym, ◌∙◌, ap, subst, arith, ◌==◌}
+use Rattle.std.specs.Prelude.{slice_get}
+use Rattle.std.specs.List.{IsDistinct, AllByRecursion, list_any}
 use Rattle.std.proofs.Math.ListN.{set}
-use Rattle.std.proofs.lemmas.Bool.{ltb-false}
-use Rattle.std.proofs.lemmas.List.{map-append, append-nil}
-use Rattle.std.proofs.lemmas.List.Elements.{filter-append}
-use Rattle.std.proofs.lemmas.List.Quantifiers.{position-Some}
-use Rattle.std.proofs.lemmas.List.Sums.{fails_before_first}
 use Rattle.dep_graph.specs.declared.node.Progress.{Progress}
 use Rattle.dep_graph.specs.declared.node.Requires.{Requires}
 use Rattle.dep_graph.specs.Nodes.{Task, rows_of, is_in, dependants_of, moved}
@@ -83,13 +77,6 @@ row-at [] place d within = absurd (omega arith)
 row-at (t ∷ ts) zero d within = refl
 row-at (t ∷ ts) (suc place) d within = row-at ts place d (omega arith)
 
--- where each task has another row, no task has it
-pub no-row : (tasks : List Task) (row : ℕ) → ((k : ℕ) (d : Task) → k < length tasks → ((get_or tasks k d).row == row) ≡ false) → is_in (rows_of tasks) row ≡ false
-no-row [] row none = refl
-no-row (t ∷ ts) row none =
-    let first : (t.row == row) ≡ false = none 0 t (omega arith) in
-    rw first (no-row ts row (λ k d below. none (suc k) d (omega arith)))
-
 -- the first of the tasks that come so far, and the others stay
 pub moved-rows : (row : ℕ) (progress : Progress) (tasks : List Task) → rows_of (moved row progress tasks) ≡ rows_of tasks
 moved-rows row progress [] = refl
@@ -97,46 +84,6 @@ moved-rows row progress (t ∷ ts) = by (moved-rows row progress ts) (t.row == r
   by : rows_of (moved row progress ts) ≡ rows_of ts → (b : Bool) → (t.row == row) ≡ b → rows_of (moved row progress (t ∷ ts)) ≡ rows_of (t ∷ ts)
   by rest true is = rw is (ap (λ (l : List ℕ). t.row ∷ l) rest)
   by rest false is = rw is (ap (λ (l : List ℕ). t.row ∷ l) rest)
-
--- ---- the least row that is ready
-
-fold-more : (x d : ℕ) (xs : List ℕ) → fold min x (xs ++ d ∷ []) ≡ min (fold min x xs) d
-fold-more x d [] = refl
-fold-more x d (y ∷ ys) = fold-more (min x y) d ys
-
-pub reduce-more : (d : ℕ) (xs : List ℕ) → reduce min (xs ++ d ∷ []) ≡ Some (option_map_or (λ held. min held d) (reduce min xs) d)
-reduce-more d [] = refl
-reduce-more d (x ∷ xs) = ap Some (fold-more x d xs)
-
--- the least of the rows that pass a test, where one task more is looked at
-pub least-more : (test : Task → Bool) (tasks : List Task) (task : Task) (least : Option ℕ) → least ≡ reduce min (rows_of (filter test tasks)) → (passes : Bool) → test task ≡ passes
-    → (if passes then Some (option_map_or (λ held. min held task.row) least task.row) else least) ≡ reduce min (rows_of (filter test (tasks ++ task ∷ [])))
-least-more test tasks task least is true passes =
-    let more : filter test (tasks ++ task ∷ []) ≡ filter test tasks ++ task ∷ [] = filter-append test tasks (task ∷ []) ∙ ap (λ (l : List Task). filter test tasks ++ l) (rw passes refl) in
-    let rows : rows_of (filter test tasks ++ task ∷ []) ≡ rows_of (filter test tasks) ++ task.row ∷ [] = map-append (λ (t : Task). t.row) (filter test tasks) (task ∷ []) in
-    ap (λ (o : Option ℕ). Some (option_map_or (λ held. min held task.row) o task.row)) is ∙ (sym (reduce-more task.row (rows_of (filter test tasks))) ∙ (ap (reduce min) (sym rows) ∙ ap (λ (l : List Task). reduce min (rows_of l)) (sym more)))
-least-more test tasks task least is false passes =
-    let more : filter test (tasks ++ task ∷ []) ≡ filter test tasks ++ [] = filter-append test tasks (task ∷ []) ∙ ap (λ (l : List Task). filter test tasks ++ l) (rw passes refl) in
-    is ∙ ap (λ (l : List Task). reduce min (rows_of l)) (sym (more ∙ append-nil (filter test tasks)))
-
--- ---- the place that is found
-
-pub found-row : (tasks : List Task) (row : ℕ) (found : Option ℕ) → position (λ (task : Task). task.row == row) tasks ≡ found → IfSome found (λ place. slice_get (rows_of tasks) place ≡ Some row)
-found-row tasks row None is = tt
-found-row [] row (Some place) is = absurd (none-some place is)
-found-row (t ∷ ts) row (Some place) is =
-    let known = position-Some (λ (task : Task). task.row == row) (t ∷ ts) place t is in
-    let same : (get_or (t ∷ ts) place t).row ≡ row = same_row ((get_or (t ∷ ts) place t).row) row known.1 in
-    row-at (t ∷ ts) place t known.0 ∙ ap Some same
-
-pub unfound-row : (tasks : List Task) (row : ℕ) (found : Option ℕ) → position (λ (task : Task). task.row == row) tasks ≡ found → IfNone found (is_in (rows_of tasks) row ≡ false)
-unfound-row tasks row (Some place) is = tt
-unfound-row tasks row None is = by (nat_lt (position_or_len (λ (task : Task). task.row == row) tasks) (length tasks)) refl where
-  by : (b : Bool) → nat_lt (position_or_len (λ (task : Task). task.row == row) tasks) (length tasks) ≡ b → is_in (rows_of tasks) row ≡ false
-  by true lt = absurd (let e : Some (position_or_len (λ (task : Task). task.row == row) tasks) ≡ None = rw lt at is in cc)
-  by false lt =
-      let past = ltb-false (position_or_len (λ (task : Task). task.row == row) tasks) (length tasks) lt in
-      no-row tasks row (λ k d below. fails_before_first (λ (task : Task). task.row == row) tasks k d (omega arith))
 
 -- ---- the task that goes on
 

@@ -1,3 +1,5 @@
 pub mod Nodes
 pub mod Ready
 pub mod Kept
+pub mod Trees
+pub mod Tables

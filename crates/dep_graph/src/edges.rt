@@ -4,8 +4,7 @@ ghost use Rattle.std.specs.List.{IsDistinct};
 ghost use Rattle.dep_graph.specs.Nodes.{rows_of};
 ghost use Rattle.dep_graph.specs.Kept.{HaveOwnRows, HasRooms, edges_of, spares, list_at, with_edges};
 
-use crate::node::Node;
-use crate::tasks::place_of;
+use crate::tasks::Tasks;
 use std::alloc::AllocError;
 
 /// The rows of the tasks that depend on one task.
@@ -16,17 +15,17 @@ pub(crate) struct Edges {
 
 /// Takes the memory for one edge more from each of these tasks.
 pub(crate) fn make_room(
-    tasks: &[Node],
+    tasks: &Tasks,
     edges: &mut Vec<Edges>,
     rows: &[u32],
 ) -> Result<(), AllocError>
-    requires own { HaveOwnRows tasks.now }
-    requires len { length (edges_of edges.old.items) ≡ length (rows_of tasks.now) }
+    requires own { HaveOwnRows tasks.now.tasks }
+    requires len { length (edges_of edges.old.items) ≡ length (rows_of tasks.now.tasks) }
     ensures same { edges_of edges.new.items ≡ edges_of edges.old.items }
-    ensures rooms { OnOk result (HasRooms (rows_of tasks.now) rows.now edges.new.items) }
+    ensures rooms { OnOk result (HasRooms (rows_of tasks.now.tasks) rows.now edges.new.items) }
 {
     for row in rows {
-        match place_of(tasks, *row) {
+        match tasks.place_of(*row) {
             Some(place) => make_room_at(edges, place)?,
             None => {}
         }
@@ -49,17 +48,17 @@ fn make_room_at(edges: &mut Vec<Edges>, place: usize) -> Result<(), AllocError>
 }
 
 /// Adds an edge from each of these tasks, for which there is room. A row without a task has none.
-pub(crate) fn add_edges(tasks: &[Node], edges: &mut Vec<Edges>, row: u32, dependencies: &[u32])
-    requires own { HaveOwnRows tasks.now }
-    requires len { length (edges_of edges.old.items) ≡ length (rows_of tasks.now) }
+pub(crate) fn add_edges(tasks: &Tasks, edges: &mut Vec<Edges>, row: u32, dependencies: &[u32])
+    requires own { HaveOwnRows tasks.now.tasks }
+    requires len { length (edges_of edges.old.items) ≡ length (rows_of tasks.now.tasks) }
     requires distinct { IsDistinct ◌==◌ dependencies.now }
-    requires rooms { HasRooms (rows_of tasks.now) dependencies.now edges.old.items }
-    ensures edges { edges_of edges.new.items ≡ with_edges (rows_of tasks.now) row dependencies.now (edges_of edges.old.items) }
+    requires rooms { HasRooms (rows_of tasks.now.tasks) dependencies.now edges.old.items }
+    ensures edges { edges_of edges.new.items ≡ with_edges (rows_of tasks.now.tasks) row dependencies.now (edges_of edges.old.items) }
     ensures len { vec_len edges.new ≡ vec_len edges.old }
     ensures capacity { vec_capacity edges.new ≡ vec_capacity edges.old }
 {
     for dependency in dependencies {
-        match place_of(tasks, *dependency) {
+        match tasks.place_of(*dependency) {
             Some(place) => add_edge(edges, place, row),
             None => {}
         }

@@ -1,22 +1,28 @@
 //! The graph of the tasks of a farm.
-ghost use Rattle.std.specs.Prelude.{◌≡◌, ◌==◌, ◌||◌, ◌<◌, ◌++◌, ◌∷◌, [], true, false, All, IsTrue, Some, None, OnOk, OnErr, vec_len, vec_capacity};
+ghost use Rattle.std.specs.Prelude.{◌≡◌, ◌==◌, ◌||◌, ◌<◌, ◌++◌, ◌∷◌, [], true, false, All, IsTrue, Some, None, ◌≤◌, ℕ, IfOk, OnOk, OnErr, length, vec_len, vec_capacity};
 ghost use Rattle.std.specs.List.{IsDistinct};
-ghost use Rattle.dep_graph.specs.Nodes.{no_graph, rows_of, is_in, dependants_of, added, moved, may_be_added};
+ghost use Rattle.dep_graph.specs.Nodes.{no_graph, just_created, rows_of, is_in, dependants_of, added, moved, may_be_added};
 ghost use Rattle.dep_graph.specs.Ready as judged;
-ghost use Rattle.dep_graph.specs.Kept.{edges_of, own_edges};
+ghost use Rattle.dep_graph.specs.Kept.{HaveOwnRows, edges_of, own_edges};
+ghost use Rattle.dep_graph.specs.Tables.{HasAllRoom};
+ghost use Rattle.dep_graph.specs.Trees.{node_at};
 
 use crate::edges::{Edges, add_edges, make_room};
+use crate::moves::proceed;
 use crate::node::{Node, Progress, Requires};
-use crate::tasks::{all_stand, are_distinct, holds, place_of, proceed, ready_row, row_is_ready};
+use crate::tasks::{Tasks, are_distinct, row_is_ready};
+use crate::waits::{Waits, count_lacking};
 use std::alloc::{AllocError, Global};
 use std::marker::Model;
 
 /// The tasks of a farm and what they wait for, in the order in which they were added, and the room for one task more.
 #[derive(Debug, Drop)]
 pub struct Graph {
-    tasks: Vec<Node>,
+    tasks: Tasks,
     /// The tasks that depend on each.
     edges: Vec<Edges>,
+    /// What each task still waits for.
+    waits: Waits,
     /// The task for which there is room.
     room: Option<Addition>,
 }
@@ -28,16 +34,32 @@ pub(crate) struct Addition {
     edges: Edges,
 }
 
+impl Addition {
+    /// A task that is just created, and room for its edge to itself.
+    fn new(alloc: Global, row: u32, dependencies: &[u32]) -> Result<Addition, AllocError>
+        ensures node { IfOk result (λ made. made.node ≡ record { row = row; needs = Requires.AllCompleted; dependencies = dependencies.now; progress = just_created }) }
+        ensures edges { IfOk result (λ made. (made.edges.rows.items ≡ []) × (0 < vec_capacity made.edges.rows)) }
+    {
+        let rows = Vec::with_capacity(alloc, 1)?;
+        Ok(Addition {
+            node: Node::new(alloc, row, dependencies)?,
+            edges: Edges { rows },
+        })
+    }
+}
+
 impl Model for Graph {
     ghost use Rattle.std.specs.Prelude.{option_map, vec_capacity};
     ghost use Rattle.dep_graph.specs.Nodes.{TaskGraph};
     ghost use Rattle.dep_graph.specs.Kept.{adding_of, IsKept};
+    ghost use Rattle.dep_graph.specs.Tables.{AreCounted, HasCounts};
 
     ghost Value = { TaskGraph };
 
-    ghost view = { λ g. record { tasks = g.tasks.items; room = option_map adding_of g.room } };
+    ghost view = { λ g. record { tasks = g.tasks.tasks; room = option_map adding_of g.room } };
 
-    ghost invariant = { λ g. IsKept g.tasks.items g.edges.items (vec_capacity g.tasks) (vec_capacity g.edges) g.room };
+    ghost invariant = { λ g. IsKept g.tasks.tasks g.edges.items g.tasks.capacity (vec_capacity g.edges) g.room
+        × AreCounted g.tasks.tasks g.waits.lacking.items g.waits.ready × HasCounts g.tasks.tasks g.waits g.room };
 }
 
 impl Graph {
@@ -46,8 +68,9 @@ impl Graph {
         ensures { result ≡ no_graph }
     {
         Graph {
-            tasks: Vec::new(alloc),
+            tasks: Tasks::new(alloc),
             edges: Vec::new(alloc),
+            waits: Waits::new(alloc),
             room: None,
         }
     }
@@ -56,7 +79,7 @@ impl Graph {
     pub fn holds(&self, row: u32) -> bool
         ensures { result ≡ is_in (rows_of self.now.tasks) row }
     {
-        holds(&self.tasks, row)
+        self.tasks.holds(row)
     }
 
     /// Whether a task with this row and these dependencies may be added: the row is new, and each that it depends on is named once, and
@@ -67,9 +90,9 @@ impl Graph {
         ensures distinct { IsTrue result → IsDistinct ◌==◌ dependencies.now }
         ensures stand { IsTrue result → All (λ held. ((held == row) || is_in (rows_of self.now.tasks) held) ≡ true) dependencies.now }
     {
-        !holds(&self.tasks, row)
+        !self.tasks.holds(row)
             && are_distinct(dependencies)
-            && all_stand(&self.tasks, row, dependencies)
+            && self.tasks.all_stand(row, dependencies)
     }
 
     /// Takes the memory for one `add` of a task with this row that depends on these. Room that an earlier call left is given up.
@@ -83,14 +106,14 @@ impl Graph {
         ensures err { OnErr result (self.new ≡ record self.old { room = None }) }
     {
         self.room = None;
-        make_room(&self.tasks, &mut self.edges, dependencies)?;
-        self.tasks.reserve(1)?;
-        self.edges.reserve(1)?;
-        let rows = Vec::with_capacity(alloc, 1)?;
-        self.room = Some(Addition {
-            node: Node::new(alloc, row, dependencies)?,
-            edges: Edges { rows },
-        });
+        make_all_room(
+            alloc,
+            &mut self.tasks,
+            &mut self.edges,
+            &mut self.waits,
+            dependencies,
+        )?;
+        self.room = Some(Addition::new(alloc, row, dependencies)?);
         Ok(())
     }
 
@@ -106,6 +129,8 @@ impl Graph {
         let Some(addition) = self.room.take() else {
             unreachable!();
         };
+        let lacking = count_lacking(&self.tasks, needs, dependencies);
+        self.waits.push(&addition.node, lacking);
         add_edges(&self.tasks, &mut self.edges, row, dependencies);
         add_task(&mut self.tasks, &mut self.edges, addition, needs);
     }
@@ -115,7 +140,7 @@ impl Graph {
         requires { is_in (rows_of self.old.tasks) row ≡ true }
         ensures { self.new ≡ record { tasks = moved row progress self.old.tasks; room = self.old.room } }
     {
-        proceed(&mut self.tasks, row, progress);
+        proceed(&mut self.tasks, &self.edges, &mut self.waits, row, progress);
     }
 
     /// Whether a task has this row and is ready. It takes no memory.
@@ -129,27 +154,52 @@ impl Graph {
     pub fn ready(&self) -> Option<u32>
         ensures { result ≡ judged.ready_row self.now.tasks }
     {
-        ready_row(&self.tasks)
+        self.waits.ready.least()
     }
 
     /// The rows of the tasks that depend on this one, in the order in which they were added. It takes no memory.
     pub fn dependants(&self, row: u32) -> &[u32]
         ensures { result.now ≡ dependants_of self.now.tasks row }
     {
-        match place_of(&self.tasks, row) {
+        match self.tasks.place_of(row) {
             Some(place) => &self.edges[place].rows,
             None => &[],
         }
     }
 }
 
+/// Takes the memory for one task more, which depends on these.
+fn make_all_room(
+    alloc: Global,
+    tasks: &mut Tasks,
+    edges: &mut Vec<Edges>,
+    waits: &mut Waits,
+    dependencies: &[u32],
+) -> Result<(), AllocError>
+    requires own { HaveOwnRows tasks.old.tasks }
+    requires len { length (edges_of edges.old.items) ≡ length (rows_of tasks.old.tasks) }
+    ensures tasks { tasks.new.tasks ≡ tasks.old.tasks }
+    ensures edges { edges_of edges.new.items ≡ edges_of edges.old.items }
+    ensures lacking { waits.new.lacking.items ≡ waits.old.lacking.items }
+    ensures ready { (place : ℕ) → node_at waits.new.ready place ≡ node_at waits.old.ready place }
+    ensures more { length waits.old.ready ≤ length waits.new.ready }
+    ensures room { OnOk result (HasAllRoom tasks.new edges.new.items (vec_capacity edges.new) waits.new dependencies.now) }
+{
+    make_room(tasks, edges, dependencies)?;
+    tasks.reserve()?;
+    edges.reserve(1)?;
+    waits.reserve(alloc, tasks.len())?;
+    Ok(())
+}
+
 /// Adds a task, and the list of those that depend on it: itself, where it does.
-fn add_task(tasks: &mut Vec<Node>, edges: &mut Vec<Edges>, addition: Addition, needs: Requires)
-    requires task { vec_len tasks.old < vec_capacity tasks.old }
+fn add_task(tasks: &mut Tasks, edges: &mut Vec<Edges>, addition: Addition, needs: Requires)
+    requires task { length tasks.old.tasks < tasks.old.capacity }
+    requires new { is_in (rows_of tasks.old.tasks) addition.node.row ≡ false }
     requires list { vec_len edges.old < vec_capacity edges.old }
     requires own { addition.edges.rows.items ≡ [] }
     requires own_room { 0 < vec_capacity addition.edges.rows }
-    ensures tasks { tasks.new.items ≡ tasks.old.items ++ (record addition.node { needs = needs }) ∷ [] }
+    ensures tasks { tasks.new.tasks ≡ tasks.old.tasks ++ (record addition.node { needs = needs }) ∷ [] }
     ensures edges { edges_of edges.new.items ≡ edges_of edges.old.items ++ own_edges addition.node.row addition.node.dependencies ∷ [] }
 {
     let Addition {
@@ -161,9 +211,7 @@ fn add_task(tasks: &mut Vec<Node>, edges: &mut Vec<Edges>, addition: Addition, n
     if node.dependencies().contains(&row) && own.rows.push(row).is_err() {
         unreachable!();
     }
-    if tasks.push(node).is_err() {
-        unreachable!();
-    }
+    tasks.push(node);
     if edges.push(own).is_err() {
         unreachable!();
     }

@@ -12,6 +12,3 @@ mod step;
 pub use disk::Disk;
 pub use file::FileDisk;
 pub use memory::MemoryDisk;
-
-#[cfg(test)]
-mod tests;

@@ -23,6 +23,3 @@ pub use frames::{Frame, Framed, TickFrame};
 pub use framing::{BODY_LIMIT, frame, frame_tick};
 pub use journal::Journal;
 pub use laws::{files_open_once, images_open, the_body_limit};
-
-#[cfg(test)]
-mod tests;

@@ -1,9 +1,10 @@
 -- A message makes one call.
 use Rattle.std.proofs.Common.{◌≡◌, ◌⊎◌, inl, inr, ℕ, codes, bytes_eq, List, [], ◌∷◌, Option, Some, None, refl, sym, ◌∙◌, ap, subst, subst₂, if◌then◌else◌}
 use Rattle.serde_json.specs.Data.{Data}
-use Rattle.farm_text.specs.Document.{Document, data_of}
+use Rattle.farm_text.specs.Document.{Document, object, data_of}
 use Rattle.farm_text.specs.Reading.{IsJson, unwhole}
 use Rattle.farm_text.specs.Slug.{slug_of}
+use Rattle.call_rules.specs.declared.hook_names.HookName.{HookName}
 use Rattle.task_defs.specs.Definitions.{Says, rules}
 use Rattle.task_defs.specs.Forms.{queue_name}
 use Rattle.task_defs.specs.declared.fault.DefFault.{DefFault}
@@ -18,9 +19,10 @@ use Rattle.farm_record.specs.declared.change.Report.TheVariants.{Completed, Fail
 use Rattle.farm_record.specs.declared.change.Resolution.{Resolution}
 use Rattle.farm_record.specs.declared.change.RunName.{RunName}
 use Rattle.farm_machine.specs.declared.question.BodyFault.{BodyFault}
-use Rattle.farm_machine.specs.declared.question.BodyFault.TheVariants.{NotJson, NotWhole, NoDefinition, NoWork, NoReason}
+use Rattle.farm_machine.specs.declared.question.BodyFault.TheVariants.{NotJson, NotWhole, NoDefinition, NoWork, NoReason, NoPayload}
 use Rattle.farm_machine.specs.declared.question.Call.{Call}
-use Rattle.farm_machine.specs.declared.question.Call.TheVariants.{BadBody, Task, Status, ListTaskGroup, ListDependentTasks, CreateTask, ClaimWork, ReportRun, ScheduleTask, RerunTask, CancelTask}
+use Rattle.farm_machine.specs.declared.question.Call.TheVariants.{BadBody, Task, Status, ListTaskGroup, ListDependentTasks, CreateTask, ClaimWork, ReportRun, ScheduleTask, RerunTask, CancelTask, TriggerHook}
+use Rattle.farm_machine.specs.declared.question.Trigger.{Trigger}
 use Rattle.farm_machine.specs.declared.question.WorkRequest.{WorkRequest}
 use Rattle.farm_machine.specs.declared.question.Parameter.{Parameter}
 use Rattle.farm_machine.specs.declared.question.PageRequest.{PageRequest}
@@ -31,8 +33,8 @@ use Rattle.route_table.specs.Segments.{parameters_in, parts_of}
 use Rattle.route_table.specs.declared.route.Route.{Route}
 use Rattle.route_table.specs.declared.route.Route.TheVariants as routes
 use Rattle.http_wire.specs.declared.message.Message.{Message}
-use Rattle.api_routes.specs.Bodies.{IsDocument, HasFault, IsNoTask, IsTaskBody, IsCreateCall, AsksFor, SaysWork, IsNoWork, IsWorkBody, SaysReason, IsNoReason, IsReasonBody}
-use Rattle.api_routes.specs.Calls.{Request, Calls, CallsCreate, CallsTask, CallsRunOr, CallsRun, CallsQueue, CallsOfQueue, CallsList, Reclaims, Reports, Counts, run_of}
+use Rattle.api_routes.specs.Bodies.{IsDocument, HasFault, IsNoTask, IsTaskBody, IsCreateCall, AsksFor, SaysWork, IsNoWork, IsWorkBody, SaysReason, IsNoReason, IsReasonBody, IsNoPayload, IsTriggerBody}
+use Rattle.api_routes.specs.Calls.{Request, Calls, CallsCreate, CallsTask, CallsRunOr, CallsRun, CallsQueue, CallsOfQueue, CallsList, CallsHookOf, CallsHook, Reclaims, Reports, Counts, run_of}
 use Rattle.api_routes.specs.Routes.{IsCallOf, path_of, request_of}
 use Rattle.farm_bulk.proofs.DefinitionLemmas.{Says-one}
 
@@ -71,6 +73,7 @@ cause_of IsIll body (NotWhole path) has = inr (inl (path, refl, has))
 cause_of IsIll body (NoDefinition fault) has = inr (inr has)
 cause_of IsIll body NoWork has = inr (inr has)
 cause_of IsIll body NoReason has = inr (inr has)
+cause_of IsIll body NoPayload has = inr (inr has)
 
 -- a body of a document in which each number is whole has no fault but of that document
 ill_of : OneDocument → (IsIll : Document → BodyFault → Type 0) (body : List ℕ) (d : Document) (fault : BodyFault) → IsDocument body d → Cause IsIll body fault → IsIll d fault
@@ -240,6 +243,41 @@ reason_body_one : OneDocument → (body : List ℕ) (name : RunName) → IsOne (
 reason_body_one one body name a b x y =
     body_one ReportRun (λ d report. (report.id ≡ name.id) × (report.run ≡ name.run) × SaysReason d report.reason) IsNoReason body one (report_one name) no_reason_one (no_reason_apart name) a b (reason_body name body a x) (reason_body name body b y)
 
+-- ---- triggerHook
+
+-- the trigger of a hook with the object that a document is
+abbrev Triggers : List ℕ → List ℕ → Document → Trigger → Type 0
+Triggers group id d trigger = (trigger.hook.group ≡ group) × (trigger.hook.id ≡ id) × (d ≡ object trigger.payload)
+
+trigger_body : (group id body : List ℕ) (call : Call) → IsTriggerBody body group id call → Body TriggerHook (Triggers group id) IsNoPayload body call
+trigger_body group id body (TriggerHook trigger) x = inl (trigger, refl, (object trigger.payload, x.2, (x.0, x.1, refl)))
+trigger_body group id body (BadBody fault) x = inr (fault, refl, x)
+trigger_body group id body _ x = absurd x
+
+hook_of_parts : (a b : HookName) → a.group ≡ b.group → a.id ≡ b.id → a ≡ b
+hook_of_parts a b g i = rw (g, i) refl
+
+trigger_of_parts : (a b : Trigger) → a.hook ≡ b.hook → a.payload ≡ b.payload → a ≡ b
+trigger_of_parts a b h p = rw (h, p) refl
+
+trigger_one : (group id : List ℕ) (d : Document) → IsOne (Triggers group id d)
+trigger_one group id d a b x y =
+    let same : object a.payload ≡ object b.payload = sym x.2 ∙ y.2 in
+    trigger_of_parts a b (hook_of_parts a.hook b.hook (x.0 ∙ sym y.0) (x.1 ∙ sym y.1)) cc
+
+no_payload_one : (d : Document) → IsOne (IsNoPayload d)
+no_payload_one d NoPayload NoPayload x y = refl
+no_payload_one d NoPayload _ x y = absurd y
+no_payload_one d _ g x y = absurd x
+
+no_payload_apart : (group id : List ℕ) (d : Document) (trigger : Trigger) (fault : BodyFault) → Triggers group id d trigger → ¬ IsNoPayload d fault
+no_payload_apart group id d trigger NoPayload x = λ ill. ill trigger.payload x.2
+no_payload_apart group id d trigger _ x = λ ill. ill
+
+trigger_body_one : OneDocument → (body group id : List ℕ) → IsOne (IsTriggerBody body group id)
+trigger_body_one one body group id a b x y =
+    body_one TriggerHook (Triggers group id) IsNoPayload body one (trigger_one group id) no_payload_one (no_payload_apart group id) a b (trigger_body group id body a x) (trigger_body group id body b y)
+
 -- ---- routes
 
 create_call_one : OneDocument → (body : List ℕ) (parts : List (List ℕ)) → IsOne (CallsCreate body parts)
@@ -285,6 +323,23 @@ list_call_one asks named query [] a b x y = absurd x
 list_call_one asks named query (id ∷ []) a b x y = x ∙ sym y
 list_call_one asks named query (id ∷ other ∷ parts) a b x y = absurd x
 
+hook_of_one : OneDocument → (body group id : List ℕ) → IsOne (CallsHookOf body group id)
+hook_of_one one body group id a b (inl x) (inl y) = x.1 ∙ sym y.1
+hook_of_one one body group id a b (inl x) (inr (inl y)) = absurd (x.0 y.0)
+hook_of_one one body group id a b (inl x) (inr (inr y)) = absurd (x.0 y.0)
+hook_of_one one body group id a b (inr (inl x)) (inl y) = absurd (y.0 x.0)
+hook_of_one one body group id a b (inr (inl x)) (inr (inl y)) = x.2 ∙ sym y.2
+hook_of_one one body group id a b (inr (inl x)) (inr (inr y)) = absurd (x.1 y.1)
+hook_of_one one body group id a b (inr (inr x)) (inl y) = absurd (y.0 x.0)
+hook_of_one one body group id a b (inr (inr x)) (inr (inl y)) = absurd (y.1 x.1)
+hook_of_one one body group id a b (inr (inr x)) (inr (inr y)) = trigger_body_one one body group id a b x.2 y.2
+
+hook_call_one : OneDocument → (body : List ℕ) (parts : List (List ℕ)) → IsOne (CallsHook body parts)
+hook_call_one one body [] a b x y = absurd x
+hook_call_one one body (group ∷ []) a b x y = absurd x
+hook_call_one one body (group ∷ id ∷ []) a b x y = hook_of_one one body group id a b x y
+hook_call_one one body (group ∷ id ∷ other ∷ parts) a b x y = absurd x
+
 calls_one : OneDocument → (route : Route) (request : Request) → IsOne (Calls route request)
 calls_one one routes.Ping request a b x y = x ∙ sym y
 calls_one one routes.CreateTask request a b x y = create_call_one one request.body request.parts a b x y
@@ -303,7 +358,7 @@ calls_one one routes.ListTaskGroup request a b x y = list_call_one ListTaskGroup
 calls_one one routes.ListDependentTasks request a b x y = list_call_one ListDependentTasks TaskId request.query request.parts a b x y
 calls_one one routes.PendingTasks request a b x y = of_queue_one Counts (λ queue c d u v. u ∙ sym v) request.parts a b x y
 calls_one one routes.PendingTasksInTwo request a b x y = of_queue_one Counts (λ queue c d u v. u ∙ sym v) request.parts a b x y
-calls_one one routes.TriggerHook request a b x y = x ∙ sym y
+calls_one one routes.TriggerHook request a b x y = hook_call_one one request.body request.parts a b x y
 
 -- ---- messages
 

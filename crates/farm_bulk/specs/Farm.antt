@@ -16,4 +16,5 @@ open_farm = record {
   max_tasks = 1000000;
   roles = open_role ∷ [];
   clients = [];
+  hooks = [];
 }

@@ -9,6 +9,7 @@ use farm_machine::config::Config;
 use farm_machine::grants::Grants;
 use farm_text::Text;
 use hawk_auth::ClientBook;
+use hook_fire::HookBook;
 use role_expand::{Role, RoleSet};
 use scope_sets::Scope;
 use std::alloc::{AllocError, Global};
@@ -45,6 +46,7 @@ fn configuration(alloc: Global) -> Result<Config, AllocError>
         max_tasks: 1_000_000,
         roles: Grants::new(alloc, roles)?,
         clients,
+        hooks: HookBook::new(alloc),
     })
 }
 

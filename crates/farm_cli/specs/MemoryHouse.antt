@@ -2,7 +2,7 @@
 use Rattle.std.specs.Prelude.{ℕ, List, bytes_eq, string_bytes, vec_capacity, Bool, true, false, Option, Some, None}
 use Rattle.farm_cli.specs.declared.lending.Lending.{Lending}
 use Rattle.farm_cli.specs.declared.lending.Lending.TheVariants.{Ready, Out, Back, Untold}
-use Rattle.farm_serving.specs.declared.memory.MemoryListener.{MemoryListener}
+use Rattle.farm_serving.specs.declared.coming.MemoryListener.{MemoryListener}
 use Rattle.farm_cli.specs.declared.memory_doors.MemoryDoors.{MemoryDoors}
 use Rattle.farm_cli.specs.declared.memory_doors.MemoryDoors.TheVariants.{Shut, Opened, Silent}
 use Rattle.farm_cli.specs.House.{Held, holds, refuses, Files, unopened, out, back, untold, Doors, shut, ajar, silent}

@@ -20,6 +20,7 @@ use farm_machine::config::Config;
 use farm_machine::tables::farms_tables_cross_threads;
 use farm_server::NoGate;
 use farm_serving::{Listener, Worker};
+use hook_fire::hooks_cross_threads;
 use std::alloc::Global;
 use std::io::ErrorKind;
 use std::sync::Wait;
@@ -51,6 +52,7 @@ where
     ensures notes { (H.lends house.new).notes ≡ (H.lends house.old).notes }
     ensures refusals { H.refusals house.new ≡ H.refusals house.old }
 {
+    hooks_cross_threads();
     farms_tables_cross_threads();
     let mut console = house.console();
     let clock = house.clock();

@@ -31,11 +31,12 @@ pub struct Bare {
 impl Model for Bare {
     ghost use Rattle.std.specs.Coded.{codes};
     ghost use Rattle.task_defs.specs.Codes.{members_code};
+    ghost use Rattle.hook_fire.specs.Codes.{document_code};
     ghost use Rattle.farm_machine.specs.State.{State, working};
 
     ghost Value = { State };
 
-    ghost coded = { Prim.hlevel (codes, members_code) };
+    ghost coded = { Prim.hlevel (codes, members_code, document_code) };
 
     ghost view = { λ b. working b.config b.tables };
 }

@@ -19,6 +19,7 @@ ghost use Rattle.farm_core.specs.Opened.{HasOpened, Replays, IsFarmDamaged};
 use disk_base::Disk;
 use farm_machine::tables::farms_tables_cross_threads;
 use farm_record::a_record_is_of_one_change;
+use hook_fire::hooks_cross_threads;
 
 /// A file is never damaged that a stop leaves within records that may be replayed.
 pub fn what_replays_is_never_damaged()
@@ -51,6 +52,7 @@ pub fn an_opened_farm_holds_its_records<D: Disk>()
 pub fn farms_cross_threads<D: Disk + Send>()
     ensures sent { IsSend (farm.the_row D.row D.Disk) }
 {
+    hooks_cross_threads();
     farms_tables_cross_threads();
 }
 
@@ -58,5 +60,6 @@ pub fn farms_cross_threads<D: Disk + Send>()
 pub fn bare_farms_cross_threads()
     ensures sent { IsSend bare.the_row }
 {
+    hooks_cross_threads();
     farms_tables_cross_threads();
 }

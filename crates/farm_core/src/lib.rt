@@ -17,6 +17,3 @@ pub use laws::{
     an_opened_farm_holds_its_records, bare_farms_cross_threads, farms_cross_threads,
     images_are_never_damaged, what_replays_is_never_damaged,
 };
-
-#[cfg(test)]
-mod tests;

@@ -1,7 +1,6 @@
 -- The clients of sound rows are a book.
-use Rattle.std.proofs.Common.{◌≡◌, ℕ, List, Option, map, take, sym, ap, ◌∙◌, subst}
+use Rattle.std.proofs.Common.{ℕ, List, Option, map, take, sym, ap, ◌∙◌, subst}
 use Rattle.std.specs.Prelude.{All}
-use Rattle.farm_text.specs.DateTime.{IsDateTime}
 use Rattle.scope_sets.specs.Scopes.{HasHandedInForm}
 use Rattle.hawk_auth.specs.Clients.{ClientData, IsClientId, IsToken, IsFirstBadClient, IsFirstRepeat}
 use Rattle.toml.specs.Data.{Data}

@@ -9,16 +9,18 @@ use Rattle.role_expand.specs.Refusals.{IsFirstBadRole, IsFirstRepeat}
 use Rattle.toml.specs.Parse.{parse_document}
 use Rattle.toml.specs.Data.{Data, string, integer, float, boolean, datetime, array, table, Members, get_member}
 use Rattle.farm_files.specs.declared.fault.Table.{Table}
-use Rattle.farm_files.specs.declared.fault.Table.TheVariants.{File, Farm, Role, Client}
+use Rattle.farm_files.specs.declared.fault.Table.TheVariants.{File, Farm, Role, Client, Hook}
 use Rattle.farm_files.specs.declared.fault.Rule.{Rule}
-use Rattle.farm_files.specs.declared.fault.Rule.TheVariants.{NotToml, UnknownKey, MissingKey, WrongKind, OutOfForm, RepeatedId, ParameterCycle, TooLong}
+use Rattle.farm_files.specs.declared.fault.Rule.TheVariants.{NotToml, UnknownKey, MissingKey, WrongKind, OutOfForm, RepeatedId, ParameterCycle, NotJson, TooLong}
 use Rattle.farm_files.specs.declared.fault.Fault.{Fault}
 use Rattle.farm_files.specs.Faults.{rule_number, fault_at, turn, IsBefore, IsFirst, IsLeastRule}
-use Rattle.farm_files.specs.Values.{has_only, list_of}
+use Rattle.farm_files.specs.Values.{has_only}
 use Rattle.farm_files.specs.Clients.{AreClients, client_rows, clients_in}
+use Rattle.farm_files.specs.Hooks.{AreHooks, hook_rows, hooks_in}
 use Rattle.farm_files.specs.Roles.{LiesOnCycle, role_rows, roles_in}
 use Rattle.farm_files.specs.Rows.{Kind, HasRowForm, RowBreaks, RowAtBreaks, RowsBreak, rows_in, says_of}
 use Rattle.farm_files.proofs.ClientLemmas.{clients_one}
+use Rattle.farm_files.proofs.HookLemmas.{hooks_one}
 use Rattle.farm_files.specs.Files.{table_names, FarmBreaks, farm_in, TablesBreak, IsToml, BytesBreak, Breaks}
 use Rattle.farm_files.specs.Parts.{IsFirstRow, IsFirstOnCycle, RefusesRows, RefusesCycle}
 use Rattle.farm_files.specs.declared.fault.FileFault.{FileFault}
@@ -34,6 +36,7 @@ role_turn WrongKind = omega arith
 role_turn OutOfForm = omega arith
 role_turn RepeatedId = omega arith
 role_turn ParameterCycle = omega arith
+role_turn NotJson = omega arith
 role_turn TooLong = omega arith
 
 role_turn_below : (r : Rule) → turn Role r ≤ 5
@@ -44,6 +47,7 @@ role_turn_below WrongKind = omega arith
 role_turn_below OutOfForm = omega arith
 role_turn_below RepeatedId = omega arith
 role_turn_below ParameterCycle = omega arith
+role_turn_below NotJson = omega arith
 role_turn_below TooLong = omega arith
 
 row_turn : (r : Rule) → (r ≡ ParameterCycle → ⊥) → turn Role r ≡ 4
@@ -54,6 +58,7 @@ row_turn WrongKind h = refl
 row_turn OutOfForm h = refl
 row_turn RepeatedId h = refl
 row_turn ParameterCycle h = absurd (h refl)
+row_turn NotJson h = refl
 row_turn TooLong h = refl
 
 -- a later turn is not before
@@ -92,6 +97,7 @@ file_sound top row WrongKind only h = h
 file_sound top row OutOfForm only h = h
 file_sound top row RepeatedId only h = h
 file_sound top row ParameterCycle only h = h
+file_sound top row NotJson only h = h
 file_sound top row TooLong only h = h
 
 -- ---- the tables
@@ -106,9 +112,11 @@ unknown_before top File row WrongKind b h = h
 unknown_before top File row OutOfForm b h = h
 unknown_before top File row RepeatedId b h = h
 unknown_before top File row ParameterCycle b h = h
+unknown_before top File row NotJson b h = h
 unknown_before top File row TooLong b h = h
 unknown_before top Farm row r b h = later (fault_at Farm row r) (fault_at File 0 UnknownKey) (omega arith) b
 unknown_before top Client row r b h = later (fault_at Client row r) (fault_at File 0 UnknownKey) (omega arith) b
+unknown_before top Hook row r b h = later (fault_at Hook row r) (fault_at File 0 UnknownKey) (omega arith) b
 unknown_before top Role row r b h = later (fault_at Role row r) (fault_at File 0 UnknownKey) (omega (arith, role_turn r)) b
 
 pub first_unknown : (top : Members) → has_only table_names top ≡ false → IsFirst (λ g. TablesBreak top g.table g.row g.rule) (fault_at File 0 UnknownKey)
@@ -121,6 +129,7 @@ farm_before top rule only least Farm row r (inl lt) h = absurd (omega arith)
 farm_before top rule only least Farm row r (inr (e, inl lt)) h = absurd (omega arith)
 farm_before top rule only least Farm row r (inr (e, inr k)) h = least.least r k.1 h.1
 farm_before top rule only least Client row r b h = later (fault_at Client row r) (fault_at Farm 0 rule) (omega arith) b
+farm_before top rule only least Hook row r b h = later (fault_at Hook row r) (fault_at Farm 0 rule) (omega arith) b
 farm_before top rule only least Role row r b h = later (fault_at Role row r) (fault_at Farm 0 rule) (omega (arith, role_turn r)) b
 
 pub first_farm : (top : Members) (rule : Rule) → has_only table_names top ≡ true → IsLeastRule (FarmBreaks (farm_in top)) rule
@@ -133,6 +142,7 @@ module _ (top : Members) (only : has_only table_names top ≡ true) (farm : (rul
   role_before f first File row r b h = file_sound top row r only h
   role_before f first Farm row r b h = farm r h.1
   role_before f first Client row r b h = later (fault_at Client row r) (fault_at Role f.row f.rule) (omega (arith, role_turn_below f.rule)) b
+  role_before f first Hook row r b h = later (fault_at Hook row r) (fault_at Role f.row f.rule) (omega (arith, role_turn_below f.rule)) b
   role_before f first Role row r b (inr k) =
       let mine : turn Role f.rule ≡ 4 = row_turn f.rule (λ e. rows_no_cycle role_rows (get_member (codes "role") top) f.row (subst (λ (x : Rule). RowsBreak role_rows (get_member (codes "role") top) f.row x) e first.breaks)) in
       later (fault_at Role row r) (fault_at Role f.row f.rule) (omega (arith, mine, ap (turn Role) k.0)) b
@@ -155,6 +165,7 @@ module _ (top : Members) (only : has_only table_names top ≡ true) (farm : (rul
     cycle_before f first File row r b h = file_sound top row r only h
     cycle_before f first Farm row r b h = farm r h.1
     cycle_before f first Client row r b h = later (fault_at Client row r) (fault_at Role f.row ParameterCycle) (omega arith) b
+    cycle_before f first Hook row r b h = later (fault_at Hook row r) (fault_at Role f.row ParameterCycle) (omega arith) b
     cycle_before f first Role row r b (inl h) = rows row r h
     cycle_before f first Role row r (inl lt) (inr k) = absurd (omega (arith, ap (turn Role) k.0))
     cycle_before f first Role row r (inr (e, inl lt)) (inr k) = first.earlier row lt k.1
@@ -173,6 +184,7 @@ module _ (top : Members) (only : has_only table_names top ≡ true) (farm : (rul
       client_before f first Farm row r b h = farm r h.1
       client_before f first Role row r b (inl h) = rows row r h
       client_before f first Role row r b (inr k) = acyclic row k.1
+      client_before f first Hook row r b h = later (fault_at Hook row r) (fault_at Client f.row f.rule) (omega arith) b
       client_before f first Client row r (inl lt) h = absurd (omega arith)
       client_before f first Client row r (inr (e, inl lt)) h = first.earlier row r lt h
       client_before f first Client row r (inr (e, inr k)) h =
@@ -184,20 +196,41 @@ module _ (top : Members) (only : has_only table_names top ≡ true) (farm : (rul
           subst (λ (x : Fault). IsFirst (λ g. TablesBreak top g.table g.row g.rule) x) is
           record { breaks = first.breaks; first = λ g b x. client_before f first g.table g.row g.rule b x }
 
-      sound_at : ((row : ℕ) (rule : Rule) → ¬ RowsBreak client_rows (get_member (codes "client") top) row rule) → (t : Table) (row : ℕ) (r : Rule) → TablesBreak top t row r → ⊥
-      sound_at clients File row r h = file_sound top row r only h
-      sound_at clients Farm row r h = farm r h.1
-      sound_at clients Role row r (inl h) = rows row r h
-      sound_at clients Role row r (inr k) = acyclic row k.1
-      sound_at clients Client row r h = clients row r h
+      module _ (clients : (row : ℕ) (rule : Rule) → ¬ RowsBreak client_rows (get_member (codes "client") top) row rule) where
+        hook_before : (f : Fault) → IsFirstRow Hook (RowsBreak hook_rows (get_member (codes "hook") top)) f
+            → (t : Table) (row : ℕ) (r : Rule) → IsBefore (fault_at t row r) (fault_at Hook f.row f.rule) → TablesBreak top t row r → ⊥
+        hook_before f first File row r b h = file_sound top row r only h
+        hook_before f first Farm row r b h = farm r h.1
+        hook_before f first Role row r b (inl h) = rows row r h
+        hook_before f first Role row r b (inr k) = acyclic row k.1
+        hook_before f first Client row r b h = clients row r h
+        hook_before f first Hook row r (inl lt) h = absurd (omega arith)
+        hook_before f first Hook row r (inr (e, inl lt)) h = first.earlier row r lt h
+        hook_before f first Hook row r (inr (e, inr k)) h =
+            first.least r k.1 (subst (λ (n : ℕ). RowsBreak hook_rows (get_member (codes "hook") top) n r) k.0 h)
+
+        pub first_hook : (f : Fault) → IsFirstRow Hook (RowsBreak hook_rows (get_member (codes "hook") top)) f → IsFirst (λ g. TablesBreak top g.table g.row g.rule) f
+        first_hook f first =
+            let is : fault_at Hook f.row f.rule ≡ f = ap (λ (t : Table). fault_at t f.row f.rule) (sym first.table_is) in
+            subst (λ (x : Fault). IsFirst (λ g. TablesBreak top g.table g.row g.rule) x) is
+            record { breaks = first.breaks; first = λ g b x. hook_before f first g.table g.row g.rule b x }
+
+        sound_at : ((row : ℕ) (rule : Rule) → ¬ RowsBreak hook_rows (get_member (codes "hook") top) row rule) → (t : Table) (row : ℕ) (r : Rule) → TablesBreak top t row r → ⊥
+        sound_at hooks File row r h = file_sound top row r only h
+        sound_at hooks Farm row r h = farm r h.1
+        sound_at hooks Role row r (inl h) = rows row r h
+        sound_at hooks Role row r (inr k) = acyclic row k.1
+        sound_at hooks Client row r h = clients row r h
+        sound_at hooks Hook row r h = hooks row r h
 
     acyclic_in : (roles : List RoleData) → roles ≡ roles_in (get_member (codes "role") top) → ((row : ℕ) → ¬ LiesOnCycle roles row)
         → (row : ℕ) → ¬ LiesOnCycle (roles_in (get_member (codes "role") top)) row
     acyclic_in roles same acyclic = subst (λ (rs : List RoleData). (row : ℕ) → ¬ LiesOnCycle rs row) same acyclic
 
     pub tables_sound : (roles : List RoleData) → roles ≡ roles_in (get_member (codes "role") top) → ((row : ℕ) → ¬ LiesOnCycle roles row)
-        → ((row : ℕ) (rule : Rule) → ¬ RowsBreak client_rows (get_member (codes "client") top) row rule) → (f : Fault) → ¬ TablesBreak top f.table f.row f.rule
-    tables_sound roles same acyclic clients f = sound_at (acyclic_in roles same acyclic) clients f.table f.row f.rule
+        → ((row : ℕ) (rule : Rule) → ¬ RowsBreak client_rows (get_member (codes "client") top) row rule)
+        → ((row : ℕ) (rule : Rule) → ¬ RowsBreak hook_rows (get_member (codes "hook") top) row rule) → (f : Fault) → ¬ TablesBreak top f.table f.row f.rule
+    tables_sound roles same acyclic clients hooks f = sound_at (acyclic_in roles same acyclic) clients hooks f.table f.row f.rule
 
 -- ---- the bytes
 
@@ -209,6 +242,7 @@ bytes_sound longest bytes top le toml WrongKind h = h
 bytes_sound longest bytes top le toml OutOfForm h = h
 bytes_sound longest bytes top le toml RepeatedId h = h
 bytes_sound longest bytes top le toml ParameterCycle h = h
+bytes_sound longest bytes top le toml NotJson h = h
 bytes_sound longest bytes top le toml TooLong h = absurd (omega arith)
 
 some_members : (a b : Members) → Some a ≡ Some b → a ≡ b
@@ -241,10 +275,12 @@ turn_zero File WrongKind e = absurd (omega arith)
 turn_zero File OutOfForm e = absurd (omega arith)
 turn_zero File RepeatedId e = absurd (omega arith)
 turn_zero File ParameterCycle e = absurd (omega arith)
+turn_zero File NotJson e = absurd (omega arith)
 turn_zero File TooLong e = refl
 turn_zero Farm r e = absurd (omega arith)
 turn_zero Role r e = absurd (omega (arith, role_turn r))
 turn_zero Client r e = absurd (omega arith)
+turn_zero Hook r e = absurd (omega arith)
 
 none_before_long : (g : Fault) → IsBefore g (fault_at File 0 TooLong) → ⊥
 none_before_long g (inl lt) = absurd (omega arith)
@@ -262,12 +298,14 @@ toml_before longest bytes le File row NotToml (inr (e, inr k)) h = absurd (omega
 toml_before longest bytes le Farm row NotToml b h = absurd (let e : Farm ≡ File = h.0 in cc)
 toml_before longest bytes le Role row NotToml b h = absurd (let e : Role ≡ File = h.0 in cc)
 toml_before longest bytes le Client row NotToml b h = absurd (let e : Client ≡ File = h.0 in cc)
+toml_before longest bytes le Hook row NotToml b h = absurd (let e : Hook ≡ File = h.0 in cc)
 toml_before longest bytes le t row UnknownKey b h = h.2
 toml_before longest bytes le t row MissingKey b h = h.2
 toml_before longest bytes le t row WrongKind b h = h.2
 toml_before longest bytes le t row OutOfForm b h = h.2
 toml_before longest bytes le t row RepeatedId b h = h.2
 toml_before longest bytes le t row ParameterCycle b h = h.2
+toml_before longest bytes le t row NotJson b h = h.2
 toml_before longest bytes le t row TooLong b h = absurd (omega (arith, h.2))
 
 pub first_not_toml : (longest : ℕ) (bytes : List ℕ) → length bytes ≤ longest → ((top : Members) → ¬ IsToml bytes top) → IsFirst (Breaks longest bytes) (fault_at File 0 NotToml)
@@ -286,6 +324,15 @@ row_form kind es i (float x) sound never = sound WrongKind tt
 row_form kind es i (boolean b) sound never = sound WrongKind tt
 row_form kind es i (datetime t) sound never = sound WrongKind tt
 row_form kind es i (array ds) sound never = sound WrongKind tt
+
+pub row_json : {X : Type 0} (kind : Kind X) (es : List X) (i : ℕ) (d : Data) → ((rule : Rule) → ¬ RowBreaks kind es i d rule) → ¬ (¬ kind.HasJson (says_of kind d))
+row_json kind es i (table ms) sound never = sound NotJson never
+row_json kind es i (string s) sound never = sound WrongKind tt
+row_json kind es i (integer z) sound never = sound WrongKind tt
+row_json kind es i (float x) sound never = sound WrongKind tt
+row_json kind es i (boolean b) sound never = sound WrongKind tt
+row_json kind es i (datetime t) sound never = sound WrongKind tt
+row_json kind es i (array ds) sound never = sound WrongKind tt
 
 pub row_apart : {X : Type 0} (kind : Kind X) (es : List X) (i : ℕ) (d : Data) → ((rule : Rule) → ¬ RowBreaks kind es i d rule) → ¬ Any (λ e. kind.id_of e ≡ kind.id_of (says_of kind d)) es
 row_apart kind es i (table ms) sound found = sound RepeatedId found
@@ -363,9 +410,16 @@ pub refuses_clients : (top : Members) → has_only table_names top ≡ true → 
 refuses_clients top only farm rows roles same acyclic (faults.Fault f) h = first_client top only farm rows (acyclic_in top only farm rows roles same acyclic) f h
 refuses_clients top only farm rows roles same acyclic faults.NoMemory h = tt
 
+pub refuses_hooks : (top : Members) → has_only table_names top ≡ true → ((rule : Rule) → ¬ FarmBreaks (farm_in top) rule) → ((row : ℕ) (rule : Rule) → ¬ RowsBreak role_rows (get_member (codes "role") top) row rule)
+    → (roles : List RoleData) → roles ≡ roles_in (get_member (codes "role") top) → ((row : ℕ) → ¬ LiesOnCycle roles row)
+    → ((row : ℕ) (rule : Rule) → ¬ RowsBreak client_rows (get_member (codes "client") top) row rule) → (e : FileFault)
+    → RefusesRows Hook (RowsBreak hook_rows (get_member (codes "hook") top)) e → RefusesTables top e
+refuses_hooks top only farm rows roles same acyclic clients (faults.Fault f) h = first_hook top only farm rows (acyclic_in top only farm rows roles same acyclic) clients f h
+refuses_hooks top only farm rows roles same acyclic clients faults.NoMemory h = tt
+
 pub says_farm : (longest : ℕ) (bytes : List ℕ) (top : Members) → length bytes ≤ longest → IsToml bytes top → (r : Result Config FileFault)
     → MatchResult r (SaysTables top) (RefusesTables top) → MatchResult r (Says longest bytes) (Refuses longest bytes)
-says_farm longest bytes top le toml (Ok config) h = record { sound = sound_of_tables longest bytes top le toml h.sound; top = top; toml = toml; said = h.said; clients = h.clients }
+says_farm longest bytes top le toml (Ok config) h = record { sound = sound_of_tables longest bytes top le toml h.sound; top = top; toml = toml; said = h.said; clients = h.clients; hooks = h.hooks }
 says_farm longest bytes top le toml (Err (faults.Fault f)) h = first_of_tables longest bytes top f le toml h
 says_farm longest bytes top le toml (Err faults.NoMemory) h = tt
 
@@ -377,7 +431,7 @@ never_toml bytes h top t = absurd (let e : None ≡ Some top = sym (h t.text) �
 rule_at : ℕ → Rule
 rule_at n =
     if n == 1 then NotToml else (if n == 2 then UnknownKey else (if n == 3 then MissingKey else (if n == 4 then WrongKind else
-    (if n == 5 then OutOfForm else (if n == 6 then RepeatedId else (if n == 7 then ParameterCycle else TooLong))))))
+    (if n == 5 then OutOfForm else (if n == 6 then RepeatedId else (if n == 7 then ParameterCycle else (if n == 8 then NotJson else TooLong)))))))
 
 rule_at-number : (r : Rule) → rule_at (rule_number r) ≡ r
 unfolding rule_at
@@ -388,10 +442,11 @@ rule_at-number WrongKind = refl
 rule_at-number OutOfForm = refl
 rule_at-number RepeatedId = refl
 rule_at-number ParameterCycle = refl
+rule_at-number NotJson = refl
 rule_at-number TooLong = refl
 
 table_at : ℕ → Table
-table_at n = if nat_lt n 3 then File else (if nat_lt n 4 then Farm else (if nat_lt n 6 then Role else Client))
+table_at n = if nat_lt n 3 then File else (if nat_lt n 4 then Farm else (if nat_lt n 6 then Role else (if nat_lt n 7 then Client else Hook)))
 
 table_at-turn : (t : Table) (r : Rule) → table_at (turn t r) ≡ t
 unfolding table_at
@@ -402,6 +457,7 @@ table_at-turn File WrongKind = refl
 table_at-turn File OutOfForm = refl
 table_at-turn File RepeatedId = refl
 table_at-turn File ParameterCycle = refl
+table_at-turn File NotJson = refl
 table_at-turn File TooLong = refl
 table_at-turn Farm r = refl
 table_at-turn Role NotToml = refl
@@ -411,8 +467,10 @@ table_at-turn Role WrongKind = refl
 table_at-turn Role OutOfForm = refl
 table_at-turn Role RepeatedId = refl
 table_at-turn Role ParameterCycle = refl
+table_at-turn Role NotJson = refl
 table_at-turn Role TooLong = refl
 table_at-turn Client r = refl
+table_at-turn Hook r = refl
 
 level : (m n : ℕ) → ¬ (m < n) → ¬ (n < m) → m ≡ n
 level m n a b =
@@ -440,5 +498,6 @@ first_one P f g p q = neither f g (λ before. q.first f before p.breaks) (λ bef
 pub says_one : (longest : ℕ) (bytes : List ℕ) (a b : Config) → Says longest bytes a → Says longest bytes b → a ≡ b
 says_one longest bytes a b p q =
     let tops = toml_one bytes p.top q.top p.toml q.toml in
-    let same = clients_one _ a.clients b.clients (subst (λ (top : Members). AreClients (clients_in (get_member (codes "client") top)) a.clients) tops p.clients) q.clients in
-    p.said ∙ ap (λ (top : Members). farm_of top a.clients) tops ∙ ap (farm_of q.top) same ∙ sym q.said
+    let clients = clients_one _ a.clients b.clients (subst (λ (top : Members). AreClients (clients_in (get_member (codes "client") top)) a.clients) tops p.clients) q.clients in
+    let hooks = hooks_one _ a.hooks b.hooks (subst (λ (top : Members). AreHooks (hooks_in (get_member (codes "hook") top)) a.hooks) tops p.hooks) q.hooks in
+    p.said ∙ ap (λ (top : Members). farm_of top a.clients a.hooks) tops ∙ ap (λ cs. farm_of q.top cs a.hooks) clients ∙ ap (farm_of q.top b.clients) hooks ∙ sym q.said

@@ -1,14 +1,19 @@
 -- What breaks a rule breaks a first one, so that each file says a configuration or has a first fault.
-use Rattle.std.proofs.Common.{ℕ, zero, suc, ◌<◌, ◌≤◌, inl, inr, List, map, take, refl, subst, arith}
+use Rattle.std.proofs.Common.{ℕ, zero, suc, ◌<◌, ◌≤◌, inl, inr, List, Option, map, take, refl, subst, arith}
 use Rattle.std.specs.Prelude.{codes}
 use Rattle.farm_text.specs.DateTime.{IsDateTime}
-use Rattle.toml.specs.Data.{get_member}
-use Rattle.farm_files.specs.Clients.{ClientText, client_rows, clients_in}
-use Rattle.farm_files.specs.Rows.{rows_in, says_of}
+use Rattle.hawk_auth.specs.Clients.{ClientData}
+use Rattle.hook_fire.specs.Hooks.{HookData}
+use Rattle.toml.specs.Data.{Data, get_member}
+use Rattle.farm_files.specs.Clients.{ClientText, AreClients, client_rows, clients_in}
+use Rattle.farm_files.specs.Hooks.{HookText, AreHooks, HasTemplate, hook_rows, hooks_in}
+use Rattle.farm_files.specs.Rows.{RowsBreak, rows_in, says_of}
 use Rattle.farm_files.proofs.ClientLemmas.{some_clients}
-use Rattle.farm_files.proofs.FarmLemmas.{row_form, rows_sound, said_at}
+use Rattle.farm_files.proofs.HookLemmas.{some_hooks}
+use Rattle.farm_files.proofs.FarmLemmas.{row_form, row_json, rows_sound, said_at}
 use Rattle.farm_machine.specs.declared.config.Config.{Config}
-use Rattle.farm_files.specs.declared.fault.Table.TheVariants.{File, Client}
+use Rattle.farm_files.specs.declared.fault.Table.TheVariants.{File, Client, Hook}
+use Rattle.farm_files.specs.declared.fault.Rule.{Rule}
 use Rattle.farm_files.specs.declared.fault.Rule.TheVariants.{NotToml}
 use Rattle.farm_files.specs.declared.fault.Fault.{Fault}
 use Rattle.farm_files.specs.Faults.{rule_number, fault_at, turn, IsBefore, IsFirst}
@@ -44,6 +49,26 @@ module _ (P : Fault → Type 0) (step : (f : Fault) → ((g : Fault) → IsBefor
 none_first : (Breaks : Fault → Type 0) → ((f : Fault) → ¬ IsFirst Breaks f) → (f : Fault) → ¬ Breaks f
 none_first Breaks none = each_fault (λ f. ¬ Breaks f) (λ f before breaks. none f record { breaks = breaks; first = before })
 
+-- sound rows say clients
+clients_said : (o : Option Data) → ((row : ℕ) (rule : Rule) → ¬ RowsBreak client_rows o row rule) → ¬ (¬ ((cs : List ClientData) × AreClients (clients_in o) cs))
+clients_said o sound none =
+    some_clients (clients_in o)
+    (λ k t at never.
+    let said = said_at client_rows (rows_in o) k t at in
+    row_form client_rows (map (says_of client_rows) (take k (rows_in o))) k said.0 (λ rule b. rows_sound client_rows o sound k rule (said.0, said.1, b))
+    (λ form. never (subst (λ (x : ClientText). (m : ℕ) × IsDateTime m x.expires) said.2 form.form.moment)))
+    (λ cs are. none (cs, are))
+
+-- and hooks
+hooks_said : (o : Option Data) → ((row : ℕ) (rule : Rule) → ¬ RowsBreak hook_rows o row rule) → ¬ (¬ ((hs : List HookData) × AreHooks (hooks_in o) hs))
+hooks_said o sound none =
+    some_hooks (hooks_in o)
+    (λ k t at never.
+    let said = said_at hook_rows (rows_in o) k t at in
+    row_json hook_rows (map (says_of hook_rows) (take k (rows_in o))) k said.0 (λ rule b. rows_sound hook_rows o sound k rule (said.0, said.1, b))
+    (λ json. never (subst (λ (x : HookText). HasTemplate x) said.2 json)))
+    (λ hs are. none (hs, are))
+
 pub says_or_breaks : (longest : ℕ) (bytes : List ℕ) → ((config : Config) → ¬ Says longest bytes config) → ((f : Fault) → ¬ IsFirst (Breaks longest bytes) f) → ⊥
 says_or_breaks longest bytes unsaid none =
     let sound = none_first (Breaks longest bytes) none in
@@ -51,12 +76,8 @@ says_or_breaks longest bytes unsaid none =
       refl,
       refl,
       λ top toml.
-          let rows = get_member (codes "client") top in
-          let rows_are = rows_sound client_rows rows (λ row rule b. sound (fault_at Client row rule) (inr (top, toml, b))) in
-          some_clients (clients_in rows)
-          (λ k t at no.
-          let said = said_at client_rows (rows_in rows) k t at in
-          row_form client_rows (map (says_of client_rows) (take k (rows_in rows))) k said.0 (λ rule b. rows_are k rule (said.0, said.1, b))
-          (λ form. no (subst (λ (x : ClientText). (m : ℕ) × IsDateTime m x.expires) said.2 form.form.moment)))
-          (λ cs are. unsaid (farm_of top cs) record { sound = sound; top = top; toml = toml; said = refl; clients = are }),
+          clients_said (get_member (codes "client") top) (λ row rule b. sound (fault_at Client row rule) (inr (top, toml, b)))
+          (λ (cs, clients).
+          hooks_said (get_member (codes "hook") top) (λ row rule b. sound (fault_at Hook row rule) (inr (top, toml, b)))
+          (λ (hs, hooks). unsaid (farm_of top cs hs) record { sound = sound; top = top; toml = toml; said = refl; clients = clients; hooks = hooks })),
     ))

@@ -4,5 +4,6 @@ pub mod RuleLemmas
 pub mod RowLemmas
 pub mod BookLemmas
 pub mod ClientLemmas
+pub mod HookLemmas
 pub mod FarmLemmas
 pub mod FirstFaultLemmas

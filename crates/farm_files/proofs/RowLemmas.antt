@@ -1,13 +1,13 @@
 -- Rows, beside the values that stand for them.
 use Rattle.std.proofs.Common.{◌≡◌, ℕ, ◌+◌, ◌<◌, Bool, true, false, cond, ◌||◌, List, [], ◌∷◌, ◌++◌, length, get_or, take, map, Option, Some, None, Result, Ok, Err, Bor, String, Global, refl, sym, ap, ◌∙◌, subst, arith, inl, inr}
-use Rattle.std.specs.Prelude.{All, Any, MatchResult, codes, is_some, slice_get}
+use Rattle.std.specs.Prelude.{All, MatchResult, codes, is_some, slice_get}
 use Rattle.std.specs.List.{list_all, list_any, filter_map}
 use Rattle.std.specs.Str.{bytes_eq}
 use Rattle.std.specs.BTreeSet.{BTreeSet, contains_text}
 use Rattle.std.proofs.lemmas.Bool.{false≢true, cases_lt}
 use Rattle.std.proofs.lemmas.List.{get_or-map, length-map, map_more, map_push, take-map}
 use Rattle.std.proofs.lemmas.List.Elements.{All-push}
-use Rattle.std.proofs.lemmas.List.Folds.{Any-from_list_any, list_any-from_Any, list_any-append}
+use Rattle.std.proofs.lemmas.List.Folds.{list_any-append}
 use Rattle.std.proofs.lemmas.Option.{slice_get-map, slice_get_read, slice_get_within}
 use Rattle.std.proofs.lemmas.Slice.Eq.{bytes_eq-Decides}
 use Rattle.scope_sets.specs.Scopes.{IsPrintable}
@@ -18,7 +18,7 @@ use Rattle.toml.specs.Data.{Data, string, integer, float, boolean, datetime, arr
 use Rattle.toml.specs.View.{view, items_of}
 use Rattle.toml.specs.declared.value.Value.{Value}
 use Rattle.farm_files.specs.declared.fault.Rule.{Rule}
-use Rattle.farm_files.specs.declared.fault.Rule.TheVariants.{NotToml, UnknownKey, MissingKey, WrongKind, OutOfForm, RepeatedId, ParameterCycle, TooLong}
+use Rattle.farm_files.specs.declared.fault.Rule.TheVariants.{NotToml, UnknownKey, MissingKey, WrongKind, OutOfForm, RepeatedId, ParameterCycle, NotJson, TooLong}
 use Rattle.farm_files.specs.declared.fault.RowFault.{RowFault}
 use Rattle.farm_files.specs.declared.fault.RowFault.TheVariants as rows
 use Rattle.farm_files.specs.declared.fault.Table.{Table}
@@ -83,6 +83,7 @@ module _ (ms : Members) (id scopes : Data) (only : has_only role_keys ms ≡ tru
       (record { only = only; keys = keys; kinds = kinds h.0 h.1 }, λ form. h.2 (subst (λ o. All (All IsPrintable) (texts_in o)) (sym e2) form.printable))
   keys_from_values (Err (rows.Breaks RepeatedId)) h = absurd h
   keys_from_values (Err (rows.Breaks ParameterCycle)) h = absurd h
+  keys_from_values (Err (rows.Breaks NotJson)) h = absurd h
   keys_from_values (Err (rows.Breaks TooLong)) h = absurd h
   keys_from_values (Err rows.NoMemory) h = tt
 

@@ -9,7 +9,7 @@ use Rattle.std.proofs.lemmas.Slice.Eq.{bytes_eq-Decides}
 use Rattle.std.proofs.lemmas.Bool.{false≢true}
 use Rattle.toml.specs.Data.{Data, string, integer, float, boolean, datetime, array, table, Members, as_table}
 use Rattle.farm_files.specs.declared.fault.Rule.{Rule}
-use Rattle.farm_files.specs.declared.fault.Rule.TheVariants.{NotToml, UnknownKey, MissingKey, WrongKind, OutOfForm, RepeatedId, ParameterCycle, TooLong}
+use Rattle.farm_files.specs.declared.fault.Rule.TheVariants.{NotToml, UnknownKey, MissingKey, WrongKind, OutOfForm, RepeatedId, ParameterCycle, NotJson, TooLong}
 use Rattle.farm_files.specs.declared.fault.RowFault.{RowFault}
 use Rattle.farm_files.specs.declared.fault.RowFault.TheVariants as rows
 use Rattle.farm_files.specs.declared.settings.Settings.{Settings}
@@ -22,23 +22,24 @@ use Rattle.farm_files.specs.Earlier.{AreIdsOf}
 
 -- none below a number, from each rule
 below : (P : Rule → Type 0) (n : ℕ) → (1 < n → ¬ P NotToml) → (2 < n → ¬ P UnknownKey) → (3 < n → ¬ P MissingKey) → (4 < n → ¬ P WrongKind)
-    → (5 < n → ¬ P OutOfForm) → (6 < n → ¬ P RepeatedId) → (7 < n → ¬ P ParameterCycle) → (9 < n → ¬ P TooLong)
+    → (5 < n → ¬ P OutOfForm) → (6 < n → ¬ P RepeatedId) → (7 < n → ¬ P ParameterCycle) → (8 < n → ¬ P NotJson) → (9 < n → ¬ P TooLong)
     → (other : Rule) → rule_number other < n → ¬ P other
-below P n a b c d e f g h NotToml = a
-below P n a b c d e f g h UnknownKey = b
-below P n a b c d e f g h MissingKey = c
-below P n a b c d e f g h WrongKind = d
-below P n a b c d e f g h OutOfForm = e
-below P n a b c d e f g h RepeatedId = f
-below P n a b c d e f g h ParameterCycle = g
-below P n a b c d e f g h TooLong = h
+below P n a b c d e f g h i NotToml = a
+below P n a b c d e f g h i UnknownKey = b
+below P n a b c d e f g h i MissingKey = c
+below P n a b c d e f g h i WrongKind = d
+below P n a b c d e f g h i OutOfForm = e
+below P n a b c d e f g h i RepeatedId = f
+below P n a b c d e f g h i ParameterCycle = g
+below P n a b c d e f g h i NotJson = h
+below P n a b c d e f g h i TooLong = i
 
 -- what is no table breaks one rule
 kind_only : (P : Rule → Type 0) → P WrongKind → ¬ P NotToml → ¬ P UnknownKey → ¬ P MissingKey → IsLeastRule P WrongKind
 kind_only P h a b c = record {
   breaks = h;
   least = below P 4 (λ lt. a) (λ lt. b) (λ lt. c) (λ lt. absurd (omega arith)) (λ lt. absurd (omega arith)) (λ lt. absurd (omega arith))
-      (λ lt. absurd (omega arith)) (λ lt. absurd (omega arith));
+      (λ lt. absurd (omega arith)) (λ lt. absurd (omega arith)) (λ lt. absurd (omega arith));
 }
 
 pub farm_no_table : (d : Data) → None ≡ as_table d → IsLeastRule (FarmBreaks d) WrongKind
@@ -80,21 +81,21 @@ pub farm_unknown : (ms : Members) → has_only farm_keys ms ≡ false → IsLeas
 farm_unknown ms h = record {
   breaks = h;
   least = below (FarmBreaks (table ms)) 2 (λ lt x. x) (λ lt. absurd (omega arith)) (λ lt. absurd (omega arith)) (λ lt. absurd (omega arith))
-      (λ lt. absurd (omega arith)) (λ lt. absurd (omega arith)) (λ lt. absurd (omega arith)) (λ lt. absurd (omega arith));
+      (λ lt. absurd (omega arith)) (λ lt. absurd (omega arith)) (λ lt. absurd (omega arith)) (λ lt. absurd (omega arith)) (λ lt. absurd (omega arith));
 }
 
 pub farm_kind : (ms : Members) → has_only farm_keys ms ≡ true → ¬ HasFarmKinds ms → IsLeastRule (FarmBreaks (table ms)) WrongKind
 farm_kind ms only h = record {
   breaks = h;
   least = below (FarmBreaks (table ms)) 4 (λ lt x. x) (λ lt x. false≢true (sym x ∙ only)) (λ lt x. x) (λ lt. absurd (omega arith))
-      (λ lt. absurd (omega arith)) (λ lt. absurd (omega arith)) (λ lt. absurd (omega arith)) (λ lt. absurd (omega arith));
+      (λ lt. absurd (omega arith)) (λ lt. absurd (omega arith)) (λ lt. absurd (omega arith)) (λ lt. absurd (omega arith)) (λ lt. absurd (omega arith));
 }
 
 pub farm_form : (ms : Members) → has_only farm_keys ms ≡ true → HasFarmKinds ms → ¬ HasFarmForms ms → IsLeastRule (FarmBreaks (table ms)) OutOfForm
 farm_form ms only kinds h = record {
   breaks = h;
   least = below (FarmBreaks (table ms)) 5 (λ lt x. x) (λ lt x. false≢true (sym x ∙ only)) (λ lt x. x) (λ lt x. x kinds)
-      (λ lt. absurd (omega arith)) (λ lt. absurd (omega arith)) (λ lt. absurd (omega arith)) (λ lt. absurd (omega arith));
+      (λ lt. absurd (omega arith)) (λ lt. absurd (omega arith)) (λ lt. absurd (omega arith)) (λ lt. absurd (omega arith)) (λ lt. absurd (omega arith));
 }
 
 pub farm_sound : (ms : Members) → has_only farm_keys ms ≡ true → HasFarmKinds ms → HasFarmForms ms → (rule : Rule) → ¬ FarmBreaks (table ms) rule
@@ -105,6 +106,7 @@ farm_sound ms only kinds forms WrongKind = λ x. x kinds
 farm_sound ms only kinds forms OutOfForm = λ x. x forms
 farm_sound ms only kinds forms RepeatedId = λ x. x
 farm_sound ms only kinds forms ParameterCycle = λ x. x
+farm_sound ms only kinds forms NotJson = λ x. x
 farm_sound ms only kinds forms TooLong = λ x. x
 
 -- ---- a row
@@ -113,21 +115,21 @@ row_unknown : {X : Type 0} (kind : Kind X) (es : List X) (i : ℕ) (ms : Members
 row_unknown kind es i ms h = record {
   breaks = h;
   least = below (RowBreaks kind es i (table ms)) 2 (λ lt x. x) (λ lt. absurd (omega arith)) (λ lt. absurd (omega arith)) (λ lt. absurd (omega arith))
-      (λ lt. absurd (omega arith)) (λ lt. absurd (omega arith)) (λ lt. absurd (omega arith)) (λ lt. absurd (omega arith));
+      (λ lt. absurd (omega arith)) (λ lt. absurd (omega arith)) (λ lt. absurd (omega arith)) (λ lt. absurd (omega arith)) (λ lt. absurd (omega arith));
 }
 
 row_missing : {X : Type 0} (kind : Kind X) (es : List X) (i : ℕ) (ms : Members) → has_only kind.keys ms ≡ true → ¬ kind.HasKeys ms → IsLeastRule (RowBreaks kind es i (table ms)) MissingKey
 row_missing kind es i ms only h = record {
   breaks = h;
   least = below (RowBreaks kind es i (table ms)) 3 (λ lt x. x) (λ lt x. false≢true (sym x ∙ only)) (λ lt. absurd (omega arith)) (λ lt. absurd (omega arith))
-      (λ lt. absurd (omega arith)) (λ lt. absurd (omega arith)) (λ lt. absurd (omega arith)) (λ lt. absurd (omega arith));
+      (λ lt. absurd (omega arith)) (λ lt. absurd (omega arith)) (λ lt. absurd (omega arith)) (λ lt. absurd (omega arith)) (λ lt. absurd (omega arith));
 }
 
 row_wrong : {X : Type 0} (kind : Kind X) (es : List X) (i : ℕ) (ms : Members) → has_only kind.keys ms ≡ true → kind.HasKeys ms → ¬ kind.HasKinds ms → IsLeastRule (RowBreaks kind es i (table ms)) WrongKind
 row_wrong kind es i ms only keys h = record {
   breaks = h;
   least = below (RowBreaks kind es i (table ms)) 4 (λ lt x. x) (λ lt x. false≢true (sym x ∙ only)) (λ lt x. x keys) (λ lt. absurd (omega arith))
-      (λ lt. absurd (omega arith)) (λ lt. absurd (omega arith)) (λ lt. absurd (omega arith)) (λ lt. absurd (omega arith));
+      (λ lt. absurd (omega arith)) (λ lt. absurd (omega arith)) (λ lt. absurd (omega arith)) (λ lt. absurd (omega arith)) (λ lt. absurd (omega arith));
 }
 
 pub row_form : {X : Type 0} (kind : Kind X) (es : List X) (i : ℕ) (ms : Members) → has_only kind.keys ms ≡ true → kind.HasKeys ms → kind.HasKinds ms → ¬ HasRowForm kind i (kind.says ms)
@@ -135,7 +137,7 @@ pub row_form : {X : Type 0} (kind : Kind X) (es : List X) (i : ℕ) (ms : Member
 row_form kind es i ms only keys kinds h = record {
   breaks = h;
   least = below (RowBreaks kind es i (table ms)) 5 (λ lt x. x) (λ lt x. false≢true (sym x ∙ only)) (λ lt x. x keys) (λ lt x. x kinds)
-      (λ lt. absurd (omega arith)) (λ lt. absurd (omega arith)) (λ lt. absurd (omega arith)) (λ lt. absurd (omega arith));
+      (λ lt. absurd (omega arith)) (λ lt. absurd (omega arith)) (λ lt. absurd (omega arith)) (λ lt. absurd (omega arith)) (λ lt. absurd (omega arith));
 }
 
 pub row_repeated : {X : Type 0} (kind : Kind X) (es : List X) (i : ℕ) (ms : Members) → HasRow kind ms → HasRowForm kind i (kind.says ms) → Any (λ other. kind.id_of other ≡ kind.id_of (kind.says ms)) es
@@ -143,19 +145,28 @@ pub row_repeated : {X : Type 0} (kind : Kind X) (es : List X) (i : ℕ) (ms : Me
 row_repeated kind es i ms has form h = record {
   breaks = h;
   least = below (RowBreaks kind es i (table ms)) 6 (λ lt x. x) (λ lt x. false≢true (sym x ∙ has.only)) (λ lt x. x has.keys) (λ lt x. x has.kinds)
-      (λ lt x. x form) (λ lt. absurd (omega arith)) (λ lt. absurd (omega arith)) (λ lt. absurd (omega arith));
+      (λ lt x. x form) (λ lt. absurd (omega arith)) (λ lt. absurd (omega arith)) (λ lt. absurd (omega arith)) (λ lt. absurd (omega arith));
+}
+
+row_unread : {X : Type 0} (kind : Kind X) (es : List X) (i : ℕ) (ms : Members) → HasRow kind ms → HasRowForm kind i (kind.says ms) → ¬ Any (λ other. kind.id_of other ≡ kind.id_of (kind.says ms)) es
+    → ¬ kind.HasJson (kind.says ms) → IsLeastRule (RowBreaks kind es i (table ms)) NotJson
+row_unread kind es i ms has form apart h = record {
+  breaks = h;
+  least = below (RowBreaks kind es i (table ms)) 8 (λ lt x. x) (λ lt x. false≢true (sym x ∙ has.only)) (λ lt x. x has.keys) (λ lt x. x has.kinds)
+      (λ lt x. x form) (λ lt. apart) (λ lt x. x) (λ lt. absurd (omega arith)) (λ lt. absurd (omega arith));
 }
 
 pub row_sound : {X : Type 0} (kind : Kind X) (es : List X) (i : ℕ) (ms : Members) → HasRow kind ms → HasRowForm kind i (kind.says ms) → ¬ Any (λ other. kind.id_of other ≡ kind.id_of (kind.says ms)) es
-    → (rule : Rule) → ¬ RowBreaks kind es i (table ms) rule
-row_sound kind es i ms has form apart NotToml = λ x. x
-row_sound kind es i ms has form apart UnknownKey = λ x. false≢true (sym x ∙ has.only)
-row_sound kind es i ms has form apart MissingKey = λ x. x has.keys
-row_sound kind es i ms has form apart WrongKind = λ x. x has.kinds
-row_sound kind es i ms has form apart OutOfForm = λ x. x form
-row_sound kind es i ms has form apart RepeatedId = apart
-row_sound kind es i ms has form apart ParameterCycle = λ x. x
-row_sound kind es i ms has form apart TooLong = λ x. x
+    → kind.HasJson (kind.says ms) → (rule : Rule) → ¬ RowBreaks kind es i (table ms) rule
+row_sound kind es i ms has form apart json NotToml = λ x. x
+row_sound kind es i ms has form apart json UnknownKey = λ x. false≢true (sym x ∙ has.only)
+row_sound kind es i ms has form apart json MissingKey = λ x. x has.keys
+row_sound kind es i ms has form apart json WrongKind = λ x. x has.kinds
+row_sound kind es i ms has form apart json OutOfForm = λ x. x form
+row_sound kind es i ms has form apart json RepeatedId = apart
+row_sound kind es i ms has form apart json ParameterCycle = λ x. x
+row_sound kind es i ms has form apart json NotJson = λ x. x json
+row_sound kind es i ms has form apart json TooLong = λ x. x
 
 -- what the keys of a row refuse, the row refuses
 pub refuses_row : {X : Type 0} (kind : Kind X) (es : List X) (i : ℕ) (ms : Members) (e : RowFault) → RefusesKeys kind ms e → RefusesRow (RowBreaks kind es i (table ms)) e
@@ -166,6 +177,7 @@ refuses_row kind es i ms (rows.Breaks WrongKind) h = row_wrong kind es i ms h.0 
 refuses_row kind es i ms (rows.Breaks OutOfForm) h = row_form kind es i ms h.0.only h.0.keys h.0.kinds (λ form. h.1 form.form)
 refuses_row kind es i ms (rows.Breaks RepeatedId) h = absurd h
 refuses_row kind es i ms (rows.Breaks ParameterCycle) h = absurd h
+refuses_row kind es i ms (rows.Breaks NotJson) h = absurd h
 refuses_row kind es i ms (rows.Breaks TooLong) h = absurd h
 refuses_row kind es i ms rows.NoMemory h = tt
 
@@ -199,10 +211,18 @@ module _ {X : Type 0} (kind : Kind X) (ids : BTreeSet (String Global)) (i : ℕ)
       subst (λ x. IsLeastRule (RowBreaks kind es i x) RepeatedId) (sym (table_is d ms is))
       (row_repeated kind es i ms has form (a.0, a.1, a.2, a.3, sym ((bytes_eq-Decides (kind.id_of (kind.says ms)) (kind.id_of a.1)).0 a.4)))
 
+  apart : b ≡ false → ((used : List (List ℕ)) → AreIdsOf used ids → b ≡ list_any (λ other. bytes_eq (kind.id_of (kind.says ms)) other) used)
+      → (es : List X) → AreIdsOf (map kind.id_of es) ids → ¬ Any (λ other. kind.id_of other ≡ kind.id_of (kind.says ms)) es
+  apart absent found es are a =
+      false≢true (sym absent ∙ (looked es are found ∙ list_any-from_Any (λ e. bytes_eq (kind.id_of (kind.says ms)) (kind.id_of e)) es
+      (a.0, a.1, a.2, a.3, (bytes_eq-Decides (kind.id_of (kind.says ms)) (kind.id_of a.1)).1 (sym a.4))))
+
+  pub json_refused : b ≡ false → ((used : List (List ℕ)) → AreIdsOf used ids → b ≡ list_any (λ other. bytes_eq (kind.id_of (kind.says ms)) other) used)
+      → ¬ kind.HasJson (kind.says ms) → RefusesRowBehind kind ids i d (rows.Breaks NotJson)
+  json_refused absent found unread = λ es are.
+      subst (λ x. IsLeastRule (RowBreaks kind es i x) NotJson) (sym (table_is d ms is)) (row_unread kind es i ms has form (apart absent found es are) unread)
+
   pub row_taken : b ≡ false → ((used : List (List ℕ)) → AreIdsOf used ids → b ≡ list_any (λ other. bytes_eq (kind.id_of (kind.says ms)) other) used)
-      → IsSoundRow kind ids i d
-  row_taken absent found = λ es are.
-      subst (λ x. (rule : Rule) → ¬ RowBreaks kind es i x rule) (sym (table_is d ms is))
-      (row_sound kind es i ms has form
-      (λ a. false≢true (sym absent ∙ (looked es are found ∙ list_any-from_Any (λ e. bytes_eq (kind.id_of (kind.says ms)) (kind.id_of e)) es
-      (a.0, a.1, a.2, a.3, (bytes_eq-Decides (kind.id_of (kind.says ms)) (kind.id_of a.1)).1 (sym a.4))))))
+      → kind.HasJson (kind.says ms) → IsSoundRow kind ids i d
+  row_taken absent found json = λ es are.
+      subst (λ x. (rule : Rule) → ¬ RowBreaks kind es i x rule) (sym (table_is d ms is)) (row_sound kind es i ms has form (apart absent found es are) json)

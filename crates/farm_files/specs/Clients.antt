@@ -1,10 +1,9 @@
 -- What the rows of `[[client]]` say, and which rules they break (this project's own format, in TOML 1.1).
-use Rattle.std.specs.Prelude.{◌≡◌, ℕ, Bool, true, false, List, [], ◌∷◌, Option, is_some, unwrap_or, option_and_then, All, codes}
-use Rattle.std.specs.List.{list_all}
+use Rattle.std.specs.Prelude.{◌≡◌, ℕ, Bool, true, false, List, [], ◌∷◌, Option, All, codes}
 use Rattle.farm_text.specs.DateTime.{IsDateTime}
 use Rattle.scope_sets.specs.Scopes.{IsPrintable, HasHandedInForm}
 use Rattle.hawk_auth.specs.Clients.{ClientData, IsClientId, IsToken}
-use Rattle.toml.specs.Data.{Data, Members, as_bool, get_member}
+use Rattle.toml.specs.Data.{Data, Members, get_member}
 use Rattle.farm_files.specs.Rows.{Kind, said_in}
 use Rattle.farm_files.specs.Values.{has_all, is_text, are_texts, is_truth, passes, text_or, texts_in, truth_or}
 
@@ -53,9 +52,9 @@ pub record HasRowClientForm (text : ClientText) : Type 0 where
   pub scopes_form : All (HasHandedInForm 4096) text.scopes
   pub moment : (m : ℕ) × IsDateTime m text.expires
 
--- the rows of `[[client]]`
+-- the rows of `[[client]]`, in which no JSON stands
 abbrev pub client_rows : Kind ClientText
-client_rows = record { keys = client_keys; HasKeys = HasClientKeys; HasKinds = HasClientKinds; says = client_in; HasForm = HasRowClientForm; id_of = λ text. text.id }
+client_rows = record { keys = client_keys; HasKeys = HasClientKeys; HasKinds = HasClientKinds; says = client_in; HasForm = HasRowClientForm; id_of = λ text. text.id; HasJson = λ text. Unit {0} }
 
 -- the client that a row says: its expiry is the moment that is written
 pub record IsClientFrom (text : ClientText) (client : ClientData) : Type 0 where

@@ -1,9 +1,9 @@
 -- The rules of a farm file, and which of two faults is told first.
 use Rattle.std.specs.Prelude.{◌≡◌, ℕ, ◌<◌, ◌⊎◌}
 use Rattle.farm_files.specs.declared.fault.Table.{Table}
-use Rattle.farm_files.specs.declared.fault.Table.TheVariants.{File, Farm, Role, Client}
+use Rattle.farm_files.specs.declared.fault.Table.TheVariants.{File, Farm, Role, Client, Hook}
 use Rattle.farm_files.specs.declared.fault.Rule.{Rule}
-use Rattle.farm_files.specs.declared.fault.Rule.TheVariants.{NotToml, UnknownKey, MissingKey, WrongKind, OutOfForm, RepeatedId, ParameterCycle, TooLong}
+use Rattle.farm_files.specs.declared.fault.Rule.TheVariants.{NotToml, UnknownKey, MissingKey, WrongKind, OutOfForm, RepeatedId, ParameterCycle, NotJson, TooLong}
 use Rattle.farm_files.specs.declared.fault.Fault.{Fault}
 use Rattle.farm_files.specs.declared.fault.RowFault.{RowFault}
 use Rattle.farm_files.specs.declared.fault.RowFault.TheVariants as rows
@@ -17,13 +17,14 @@ rule_number WrongKind = 4
 rule_number OutOfForm = 5
 rule_number RepeatedId = 6
 rule_number ParameterCycle = 7
+rule_number NotJson = 8
 rule_number TooLong = 9
 
 -- a rule that is broken at a place
 abbrev pub fault_at : Table → ℕ → Rule → Fault
 fault_at table row rule = record { table = table; row = row; rule = rule }
 
--- the order in which a file is judged: its length, that it is TOML, its tables, `[farm]`, the rows of `[[role]]`, the roles together, and the rows of `[[client]]`
+-- the order in which a file is judged: its length, that it is TOML, its tables, `[farm]`, the rows of `[[role]]`, the roles together, and the rows of `[[client]]` and of `[[hook]]`
 abbrev pub turn : Table → Rule → ℕ
 turn File TooLong = 0
 turn File NotToml = 1
@@ -32,6 +33,7 @@ turn Farm _ = 3
 turn Role ParameterCycle = 5
 turn Role _ = 4
 turn Client _ = 6
+turn Hook _ = 7
 
 -- the first is told before the second: its turn comes before, or its row in one turn, or its rule's number in one row
 abbrev pub IsBefore : Fault → Fault → Type 0

@@ -5,18 +5,19 @@ use Rattle.toml.specs.Data.{Data, table, Members, no_members, get_member}
 use Rattle.toml.specs.Parse.{parse_document}
 use Rattle.farm_files.specs.declared.settings.TheConstants.{LONGEST_HOST}
 use Rattle.farm_files.specs.declared.fault.Table.{Table}
-use Rattle.farm_files.specs.declared.fault.Table.TheVariants.{File, Farm, Role, Client}
+use Rattle.farm_files.specs.declared.fault.Table.TheVariants.{File, Farm, Role, Client, Hook}
 use Rattle.farm_files.specs.declared.fault.Rule.{Rule}
 use Rattle.farm_files.specs.declared.fault.Rule.TheVariants.{NotToml, UnknownKey, WrongKind, OutOfForm, TooLong}
 use Rattle.farm_files.specs.declared.fault.Fault.{Fault}
 use Rattle.farm_files.specs.Values.{has_only, is_text, is_whole, passes, text_or, whole_or, IsUpTo}
 use Rattle.farm_files.specs.Clients.{client_rows}
+use Rattle.farm_files.specs.Hooks.{hook_rows}
 use Rattle.farm_files.specs.Roles.{RoleBreaks}
 use Rattle.farm_files.specs.Rows.{RowsBreak}
 
 -- the known tables, and the keys of `[farm]`
 abbrev pub table_names : List (List ℕ)
-table_names = codes "farm" ∷ codes "role" ∷ codes "client" ∷ []
+table_names = codes "farm" ∷ codes "role" ∷ codes "client" ∷ codes "hook" ∷ []
 
 -- the keys of `[farm]`
 abbrev pub farm_keys : List (List ℕ)
@@ -83,6 +84,7 @@ TablesBreak top File row _ = ⊥
 TablesBreak top Farm row rule = (row ≡ 0) × FarmBreaks (farm_in top) rule
 TablesBreak top Role row rule = RoleBreaks (get_member (codes "role") top) row rule
 TablesBreak top Client row rule = RowsBreak client_rows (get_member (codes "client") top) row rule
+TablesBreak top Hook row rule = RowsBreak hook_rows (get_member (codes "hook") top) row rule
 
 -- the bytes are a TOML document with these members
 pub record IsToml (bytes : List ℕ) (top : Members) : Type 0 where

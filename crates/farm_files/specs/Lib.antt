@@ -4,6 +4,7 @@ pub mod Values
 pub mod Rows
 pub mod Roles
 pub mod Clients
+pub mod Hooks
 pub mod Files
 pub mod Parts
 pub mod Farms

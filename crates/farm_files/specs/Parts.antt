@@ -2,22 +2,25 @@
 use Rattle.std.specs.Prelude.{◌≡◌, ℕ, ◌<◌, true, false, List, [], map, All, Some, String}
 use Rattle.std.specs.BTreeSet.{BTreeSet}
 use Rattle.std.specs.Global.{Global}
+use Rattle.farm_text.specs.Document.{Document}
 use Rattle.scope_sets.specs.Scopes.{IsPrintable}
 use Rattle.role_expand.specs.Roles.{RoleData}
 use Rattle.toml.specs.Data.{Data, Members}
 use Rattle.farm_files.specs.declared.fault.Table.{Table}
 use Rattle.farm_files.specs.declared.fault.Table.TheVariants.{Role}
 use Rattle.farm_files.specs.declared.fault.Rule.{Rule}
-use Rattle.farm_files.specs.declared.fault.Rule.TheVariants.{UnknownKey, MissingKey, WrongKind, OutOfForm, ParameterCycle}
+use Rattle.farm_files.specs.declared.fault.Rule.TheVariants.{UnknownKey, MissingKey, WrongKind, OutOfForm, ParameterCycle, NotJson}
 use Rattle.farm_files.specs.declared.fault.Fault.{Fault}
 use Rattle.farm_files.specs.declared.fault.RowFault.{RowFault}
 use Rattle.farm_files.specs.declared.fault.RowFault.TheVariants as rows
 use Rattle.farm_files.specs.declared.fault.FileFault.{FileFault}
 use Rattle.farm_files.specs.declared.fault.FileFault.TheVariants as faults
+use Rattle.farm_files.specs.declared.hooks.Said.{Said}
 use Rattle.farm_files.specs.declared.settings.Settings.{Settings}
 use Rattle.farm_files.specs.Faults.{rule_number, fault_at, RefusesRow}
 use Rattle.farm_files.specs.Values.{has_only, is_text, are_texts, text_or, texts_in, natural}
 use Rattle.farm_files.specs.Files.{host_in, port_in, claim_timeout_in, max_tasks_in}
+use Rattle.farm_files.specs.Hooks.{HookText, IsTemplateText}
 use Rattle.farm_files.specs.Roles.{LiesOnCycle}
 use Rattle.farm_files.specs.Rows.{Kind, RowBreaks}
 use Rattle.farm_files.specs.Earlier.{AreIdsOf}
@@ -59,6 +62,16 @@ RefusesKeys kind ms (rows.Breaks WrongKind) = (has_only kind.keys ms ≡ true) �
 RefusesKeys kind ms (rows.Breaks OutOfForm) = HasRow kind ms × (¬ kind.HasForm (kind.says ms))
 RefusesKeys kind ms (rows.Breaks _) = ⊥
 RefusesKeys kind ms rows.NoMemory = Unit {0}
+
+-- what a row of `[[hook]]` says, as plain data
+abbrev pub said_by : Said → HookText
+said_by said = record { group = said.group.now; id = said.id.now; task = said.task.now }
+
+-- what a text that has to be a template is refused for
+abbrev pub RefusesJson : List ℕ → RowFault → Type 0
+RefusesJson text (rows.Breaks NotJson) = (template : Document) → ¬ IsTemplateText text template
+RefusesJson text (rows.Breaks _) = ⊥
+RefusesJson text rows.NoMemory = Unit {0}
 
 -- a row breaks no rule behind rows whose ids are these
 abbrev pub IsSoundRow : {X : Type 0} → Kind X → BTreeSet (String Global) → ℕ → Data → Type 0

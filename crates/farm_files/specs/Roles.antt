@@ -33,9 +33,9 @@ pub record HasRowRoleForm (role : RoleData) : Type 0 where
   pub printable : All (All IsPrintable) role.scopes
   pub form : HasRoleForm LONGEST_SCOPE role
 
--- the rows of `[[role]]`
+-- the rows of `[[role]]`, in which no JSON stands
 abbrev pub role_rows : Kind RoleData
-role_rows = record { keys = role_keys; HasKeys = HasRoleKeys; HasKinds = HasRoleKinds; says = role_in; HasForm = HasRowRoleForm; id_of = λ role. role.id }
+role_rows = record { keys = role_keys; HasKeys = HasRoleKeys; HasKinds = HasRoleKinds; says = role_in; HasForm = HasRowRoleForm; id_of = λ role. role.id; HasJson = λ role. Unit {0} }
 
 -- the roles of all rows, in their order
 abbrev pub roles_in : Option Data → List RoleData

@@ -3,10 +3,11 @@ use Rattle.std.specs.Prelude.{◌≡◌, ℕ, ◌<◌, false, List, [], take, ma
 use Rattle.toml.specs.Data.{Data, array, table, Members, no_members}
 use Rattle.farm_files.specs.declared.rows.TheConstants.{MOST_ROWS}
 use Rattle.farm_files.specs.declared.fault.Rule.{Rule}
-use Rattle.farm_files.specs.declared.fault.Rule.TheVariants.{UnknownKey, MissingKey, WrongKind, OutOfForm, RepeatedId}
+use Rattle.farm_files.specs.declared.fault.Rule.TheVariants.{UnknownKey, MissingKey, WrongKind, OutOfForm, RepeatedId, NotJson}
 use Rattle.farm_files.specs.Values.{list_of, has_only}
 
--- a kind of rows: the known keys, when none is missing, when each value is of its kind, what a row says, of which form that has to be, and its id
+-- a kind of rows: the known keys, when none is missing, when each value is of its kind, what a row says, of which form that has to be, its id, and when the JSON in it is
+-- such as it has to be
 pub record Kind (X : Type 0) : Type 1 where
   pub keys : List (List ℕ)
   pub HasKeys : Members → Type 0
@@ -14,6 +15,7 @@ pub record Kind (X : Type 0) : Type 1 where
   pub says : Members → X
   pub HasForm : X → Type 0
   pub id_of : X → List ℕ
+  pub HasJson : X → Type 0
 
 -- what a row says; what is no table is told by a rule of its own
 abbrev pub says_of : {X : Type 0} → Kind X → Data → X
@@ -32,6 +34,7 @@ RowBreaks kind earlier row (table ms) MissingKey = ¬ kind.HasKeys ms
 RowBreaks kind earlier row (table ms) WrongKind = ¬ kind.HasKinds ms
 RowBreaks kind earlier row (table ms) OutOfForm = ¬ HasRowForm kind row (kind.says ms)
 RowBreaks kind earlier row (table ms) RepeatedId = Any (λ other. kind.id_of other ≡ kind.id_of (kind.says ms)) earlier
+RowBreaks kind earlier row (table ms) NotJson = ¬ kind.HasJson (kind.says ms)
 RowBreaks kind earlier row (table ms) _ = ⊥
 RowBreaks kind earlier row _ WrongKind = Unit {0}
 RowBreaks kind earlier row _ _ = ⊥

@@ -15,6 +15,8 @@ pub enum Table {
     Role,
     /// `[[client]]`.
     Client,
+    /// `[[hook]]`.
+    Hook,
 }
 
 /// The rules that a farm file keeps.
@@ -34,12 +36,14 @@ pub enum Rule {
     RepeatedId,
     /// The parameters of roles do not go in a cycle.
     ParameterCycle,
+    /// The template of a hook is JSON of whole numbers.
+    NotJson,
     /// The file is no longer than `LONGEST_FILE`.
     TooLong,
 }
 
 impl Rule {
-    /// The number of a rule: 1 to 7, and 9 for a file that is too long.
+    /// The number of a rule, from 1 to 9.
     pub fn number(self) -> u8
         ensures { result ≡ rule_number self }
     {
@@ -51,6 +55,7 @@ impl Rule {
             Rule::OutOfForm => 5,
             Rule::RepeatedId => 6,
             Rule::ParameterCycle => 7,
+            Rule::NotJson => 8,
             Rule::TooLong => 9,
         }
     }

@@ -45,16 +45,21 @@ pub(crate) fn words_of<'a>(top: &'a toml::Table, fault: &Fault) -> Words<'a> {
             Some(value) => rows_words("client", value, fault),
             None => unknown_table(top),
         },
+        Table::Hook => match top.get("hook") {
+            Some(value) => rows_words("hook", value, fault),
+            None => unknown_table(top),
+        },
     }
 }
 
 /// A table's header.
-fn header_of(table: Table) -> &'static str {
+pub(crate) fn header_of(table: Table) -> &'static str {
     match table {
         Table::File => "",
         Table::Farm => "[farm]",
         Table::Role => "[[role]]",
         Table::Client => "[[client]]",
+        Table::Hook => "[[hook]]",
     }
 }
 
@@ -74,11 +79,11 @@ fn whole<'a>(key: &'a str, found: Found<'a>, may: &'a str) -> Words<'a> {
 fn unknown_table(top: &toml::Table) -> Words<'_> {
     for key in top.keys() {
         let name = key.as_str();
-        if name != "farm" && name != "role" && name != "client" {
+        if name != "farm" && name != "role" && name != "client" && name != "hook" {
             return whole(
                 name,
                 Found::Nothing,
-                "not known: there are [farm], [[role]] and [[client]]",
+                "not known: there are [farm], [[role]], [[client]] and [[hook]]",
             );
         }
     }
@@ -106,7 +111,7 @@ fn rows_words<'a>(name: &'a str, value: &'a Value, fault: &Fault) -> Words<'a> {
         return whole(
             name,
             Found::Value(value),
-            "it is a list of tables, as [[role]] and [[client]] are",
+            "it is a list of tables, as [[role]], [[client]] and [[hook]] are",
         );
     };
     let place = fault.row as usize;
@@ -147,7 +152,7 @@ pub(crate) fn id_of(row: &Value) -> Option<&str> {
 }
 
 /// The text at a key.
-fn text_at<'a>(keys: &'a toml::Table, key: &str) -> Option<&'a str> {
+pub(crate) fn text_at<'a>(keys: &'a toml::Table, key: &str) -> Option<&'a str> {
     match keys.get(key) {
         Some(value) => value.as_str(),
         None => None,
@@ -160,6 +165,7 @@ fn keys_words<'a>(spot: &Spot<'a>, rule: Rule) -> Words<'a> {
         Rule::UnknownKey => unknown_key(spot),
         Rule::MissingKey => missing_key(spot),
         Rule::WrongKind => wrong_kind(spot),
+        Rule::NotJson => no_json(spot),
         _ => out_of_form(spot),
     }
 }
@@ -230,6 +236,15 @@ fn wrong_value<'a>(spot: &Spot<'a>, field: &Field, value: &'a Value) -> Words<'a
         Found::Value(value)
     };
     spot.at(field.name, found, kind_words(field.kind))
+}
+
+/// The template that is no JSON of whole numbers.
+fn no_json<'a>(spot: &Spot<'a>) -> Words<'a> {
+    let found = match spot.keys.get("task") {
+        Some(value) => Found::Value(value),
+        None => Found::Nothing,
+    };
+    spot.at("task", found, "the text is no JSON of whole numbers")
 }
 
 /// The first value that is out of its form or range.

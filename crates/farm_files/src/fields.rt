@@ -27,6 +27,7 @@ pub(crate) fn fields_of(table: Table) -> &'static [Field] {
         Table::Farm => &FARM_FIELDS,
         Table::Role => &ROLE_FIELDS,
         Table::Client => &CLIENT_FIELDS,
+        Table::Hook => &HOOK_FIELDS,
     }
 }
 
@@ -94,6 +95,24 @@ static CLIENT_FIELDS: [Field; 5] = [
     },
 ];
 
+static HOOK_FIELDS: [Field; 3] = [
+    Field {
+        name: "group",
+        required: true,
+        kind: Kind::Text,
+    },
+    Field {
+        name: "id",
+        required: true,
+        kind: Kind::Text,
+    },
+    Field {
+        name: "task",
+        required: true,
+        kind: Kind::Text,
+    },
+];
+
 /// Which keys a table has.
 pub(crate) fn known_keys(table: Table) -> &'static str {
     match table {
@@ -101,6 +120,7 @@ pub(crate) fn known_keys(table: Table) -> &'static str {
         Table::Farm => "not known: the keys are host, port, claim_timeout and max_tasks",
         Table::Role => "not known: the keys are id and scopes",
         Table::Client => "not known: the keys are id, token, scopes, expires and disabled",
+        Table::Hook => "not known: the keys are group, id and task",
     }
 }
 

@@ -5,6 +5,7 @@ ghost use Rattle.scope_sets.specs.declared.scopes.TheConstants.{LONGEST_SCOPE};
 
 use crate::fault::Table;
 use crate::settings::has_host_form;
+use call_rules::{is_hook_group_id, is_hook_id};
 use farm_text::read_moment;
 use hawk_auth::{is_client_id, is_token};
 use scope_sets::LONGEST_SCOPE;
@@ -33,6 +34,12 @@ pub(crate) fn form_words(table: Table, key: &str, text: &str) -> Option<&'static
         }
         "id" if table == Table::Client && !is_client_id(text) => {
             Some("an id is 1 to 128 of [A-Za-z0-9!@/:.+|_-]")
+        }
+        "group" if !is_hook_group_id(text.as_bytes()) => {
+            Some("a group is 1 to 1000 of [A-Za-z0-9_-]")
+        }
+        "id" if table == Table::Hook && !is_hook_id(text.as_bytes()) => {
+            Some("an id is 1 to 1000 of [A-Za-z0-9_/-]")
         }
         "token" if !is_token(text) => Some("a token is 22 to 66 of [A-Za-z0-9_-]"),
         "expires" if read_moment(text.as_bytes()).is_none() => {

@@ -1,6 +1,6 @@
 //! The farm file: what a build farm is configured by, in TOML, read whole as a `Config` or refused by the first rule that it breaks.
 //!
-//! A farm file has an optional table `[farm]` and any number of tables `[[role]]` and `[[client]]`:
+//! A farm file has an optional table `[farm]` and any number of tables `[[role]]`, `[[client]]` and `[[hook]]`:
 //!
 //! ```toml
 //! [farm]
@@ -19,6 +19,11 @@
 //! scopes = ["queue:*"]     # each as of a role
 //! expires = "2030-01-01T00:00:00Z"    # a date and time with an offset, from 1970 to 9998
 //! disabled = false
+//!
+//! [[hook]]                 # at most 10,000 of them
+//! group = "nightly"        # 1 to 1000 of [A-Za-z0-9_-]
+//! id = "builds/linux"      # 1 to 1000 of [A-Za-z0-9_/-]
+//! task = "{}"              # JSON of whole numbers: the template of the tasks that the hook makes
 //! ```
 //!
 //! The values shown of `[farm]`, and of `disabled`, are those of a key that is left out.
@@ -30,6 +35,7 @@ mod fault;
 mod faulty;
 mod fields;
 mod forms;
+mod hooks;
 pub mod laws;
 mod reading;
 mod roles;

@@ -5,6 +5,7 @@ ghost use Rattle.farm_files.specs.Farms.{Says, Refuses, SaysTables, RefusesTable
 
 use crate::clients::{client_book, read_clients};
 use crate::fault::{FileFault, RowFault, Rule, Table};
+use crate::hooks::{hook_book, read_hooks};
 use crate::roles::{read_roles, role_set};
 use crate::settings::{Settings, read_settings};
 use crate::values::has_only;
@@ -21,7 +22,7 @@ pub const LONGEST_FILE: usize = 4_194_304;
 ///
 /// The first rule that the file breaks, in this order: that it is too long, that it is not TOML, a table that is not known, then what
 /// is wrong with `[farm]`, then the rows of `[[role]]` from row 0, a cycle of roles' parameters, at the first role that lies on one,
-/// and the rows of `[[client]]` from row 0. Of the rules that one row breaks the least is told. Or want of memory.
+/// and the rows of `[[client]]` and then of `[[hook]]` from row 0. Of the rules that one row breaks the least is told. Or want of memory.
 pub fn read_farm(alloc: Global, bytes: &[u8]) -> Result<Config, FileFault>
     ensures { MatchResult result (Says LONGEST_FILE bytes.now) (Refuses LONGEST_FILE bytes.now) }
 {
@@ -57,7 +58,7 @@ fn read_tables(
 ) -> Result<Config, FileFault>
     ensures { MatchResult result (SaysTables (table_view top.now)) (RefusesTables (table_view top.now)) }
 {
-    if !has_only(top, ["farm", "role", "client"].as_slice()) {
+    if !has_only(top, ["farm", "role", "client", "hook"].as_slice()) {
         return Err(FileFault::at(Table::File, 0, Rule::UnknownKey));
     }
     let settings = match read_settings(alloc, top) {
@@ -68,6 +69,7 @@ fn read_tables(
     let roles = read_roles(alloc, top)?;
     let roles = role_set(alloc, roles, cycle)?;
     let clients = read_clients(alloc, top)?;
+    let hooks = read_hooks(alloc, top)?;
     let Settings {
         host,
         port,
@@ -81,5 +83,6 @@ fn read_tables(
         max_tasks,
         roles: Grants::new(alloc, roles)?,
         clients: client_book(alloc, clients)?,
+        hooks: hook_book(alloc, hooks)?,
     })
 }

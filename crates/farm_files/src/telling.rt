@@ -3,7 +3,7 @@ ghost use Rattle.std.specs.Prelude.{All, IfOk, string_bytes};
 ghost use Rattle.scope_sets.specs.Scopes.{IsPrintable};
 
 use crate::fault::{Fault, Rule, Table};
-use crate::faulty::{id_of, words_of};
+use crate::faulty::{header_of, id_of, text_at, words_of};
 use crate::words::{Quoted, Row};
 use plain_text::escape_line;
 use std::alloc::{AllocError, Global};
@@ -85,6 +85,7 @@ fn told_of_tables(
 fn rows_at(top: &toml::Table, table: Table) -> &[Value] {
     let name = match table {
         Table::Client => "client",
+        Table::Hook => "hook",
         _ => "role",
     };
     match top.get(name) {
@@ -107,18 +108,44 @@ fn row_at(rows: &[Value], place: u32) -> Row<'_> {
     }
 }
 
-/// Which two rows have one id.
-fn told_of_repeat(alloc: Global, rows: &[Value], fault: &Fault) -> Result<String, AllocError> {
-    let row = row_at(rows, fault.row);
-    let header = match fault.table {
-        Table::Client => "[[client]]",
-        _ => "[[role]]",
+/// The group that a row names, if it is one of a hook.
+fn group_of(row: &Value) -> Option<&str> {
+    match row.as_table() {
+        Some(keys) => text_at(keys, "group"),
+        None => None,
+    }
+}
+
+/// Whether two rows have one id, and one group if they are hooks.
+fn have_one_name(table: Table, row: &Value, other: &Value) -> bool {
+    id_of(row) == id_of(other) && (table != Table::Hook || group_of(row) == group_of(other))
+}
+
+/// The number, from 1, of the first row with the name that the row at a place has.
+fn first_named(rows: &[Value], fault: &Fault) -> usize {
+    let Some(row) = rows.get(fault.row as usize) else {
+        return 0;
     };
-    let earlier = match rows.iter().position(|other| id_of(other) == row.id) {
+    match rows
+        .iter()
+        .position(|other| have_one_name(fault.table, row, other))
+    {
         Some(place) => place.saturating_add(1),
         None => 0,
-    };
-    format!(in alloc; "{header} {row}: row {earlier} has this id, too")
+    }
+}
+
+/// Which two rows have one id, or one group and id if they are hooks.
+fn told_of_repeat(alloc: Global, rows: &[Value], fault: &Fault) -> Result<String, AllocError> {
+    let row = row_at(rows, fault.row);
+    let header = header_of(fault.table);
+    let earlier = first_named(rows, fault);
+    match fault.table {
+        Table::Hook => format!(in alloc;
+            "{header} {row}: row {earlier} has this group and id, too"
+        ),
+        _ => format!(in alloc; "{header} {row}: row {earlier} has this id, too"),
+    }
 }
 
 /// The ids of the roles of a cycle.

@@ -19,7 +19,7 @@ use Rattle.farm_machine.specs.Told.{told}
 use Rattle.farm_machine.specs.Access.{Access, Has, Refused, head_of, access_by, IsAdmitted, HasAccess}
 
 -- a start list expands in one way
-expands_once : (roles : List RoleData) (start : List (List ℕ)) (a b : Admission) → Expands roles start a → Expands roles start b → a ≡ b
+pub expands_once : (roles : List RoleData) (start : List (List ℕ)) (a b : Admission) → Expands roles start a → Expands roles start b → a ≡ b
 expands_once roles start (Ok s) (Ok t) p q = ap (λ (x : List (List ℕ)). Ok x) (closure_is_one 10_000 roles start s t p q)
 expands_once roles start (Ok s) (Err b) p q = absurd (closure_or_more 10_000 roles start s p q.0)
 expands_once roles start (Err a) (Ok t) p q = absurd (closure_or_more 10_000 roles start t q p.0)

@@ -1,5 +1,5 @@
 -- Each run is claimed at most once.
-use Rattle.std.proofs.Common.{◌≡◌, ℕ, zero, suc, ◌+◌, ◌-◌, ◌≤◌, Bool, true, false, ◌&&◌, ◌==◌, cond, List, [], ◌∷◌, map, length, Option, Some, None, is_some, is_none, option_map, option_and_then, slice_get, bytes_eq, nat_lt, min, sum_by, count_by, refl, sym, ap, ◌∙◌, subst, arith}
+use Rattle.std.proofs.Common.{◌≡◌, ℕ, zero, suc, ◌+◌, ◌-◌, ◌≤◌, Bool, true, false, ◌&&◌, ◌==◌, cond, List, [], ◌∷◌, map, length, Option, Some, None, Ok, Err, is_some, is_none, option_map, option_and_then, slice_get, bytes_eq, nat_lt, min, sum_by, count_by, refl, sym, ap, ◌∙◌, subst, arith}
 use Rattle.std.specs.List.{last_or, AllByRecursion, IsDistinct}
 use Rattle.std.specs.Option.{option_map_or}
 use Rattle.std.proofs.lemmas.Bool.{and_parts, eqb-true}
@@ -32,10 +32,11 @@ use Rattle.farm_rows.proofs.IdLemmas.{created-ids, claimed-ids, after-holds}
 use Rattle.farm_rows.proofs.ReadyLemmas.{settled-stays, settled-ids}
 use Rattle.farm_rows.proofs.ShownLemmas.{pick-one}
 use Rattle.farm_machine.specs.declared.question.Call.{Call}
-use Rattle.farm_machine.specs.declared.question.Call.TheVariants.{NoRoute, BadParameter, BadBody, Ping, Task, Status, ListTaskGroup, ListDependentTasks, PendingTasks, CreateTask, ClaimWork, ReclaimTask, ReportRun, ScheduleTask, RerunTask, CancelTask}
+use Rattle.farm_machine.specs.declared.question.Call.TheVariants.{NoRoute, BadParameter, BadBody, Ping, Task, Status, ListTaskGroup, ListDependentTasks, PendingTasks, CreateTask, ClaimWork, ReclaimTask, ReportRun, ScheduleTask, RerunTask, CancelTask, TriggerHook}
 use Rattle.farm_machine.specs.declared.question.WorkRequest.{WorkRequest}
 use Rattle.farm_machine.specs.Calls.ClaimWork.{taking}
-use Rattle.farm_machine.specs.Case.{Setting}
+use Rattle.farm_machine.specs.Calls.TriggerHook.{Fired, case_after}
+use Rattle.farm_machine.specs.Case.{Setting, Case}
 use Rattle.farm_machine.specs.Changes.{changed, moment_of}
 use Rattle.farm_machine.specs.Config.{claim_millis}
 use Rattle.farm_machine.specs.Entry.{Asking, Entry, tick, call, finished, out_of_memory, disk_failed, was_halted}
@@ -47,7 +48,7 @@ use Rattle.farm_machine.specs.State.{State}
 use Rattle.farm_machine.specs.Step.{lawful, after, farm_rules}
 use Rattle.farm_machine.specs.Verdict.{form_of, setting_of, IsVerdict}
 use Rattle.farm_machine.specs.Works.{at_moment}
-use Rattle.farm_machine.proofs.ChangeLemmas.{change-done, verdict-creates}
+use Rattle.farm_machine.proofs.ChangeLemmas.{IsOf, IsDoneBy, change-done, verdict-creates}
 use Rattle.farm_machine.proofs.DeedLemmas.{each-task, each-run}
 use Rattle.farm_machine.proofs.OnceLemmas.{changed-stays, entry-stays}
 use Rattle.farm_machine.proofs.RunLawLemmas.{found-run}
@@ -267,42 +268,72 @@ claims-work name contents moment until work (first ∷ names) own is =
     subst (λ (ns : List RunName). count_by (is_same_run name) ns + one_if (has_claim name contents.rows) ≤ one_if (has_claim name (all_claimed (claim_of moment claim) ns contents.rows))) (sym is) fact in
     at-most _ _ _ _ here (taken-more name contents moment claim)
 
-call-claims : (name : RunName) (at : Setting) (asked : Call) → HaveOwnIds at.state.contents.rows → Claims name at.state.contents at.moment (case_of (form_of asked) at).deed.change
-call-claims name at (NoRoute route) own = claims-none name at.state.contents at.moment
-call-claims name at (BadParameter parameter) own = claims-none name at.state.contents at.moment
-call-claims name at (BadBody fault) own = claims-none name at.state.contents at.moment
-call-claims name at Ping own = claims-none name at.state.contents at.moment
-call-claims name at (Task id) own =
+-- what a case claims, its judgement does
+done-claims : (name : RunName) (at : Setting) (case : Case) (judgement : Judgement) → IsOf at judgement case → Claims name at.state.contents at.moment case.deed.change → Claims name at.state.contents at.moment judgement.change
+done-claims name at case judgement (unruled, is) claims = subst (Claims name at.state.contents at.moment) (sym (ap (λ (j : Judgement). j.change) is)) claims
+
+-- what comes of a hook claims nothing
+after-claims : (name : RunName) (at : Setting) (fired : Fired) → Claims name at.state.contents at.moment (case_after fired at).deed.change
+after-claims name at (Ok creation) = claims-some name at.state.contents at.moment (at_moment at.moment (Create creation)) refl
+after-claims name at (Err answer) = claims-none name at.state.contents at.moment
+
+call-claims : (name : RunName) (at : Setting) (asked : Call) (judgement : Judgement) → HaveOwnIds at.state.contents.rows → IsDoneBy at judgement (form_of asked) → Claims name at.state.contents at.moment judgement.change
+call-claims name at (NoRoute route) judgement own done_so = done-claims name at (case_of (form_of (NoRoute route)) at) judgement done_so (claims-none name at.state.contents at.moment)
+call-claims name at (BadParameter parameter) judgement own done_so = done-claims name at (case_of (form_of (BadParameter parameter)) at) judgement done_so (claims-none name at.state.contents at.moment)
+call-claims name at (BadBody fault) judgement own done_so = done-claims name at (case_of (form_of (BadBody fault)) at) judgement done_so (claims-none name at.state.contents at.moment)
+call-claims name at Ping judgement own done_so = done-claims name at (case_of (form_of Ping) at) judgement done_so (claims-none name at.state.contents at.moment)
+call-claims name at (Task id) judgement own done_so =
+    done-claims name at (case_of (form_of (Task id)) at) judgement done_so
+    (
     let none = claims-none name at.state.contents at.moment in
     each-task (Claims name at.state.contents at.moment) id (row_with id at.state.contents.rows) _ none (λ row. none)
-call-claims name at (ListTaskGroup group page) own = claims-none name at.state.contents at.moment
-call-claims name at (ListDependentTasks id page) own = claims-none name at.state.contents at.moment
-call-claims name at (PendingTasks queue) own = claims-none name at.state.contents at.moment
-call-claims name at (Status id) own =
+    )
+call-claims name at (ListTaskGroup group page) judgement own done_so = done-claims name at (case_of (form_of (ListTaskGroup group page)) at) judgement done_so (claims-none name at.state.contents at.moment)
+call-claims name at (ListDependentTasks id page) judgement own done_so = done-claims name at (case_of (form_of (ListDependentTasks id page)) at) judgement done_so (claims-none name at.state.contents at.moment)
+call-claims name at (PendingTasks queue) judgement own done_so = done-claims name at (case_of (form_of (PendingTasks queue)) at) judgement done_so (claims-none name at.state.contents at.moment)
+call-claims name at (Status id) judgement own done_so =
+    done-claims name at (case_of (form_of (Status id)) at) judgement done_so
+    (
     let none = claims-none name at.state.contents at.moment in
     each-task (Claims name at.state.contents at.moment) id (row_with id at.state.contents.rows) _ none (λ row. none)
-call-claims name at (CreateTask creation) own = claims-some name at.state.contents at.moment (at_moment at.moment (Create creation)) refl
-call-claims name at (ClaimWork work) own =
-    claims-work name at.state.contents at.moment (at.moment + claim_millis at.state.config) work (picks (min work.tasks 32) work.queue at.state.contents.rows) own refl
-call-claims name at (ReclaimTask run) own =
+    )
+call-claims name at (CreateTask creation) judgement own done_so = done-claims name at (case_of (form_of (CreateTask creation)) at) judgement done_so (claims-some name at.state.contents at.moment (at_moment at.moment (Create creation)) refl)
+call-claims name at (ClaimWork work) judgement own done_so = done-claims name at (case_of (form_of (ClaimWork work)) at) judgement done_so (claims-work name at.state.contents at.moment (at.moment + claim_millis at.state.config) work (picks (min work.tasks 32) work.queue at.state.contents.rows) own refl)
+call-claims name at (ReclaimTask run) judgement own done_so =
+    done-claims name at (case_of (form_of (ReclaimTask run)) at) judgement done_so
+    (
     let none = claims-none name at.state.contents at.moment in
     each-task (Claims name at.state.contents at.moment) run.id (row_with run.id at.state.contents.rows) _ none
     (λ row. each-run (Claims name at.state.contents at.moment) run.id run.run _ (nat_lt run.run (length row.runs)) row none
     (claims-some name at.state.contents at.moment (at_moment at.moment (Reclaim (record { id = run.id; run = run.run; taken_until = at.moment + claim_millis at.state.config }))) refl))
-call-claims name at (ReportRun report) own =
+    )
+call-claims name at (ReportRun report) judgement own done_so =
+    done-claims name at (case_of (form_of (ReportRun report)) at) judgement done_so
+    (
     let none = claims-none name at.state.contents at.moment in
     each-task (Claims name at.state.contents at.moment) report.id (row_with report.id at.state.contents.rows) _ none
     (λ row. each-run (Claims name at.state.contents at.moment) report.id report.run _ (nat_lt report.run (length row.runs)) row none
     (claims-some name at.state.contents at.moment (at_moment at.moment (Resolve report)) refl))
-call-claims name at (ScheduleTask id) own =
+    )
+call-claims name at (ScheduleTask id) judgement own done_so =
+    done-claims name at (case_of (form_of (ScheduleTask id)) at) judgement done_so
+    (
     each-task (Claims name at.state.contents at.moment) id (row_with id at.state.contents.rows) _ (claims-none name at.state.contents at.moment)
     (λ row. claims-some name at.state.contents at.moment (at_moment at.moment (Schedule id)) refl)
-call-claims name at (RerunTask id) own =
+    )
+call-claims name at (RerunTask id) judgement own done_so =
+    done-claims name at (case_of (form_of (RerunTask id)) at) judgement done_so
+    (
     each-task (Claims name at.state.contents at.moment) id (row_with id at.state.contents.rows) _ (claims-none name at.state.contents at.moment)
     (λ row. claims-some name at.state.contents at.moment (at_moment at.moment (Rerun id)) refl)
-call-claims name at (CancelTask id) own =
+    )
+call-claims name at (CancelTask id) judgement own done_so =
+    done-claims name at (case_of (form_of (CancelTask id)) at) judgement done_so
+    (
     each-task (Claims name at.state.contents at.moment) id (row_with id at.state.contents.rows) _ (claims-none name at.state.contents at.moment)
     (λ row. claims-some name at.state.contents at.moment (at_moment at.moment (Cancel id)) refl)
+    )
+call-claims name at (TriggerHook trigger) judgement own (fired, comes, done_so) = done-claims name at (case_after fired at) judgement done_so (after-claims name at fired)
 
 verdict-claims : (name : RunName) (state : State) (asking : Asking) (judgement : Judgement) → HaveOwnIds state.contents.rows → IsVerdict state asking judgement → Claims name state.contents (moment_of state.contents asking) judgement.change
 unfolding IsVerdict
@@ -314,8 +345,7 @@ verdict-claims name state asking judgement own verdict = by judgement.change ref
   by None is = rw is (claims-none name state.contents (moment_of state.contents asking))
   by (Some change) is =
       let done_so = change-done at asking.caller (form_of asking.call) judgement change is verdict in
-      let same : judgement.change ≡ (case_of (form_of asking.call) at).deed.change = ap (λ (j : Judgement). j.change) done_so.1 in
-      subst (Claims name state.contents (moment_of state.contents asking)) (sym same) (call-claims name at asking.call own)
+      call-claims name at asking.call judgement own done_so
 
 -- ---- each task keeps an id of its own
 

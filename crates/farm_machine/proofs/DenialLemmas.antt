@@ -9,16 +9,19 @@ use Rattle.farm_record.specs.declared.change.Change.{Change}
 use Rattle.farm_record.specs.declared.change.Creation.{Creation}
 use Rattle.task_defs.specs.declared.task_def.TaskDef.{TaskDef}
 use Rattle.farm_machine.specs.declared.question.Call.{Call}
-use Rattle.farm_machine.specs.declared.question.Call.TheVariants.{NoRoute, BadParameter, BadBody, Ping, Task, Status, ListTaskGroup, ListDependentTasks, PendingTasks, CreateTask, ClaimWork, ReclaimTask, ReportRun, ScheduleTask, RerunTask, CancelTask}
+use Rattle.farm_machine.specs.declared.question.Call.TheVariants.{NoRoute, BadParameter, BadBody, Ping, Task, Status, ListTaskGroup, ListDependentTasks, PendingTasks, CreateTask, ClaimWork, ReclaimTask, ReportRun, ScheduleTask, RerunTask, CancelTask, TriggerHook}
 use Rattle.farm_machine.specs.declared.question.Caller.{Caller}
 use Rattle.farm_machine.specs.declared.reply.Answer.{Answer}
 use Rattle.farm_machine.specs.Access.{Has, HasAccess}
-use Rattle.farm_machine.specs.Calls.CreateTask.{standing, scheduler_besides, where_found, joining}
+use Rattle.call_rules.specs.declared.hook_names.HookName.{HookName}
+use Rattle.hook_fire.specs.Hooks.{HookData}
+use Rattle.farm_machine.specs.Calls.TriggerHook.{hook_at, of_hook}
+use Rattle.farm_machine.specs.Calls.CreateTask.{standing, scheduler_besides, where_found, joining, create_task}
 use Rattle.farm_machine.specs.Case.{Setting, Deed, Rule, Case, of_row, of_run}
 use Rattle.farm_machine.specs.Entry.{Asking, Entry, call, finished}
 use Rattle.farm_machine.specs.Judgement.{Judgement, only_answer}
 use Rattle.farm_machine.specs.Laws.{Finished, setting_behind, where_there, asked_policy, DeniesExactly}
-use Rattle.farm_machine.specs.Order.{Form, has_no_route, has_bad_parameter, has_bad_body, asks, case_of, Strikes, full, IsEnded, makes_task, IsFirst, in_order}
+use Rattle.farm_machine.specs.Order.{Form, has_no_route, has_bad_parameter, has_bad_body, asks, asks_then, case_of, Strikes, full, IsEnded, makes_task, IsFirst, ending, front, in_order}
 use Rattle.farm_machine.specs.Replies.{bad_dependency, other_scheduler, insufficient_scopes, farm_full}
 use Rattle.farm_machine.specs.State.{State}
 use Rattle.farm_machine.specs.Verdict.{form_of, IsVerdict}
@@ -28,12 +31,12 @@ use Rattle.farm_machine.proofs.OrderLemmas.{last_parts, not_refused, lacks_none,
 -- ---- no rule of a call denies
 
 -- none of these answers has the status of a denial
-abbrev AreOther : List Rule → Type 0
+abbrev pub AreOther : List Rule → Type 0
 AreOther [] = Unit {0}
 AreOther (rule ∷ rules) = (rule.answer.status ≢ 403) × AreOther rules
 
 -- another number is not that of a denial
-not_denied : (n : ℕ) → (n == 403) ≡ false → n ≢ 403
+pub not_denied : (n : ℕ) → (n == 403) ≡ false → n ≢ 403
 not_denied n other denied = let same : (403 == 403) ≡ false = rw denied at other in cc
 
 standing-other : (definition : TaskDef) (row : Option Row) (rules : List Rule) → AreOther rules → AreOther (standing definition row ++ rules)
@@ -62,6 +65,14 @@ run-other : (id : List ℕ) (run : ℕ) (each : Row → Case) (there : Bool) (ro
 run-other id run each true row others = others
 run-other id run each false row others = tt
 
+pub create-other : (creation : Creation) (at : Setting) → AreOther (create_task creation at).rules
+create-other creation at =
+    standing-other creation.definition (row_with creation.id at.state.contents.rows) _ (not_denied 400 refl, joining-other creation at.state.contents.rows)
+
+hook-other : (name : HookName) (hook : Option HookData) → AreOther (of_hook name hook).rules
+hook-other name None = tt
+hook-other name (Some hook) = tt
+
 call-other : (at : Setting) (asked : Call) → AreOther (case_of (form_of asked) at).rules
 call-other at (NoRoute name) = tt
 call-other at (BadParameter parameter) = tt
@@ -72,8 +83,7 @@ call-other at (Status id) = status-other id (row_with id at.state.contents.rows)
 call-other at (ListTaskGroup group page) = tt
 call-other at (ListDependentTasks id page) = tt
 call-other at (PendingTasks queue) = tt
-call-other at (CreateTask creation) =
-    standing-other creation.definition (row_with creation.id at.state.contents.rows) _ (not_denied 400 refl, joining-other creation at.state.contents.rows)
+call-other at (CreateTask creation) = create-other creation at
 call-other at (ClaimWork work) = tt
 call-other at (ReclaimTask name) =
     status-other name.id (row_with name.id at.state.contents.rows) _ (λ row. run-other name.id name.run _ (nat_lt name.run (length row.runs)) row (not_denied 409 refl, tt))
@@ -83,6 +93,7 @@ call-other at (ScheduleTask id) = status-other id (row_with id at.state.contents
 call-other at (RerunTask id) =
     status-other id (row_with id at.state.contents.rows) _ (λ row. (not_denied 200 refl, (not_denied 409 refl, (not_denied 409 refl, (not_denied 409 refl, tt)))))
 call-other at (CancelTask id) = status-other id (row_with id at.state.contents.rows) _ (λ row. (not_denied 200 refl, tt))
+call-other at (TriggerHook trigger) = hook-other trigger.hook (hook_at trigger.hook at)
 
 -- ---- a call that is not denied
 
@@ -103,20 +114,20 @@ last-other at deed judgement (inl strikes) = full-other (full at.state deed.chan
 last-other at deed judgement (inr (a, inl is)) = rw is (not_denied 200 refl)
 last-other at deed judgement (inr (a, inr (b, none))) = absurd none
 
-rules-other : (at : Setting) (deed : Deed) (rules : List Rule) (judgement : Judgement) → AreOther rules → IsFirst (map IsEnded rules ++ last_parts at deed) judgement → judgement.answer.status ≢ 403
+pub rules-other : (at : Setting) (deed : Deed) (rules : List Rule) (judgement : Judgement) → AreOther rules → IsFirst (map IsEnded rules ++ last_parts at deed) judgement → judgement.answer.status ≢ 403
 rules-other at deed [] judgement others first = last-other at deed judgement first
 rules-other at deed (rule ∷ rules) judgement others (inl ended) = rw ended.1 others.0
 rules-other at deed (rule ∷ rules) judgement others (inr (a, rest)) = rules-other at deed rules judgement others.1 rest
 
 -- what judges a call that is of its form, whose parameters name what they may, whose caller has access, that names what is there, and whose policy holds
-held-first : (at : Setting) (caller : Caller) (case : Setting → Case) (scopes : List (List ℕ)) (judgement : Judgement) → HasAccess at.state.config at.moment caller (Has scopes) → (case at).parameter ≡ None → (case at).absent ≡ None → missing scopes (case at).policy ≡ None → IsFirst (in_order at caller (asks case)) judgement → IsFirst (map IsEnded (case at).rules ++ last_parts at (case at).deed) judgement
-held-first at caller case scopes judgement has named there none (inl p) = absurd p
-held-first at caller case scopes judgement has named there none (inr (a, inl p)) = absurd (subst (λ (answer : Option Answer). Strikes answer judgement) named p)
-held-first at caller case scopes judgement has named there none (inr (a, inr (b, inl p))) = absurd p
-held-first at caller case scopes judgement has named there none (inr (a, inr (b, inr (c, inl p)))) = absurd (not_refused at.state.config at.moment caller scopes has judgement p)
-held-first at caller case scopes judgement has named there none (inr (a, inr (b, inr (c, inr (d, inl p))))) = absurd (subst (λ (answer : Option Answer). Strikes answer judgement) there p)
-held-first at caller case scopes judgement has named there none (inr (a, inr (b, inr (c, inr (d, inr (e, inl p)))))) = absurd (lacks_none at.state.config at.moment caller scopes (case at).policy has none judgement p)
-held-first at caller case scopes judgement has named there none (inr (a, inr (b, inr (c, inr (d, inr (e, inr (f, rest))))))) = rest
+pub held-first : (at : Setting) (caller : Caller) (case : Setting → Case) (Ps : List (Judgement → Type 0)) (scopes : List (List ℕ)) (judgement : Judgement) → HasAccess at.state.config at.moment caller (Has scopes) → (case at).parameter ≡ None → (case at).absent ≡ None → missing scopes (case at).policy ≡ None → IsFirst (front at caller (asks case) ++ Ps) judgement → IsFirst Ps judgement
+held-first at caller case Ps scopes judgement has named there none (inl p) = absurd p
+held-first at caller case Ps scopes judgement has named there none (inr (a, inl p)) = absurd (subst (λ (answer : Option Answer). Strikes answer judgement) named p)
+held-first at caller case Ps scopes judgement has named there none (inr (a, inr (b, inl p))) = absurd p
+held-first at caller case Ps scopes judgement has named there none (inr (a, inr (b, inr (c, inl p)))) = absurd (not_refused at.state.config at.moment caller scopes has judgement p)
+held-first at caller case Ps scopes judgement has named there none (inr (a, inr (b, inr (c, inr (d, inl p))))) = absurd (subst (λ (answer : Option Answer). Strikes answer judgement) there p)
+held-first at caller case Ps scopes judgement has named there none (inr (a, inr (b, inr (c, inr (d, inr (e, inl p)))))) = absurd (lacks_none at.state.config at.moment caller scopes (case at).policy has none judgement p)
+held-first at caller case Ps scopes judgement has named there none (inr (a, inr (b, inr (c, inr (d, inr (e, inr (f, rest))))))) = rest
 
 -- ---- denied exactly
 
@@ -124,14 +135,14 @@ exactly : (at : Setting) (caller : Caller) (case : Setting → Case) (scopes : L
 exactly at caller case scopes judgement others has named there first = by (holds scopes (case at).policy) refl where
   by : (test : Bool) → holds scopes (case at).policy ≡ test → DeniesExactly scopes (case at).policy judgement.answer
   by true is = record {
-    held = λ held. rules-other at (case at).deed (case at).rules judgement others (held-first at caller case scopes judgement has named there (rw is refl) first);
+    held = λ held. rules-other at (case at).deed (case at).rules judgement others (held-first at caller case (ending at (case at)) scopes judgement has named there (rw is refl) first);
     lacked = λ not_held. absurd (not_held is);
   }
   by false is =
       let lack = reduced scopes (case at).policy in
       let lacks : missing scopes (case at).policy ≡ Some lack = rw is refl in
-      let denied = asks-lacking at caller case scopes lack has named there lacks in
-      let same = in_order-one at caller (asks case) judgement (only_answer (insufficient_scopes lack)) first denied in
+      let denied = asks-lacking at caller case (ending at (case at)) scopes has named lack there lacks in
+      let same = in_order-one at caller (asks case) judgement (only_answer (insufficient_scopes lack)) tt first denied in
       record {
         held = λ held. let no_ : false ≡ true = sym is ∙ held in cc;
         lacked = λ not_held. (lack, lacks, missing_full scopes (case at).policy lack lacks, ap (λ (j : Judgement). j.answer) same);
@@ -146,6 +157,7 @@ form-exactly : (at : Setting) (caller : Caller) (form : Form) (scopes : List (Li
 form-exactly at caller (has_no_route a) scopes policy judgement others is has first = cc
 form-exactly at caller (has_bad_parameter a) scopes policy judgement others is has first = cc
 form-exactly at caller (has_bad_body a) scopes policy judgement others is has first = cc
+form-exactly at caller (asks_then Found case Comes rest) scopes policy judgement others is has first = cc
 form-exactly at caller (asks case) scopes policy judgement others is has first =
     let there = there-is (case at).parameter (case at).absent (case at).policy policy is in
     subst (λ (e : Expression). DeniesExactly scopes e judgement.answer) there.2 (exactly at caller case scopes judgement others has there.0 there.1 first)

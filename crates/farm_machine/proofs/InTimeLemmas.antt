@@ -1,5 +1,5 @@
 -- A report ends a run only before the end of its claim.
-use Rattle.std.proofs.Common.{◌≡◌, ℕ, ◌<◌, Bool, true, false, not, ◌&&◌, ◌||◌, cond, List, [], ◌∷◌, length, find, Option, Some, None, is_some, is_none, option_map, option_and_then, slice_get, bytes_eq, nat_lt, nat_le, min, ◌+◌, refl, sym, ap, ◌∙◌, subst}
+use Rattle.std.proofs.Common.{◌≡◌, ℕ, ◌<◌, Bool, true, false, not, ◌&&◌, ◌||◌, cond, List, [], ◌∷◌, length, find, Option, Some, None, Ok, Err, is_some, is_none, option_map, option_and_then, slice_get, bytes_eq, nat_lt, nat_le, min, ◌+◌, refl, sym, ap, ◌∙◌, subst}
 use Rattle.std.specs.List.{last_or, list_any}
 use Rattle.std.specs.Option.{option_to_list}
 use Rattle.std.proofs.lemmas.Bool.{and_parts, leb-false}
@@ -23,7 +23,7 @@ use Rattle.farm_rows.specs.Picks.{picks}
 use Rattle.farm_rows.proofs.DueLemmas.{any_none}
 use Rattle.farm_machine.specs.declared.config.Config.{Config}
 use Rattle.farm_machine.specs.declared.question.Call.{Call}
-use Rattle.farm_machine.specs.declared.question.Call.TheVariants.{NoRoute, BadParameter, BadBody, Ping, Task, Status, ListTaskGroup, ListDependentTasks, PendingTasks, CreateTask, ClaimWork, ReclaimTask, ReportRun, ScheduleTask, RerunTask, CancelTask}
+use Rattle.farm_machine.specs.declared.question.Call.TheVariants.{NoRoute, BadParameter, BadBody, Ping, Task, Status, ListTaskGroup, ListDependentTasks, PendingTasks, CreateTask, ClaimWork, ReclaimTask, ReportRun, ScheduleTask, RerunTask, CancelTask, TriggerHook}
 use Rattle.farm_machine.specs.Calls.CancelTask.{cancel_task}
 use Rattle.farm_machine.specs.Calls.ListDependentTasks.{list_dependent_tasks}
 use Rattle.farm_machine.specs.Calls.ListTaskGroup.{list_task_group}
@@ -36,6 +36,7 @@ use Rattle.farm_machine.specs.Calls.ReportRun.{report_run}
 use Rattle.farm_machine.specs.Calls.RerunTask.{rerun_task}
 use Rattle.farm_machine.specs.Calls.ScheduleTask.{schedule_task}
 use Rattle.farm_machine.specs.Calls.Status.{status}
+use Rattle.farm_machine.specs.Calls.TriggerHook.{Fired, case_after}
 use Rattle.farm_machine.specs.Case.{Setting, Deed, when, IsFirstRule}
 use Rattle.farm_machine.specs.Config.{claim_millis}
 use Rattle.farm_machine.specs.Entry.{Asking, Entry, call, finished}
@@ -48,7 +49,7 @@ use Rattle.farm_machine.specs.State.{State, empty_state}
 use Rattle.farm_machine.specs.Step.{farm_rules}
 use Rattle.farm_machine.specs.Verdict.{form_of, setting_of, IsVerdict}
 use Rattle.farm_machine.specs.Works.{at_moment}
-use Rattle.farm_machine.proofs.ChangeLemmas.{change-done}
+use Rattle.farm_machine.proofs.ChangeLemmas.{IsOf, IsDoneBy, change-done}
 use Rattle.farm_machine.proofs.DeedLemmas.{each-task, each-run, each-work}
 use Rattle.farm_machine.proofs.LastRunLemmas.{is_sound, are_sound, runs-at, open-last, entries-sound}
 use Rattle.farm_machine.proofs.MayLemmas.{no_not, passed}
@@ -98,39 +99,45 @@ run-reports at asked judgement report unruled is reports = by (row_with asked.id
         let same : asked ≡ report = cc in
         subst (λ (r : Resolution). Reports at judgement r) same (record { row = row; found = found; running = running; change = change })
 
-call-reports : (at : Setting) (asked : Call) (judgement : Judgement) (report : Resolution) → IsFirstRule (case_of (form_of asked) at).rules None → judgement ≡ done at (case_of (form_of asked) at).deed → report_of judgement.change ≡ Some report → Reports at judgement report
-call-reports at (NoRoute name) judgement report rules is reports = absurd (no-report judgement report (case_of (form_of (NoRoute name)) at).deed at refl is reports)
-call-reports at (BadParameter parameter) judgement report rules is reports = absurd (no-report judgement report (case_of (form_of (BadParameter parameter)) at).deed at refl is reports)
-call-reports at (BadBody fault) judgement report rules is reports = absurd (no-report judgement report (case_of (form_of (BadBody fault)) at).deed at refl is reports)
-call-reports at Ping judgement report rules is reports = absurd (no-report judgement report (case_of (form_of Ping) at).deed at refl is reports)
-call-reports at (Task id) judgement report rules is reports =
+-- what comes of a hook reports nothing
+after-quiet : (at : Setting) (fired : Fired) (judgement : Judgement) (report : Resolution) → IsOf at judgement (case_after fired at) → report_of judgement.change ≡ Some report → ⊥
+after-quiet at (Ok creation) judgement report (rules, is) reports = no-report judgement report (create_task creation at).deed at refl is reports
+after-quiet at (Err answer) judgement report (rules, is) reports = no-report judgement report (case_after (Err answer) at).deed at refl is reports
+
+call-reports : (at : Setting) (asked : Call) (judgement : Judgement) (report : Resolution) → IsDoneBy at judgement (form_of asked) → report_of judgement.change ≡ Some report → Reports at judgement report
+call-reports at (NoRoute name) judgement report (rules, is) reports = absurd (no-report judgement report (case_of (form_of (NoRoute name)) at).deed at refl is reports)
+call-reports at (BadParameter parameter) judgement report (rules, is) reports = absurd (no-report judgement report (case_of (form_of (BadParameter parameter)) at).deed at refl is reports)
+call-reports at (BadBody fault) judgement report (rules, is) reports = absurd (no-report judgement report (case_of (form_of (BadBody fault)) at).deed at refl is reports)
+call-reports at Ping judgement report (rules, is) reports = absurd (no-report judgement report (case_of (form_of Ping) at).deed at refl is reports)
+call-reports at (Task id) judgement report (rules, is) reports =
     absurd (no-report judgement report (task id at).deed at (each-task Quiet id (row_with id at.state.contents.rows) _ refl (λ row. refl)) is reports)
-call-reports at (ListTaskGroup group page) judgement report rules is reports = absurd (no-report judgement report (list_task_group group page at).deed at refl is reports)
-call-reports at (ListDependentTasks id page) judgement report rules is reports = absurd (no-report judgement report (list_dependent_tasks id page at).deed at refl is reports)
-call-reports at (PendingTasks queue) judgement report rules is reports = absurd (no-report judgement report (pending_tasks queue at).deed at refl is reports)
-call-reports at (Status id) judgement report rules is reports =
+call-reports at (ListTaskGroup group page) judgement report (rules, is) reports = absurd (no-report judgement report (list_task_group group page at).deed at refl is reports)
+call-reports at (ListDependentTasks id page) judgement report (rules, is) reports = absurd (no-report judgement report (list_dependent_tasks id page at).deed at refl is reports)
+call-reports at (PendingTasks queue) judgement report (rules, is) reports = absurd (no-report judgement report (pending_tasks queue at).deed at refl is reports)
+call-reports at (Status id) judgement report (rules, is) reports =
     absurd (no-report judgement report (status id at).deed at (each-task Quiet id (row_with id at.state.contents.rows) _ refl (λ row. refl)) is reports)
-call-reports at (CreateTask creation) judgement report rules is reports = absurd (no-report judgement report (create_task creation at).deed at refl is reports)
-call-reports at (ClaimWork work) judgement report rules is reports =
+call-reports at (CreateTask creation) judgement report (rules, is) reports = absurd (no-report judgement report (create_task creation at).deed at refl is reports)
+call-reports at (ClaimWork work) judgement report (rules, is) reports =
     absurd (no-report judgement report (claim_work work at).deed at
     (each-work Quiet at.moment (at.moment + claim_millis at.state.config) work (picks (min work.tasks 32) work.queue at.state.contents.rows) refl refl) is reports)
-call-reports at (ReclaimTask name) judgement report rules is reports =
+call-reports at (ReclaimTask name) judgement report (rules, is) reports =
     absurd (no-report judgement report (reclaim_task name at).deed at
     (each-task Quiet name.id (row_with name.id at.state.contents.rows) _ refl (λ row. each-run Quiet name.id name.run _ (nat_lt name.run (length row.runs)) row refl refl)) is reports)
-call-reports at (ReportRun asked) judgement report rules is reports = run-reports at asked judgement report rules is reports
-call-reports at (ScheduleTask id) judgement report rules is reports =
+call-reports at (ReportRun asked) judgement report (rules, is) reports = run-reports at asked judgement report rules is reports
+call-reports at (ScheduleTask id) judgement report (rules, is) reports =
     absurd (no-report judgement report (schedule_task id at).deed at (each-task Quiet id (row_with id at.state.contents.rows) _ refl (λ row. refl)) is reports)
-call-reports at (RerunTask id) judgement report rules is reports =
+call-reports at (RerunTask id) judgement report (rules, is) reports =
     absurd (no-report judgement report (rerun_task id at).deed at (each-task Quiet id (row_with id at.state.contents.rows) _ refl (λ row. refl)) is reports)
-call-reports at (CancelTask id) judgement report rules is reports =
+call-reports at (CancelTask id) judgement report (rules, is) reports =
     absurd (no-report judgement report (cancel_task id at).deed at (each-task Quiet id (row_with id at.state.contents.rows) _ refl (λ row. refl)) is reports)
+call-reports at (TriggerHook trigger) judgement report (fired, comes, done_so) reports = absurd (after-quiet at fired judgement report done_so reports)
 
 verdict-reports : (state : State) (asking : Asking) (judgement : Judgement) (at : ℕ) (report : Resolution) → IsVerdict state asking judgement → judgement.change ≡ Some (at_moment at (Resolve report)) → Reports (setting_of state asking) judgement report
 unfolding IsVerdict
 verdict-reports state asking judgement at report verdict change =
     let here = setting_of state asking in
     let done_so = change-done here asking.caller (form_of asking.call) judgement (at_moment at (Resolve report)) change verdict in
-    call-reports here asking.call judgement report done_so.0 done_so.1 (ap report_of change)
+    call-reports here asking.call judgement report done_so (ap report_of change)
 
 -- ---- nothing is due, so no claim has ended
 

@@ -3,6 +3,9 @@ pub mod ChangeLemmas
 pub mod DenialLemmas
 pub mod ExpressionLemmas
 pub mod FaultLemmas
+pub mod FiredLemmas
+pub mod FiringLemmas
+pub mod HookLawLemmas
 pub mod OnceLemmas
 pub mod OrderLemmas
 pub mod PageLemmas

@@ -200,7 +200,7 @@ again-first state asking creation judgement scopes row called has held found sam
     let answer = ok (document_text (status_body row)) in
     let ruled = asks-ruled at asking.caller (create_task creation) scopes answer has refl refl (missing-none scopes (create_policy creation.definition) held) (again-ruled (row_with creation.id state.contents.rows) row creation _ found same) in
     let judged : IsFirst (in_order at asking.caller (form_of (CreateTask creation))) judgement = subst (λ (c : Call). IsFirst (in_order at asking.caller (form_of c)) judgement) called verdict in
-    in_order-one at asking.caller (form_of (CreateTask creation)) judgement (only_answer answer) judged ruled
+    in_order-one at asking.caller (form_of (CreateTask creation)) judgement (only_answer answer) tt judged ruled
 
 -- the entry at a place of a legal history may come there
 pub entry-may : (opening : State) (before after : List Entry) (entry : Entry) → IsLegal farm_rules opening (before ++ entry ∷ after) → lawful (end_state farm_rules opening before) entry

@@ -10,12 +10,12 @@ use Rattle.farm_record.specs.declared.change.Kind.{Kind}
 use Rattle.farm_rows.specs.Contents.{Contents}
 use Rattle.farm_rows.specs.Plans as tasks
 use Rattle.farm_machine.specs.declared.judged.Judged.{Judged}
-use Rattle.farm_machine.specs.Case.{Setting, Deed, Rule, Case, changing, IsFirstRule}
+use Rattle.farm_machine.specs.Case.{Setting, Deed, Rule, Case, passing, changing, IsFirstRule}
 use Rattle.farm_machine.specs.Changes.{changed}
 use Rattle.farm_machine.specs.Judgement.{Judgement, only_answer}
-use Rattle.farm_machine.specs.Order.{Form, has_no_route, has_bad_parameter, has_bad_body, asks, route_of, parameter_of, body_of, case_of, Strikes, HasNoAccess, LacksScopes, IsEnded, full, IsDone, done, IsFirst, in_order}
+use Rattle.farm_machine.specs.Order.{Form, has_no_route, has_bad_parameter, has_bad_body, asks, asks_then, route_of, parameter_of, body_of, case_of, Strikes, HasNoAccess, LacksScopes, IsEnded, full, IsDone, done, IsFirst, ending, GoesOn, behind, front, in_order}
 use Rattle.farm_machine.specs.Planned.{judgement_of}
-use Rattle.farm_machine.specs.Refused.{Passes, IsRefusal, IsJudged, IsMade}
+use Rattle.farm_machine.specs.Refused.{Passes, IsRefusal, IsJudged, IsFinished, IsMade}
 use Rattle.farm_machine.specs.Replies.{ok, insufficient_scopes}
 use Rattle.farm_machine.proofs.AccessLemmas.{HasAccess-one}
 
@@ -63,54 +63,56 @@ rule_ends (rule ∷ rules) Ps a (inr (goes_on, rest)) = inr (λ other ended. goe
 abbrev pub last_parts : Setting → Deed → List (Judgement → Type 0)
 last_parts at deed = Strikes (full at.state deed.change) ∷ IsDone at deed ∷ []
 
--- a call that asks something has no fault of form, where its parameters name what they may
-asks-first : (at : Setting) (caller : Caller) (case : Setting → Case) (judgement : Judgement) → (case at).parameter ≡ None → IsFirst (HasNoAccess at.state.config at.moment caller ∷ Strikes (case at).absent ∷ LacksScopes at.state.config at.moment caller (case at).policy ∷ (map IsEnded (case at).rules ++ last_parts at (case at).deed)) judgement → IsFirst (in_order at caller (asks case)) judgement
-asks-first at caller case judgement named first =
+-- whoever asks something has no fault of form, where its parameters name what they may
+asks-first : (at : Setting) (caller : Caller) (case : Setting → Case) (Ps : List (Judgement → Type 0)) (judgement : Judgement) → (case at).parameter ≡ None → IsFirst (HasNoAccess at.state.config at.moment caller ∷ Strikes (case at).absent ∷ LacksScopes at.state.config at.moment caller (case at).policy ∷ Ps) judgement → IsFirst (front at caller (asks case) ++ Ps) judgement
+asks-first at caller case Ps judgement named first =
     inr (λ other strikes. strikes, inr (idle (case at).parameter named, inr (λ other strikes. strikes, first)))
 
--- a parameter names nothing that it may name
-pub asks-misnamed : (at : Setting) (caller : Caller) (case : Setting → Case) (a : Answer) → (case at).parameter ≡ Some a → IsFirst (in_order at caller (asks case)) (only_answer a)
-asks-misnamed at caller case a misnamed = inr (λ other strikes. strikes, inl (struck (case at).parameter a misnamed))
+-- what refuses a call up to its policy, whatever is behind that
+module _ (at : Setting) (caller : Caller) (case : Setting → Case) (Ps : List (Judgement → Type 0)) where
+  -- a parameter names nothing that it may name
+  pub asks-misnamed : (a : Answer) → (case at).parameter ≡ Some a → IsFirst (front at caller (asks case) ++ Ps) (only_answer a)
+  asks-misnamed a misnamed = inr (λ other strikes. strikes, inl (struck (case at).parameter a misnamed))
 
--- the caller is refused
-pub asks-refused : (at : Setting) (caller : Caller) (case : Setting → Case) (a : Answer) → (case at).parameter ≡ None → HasAccess at.state.config at.moment caller (Refused a) → IsFirst (in_order at caller (asks case)) (only_answer a)
-asks-refused at caller case a named refused = asks-first at caller case (only_answer a) named (inl (a, refused, refl))
+  -- the caller is refused
+  pub asks-refused : (a : Answer) → (case at).parameter ≡ None → HasAccess at.state.config at.moment caller (Refused a) → IsFirst (front at caller (asks case) ++ Ps) (only_answer a)
+  asks-refused a named refused = asks-first at caller case Ps (only_answer a) named (inl (a, refused, refl))
 
--- what is named is not there
-pub asks-absent : (at : Setting) (caller : Caller) (case : Setting → Case) (scopes : List (List ℕ)) (a : Answer) → HasAccess at.state.config at.moment caller (Has scopes) → (case at).parameter ≡ None → (case at).absent ≡ Some a → IsFirst (in_order at caller (asks case)) (only_answer a)
-asks-absent at caller case scopes a has named absent =
-    let free = not_refused at.state.config at.moment caller scopes has in
-    asks-first at caller case (only_answer a) named (inr (free, inl (struck (case at).absent a absent)))
+  module _ (scopes : List (List ℕ)) (has : HasAccess at.state.config at.moment caller (Has scopes)) (named : (case at).parameter ≡ None) where
+    free : (other : Judgement) → ¬ HasNoAccess at.state.config at.moment caller other
+    free = not_refused at.state.config at.moment caller scopes has
 
--- scopes are missing
-pub asks-lacking : (at : Setting) (caller : Caller) (case : Setting → Case) (scopes : List (List ℕ)) (lack : Expression) → HasAccess at.state.config at.moment caller (Has scopes) → (case at).parameter ≡ None → (case at).absent ≡ None → missing scopes (case at).policy ≡ Some lack → IsFirst (in_order at caller (asks case)) (only_answer (insufficient_scopes lack))
-asks-lacking at caller case scopes lack has named there lacks =
-    let free = not_refused at.state.config at.moment caller scopes has in
-    let answer : option_map insufficient_scopes (missing scopes (case at).policy) ≡ Some (insufficient_scopes lack) = rw lacks refl in
-    let strikes = struck (option_map insufficient_scopes (missing scopes (case at).policy)) (insufficient_scopes lack) answer in
-    asks-first at caller case (only_answer (insufficient_scopes lack)) named (inr (free, inr (idle (case at).absent there, inl (scopes, has, strikes))))
+    -- what is named is not there
+    pub asks-absent : (a : Answer) → (case at).absent ≡ Some a → IsFirst (front at caller (asks case) ++ Ps) (only_answer a)
+    asks-absent a absent = asks-first at caller case Ps (only_answer a) named (inr (free, inl (struck (case at).absent a absent)))
 
--- what comes after the policy, for a caller whose scopes hold it
-asks-held : (at : Setting) (caller : Caller) (case : Setting → Case) (scopes : List (List ℕ)) (judgement : Judgement) → HasAccess at.state.config at.moment caller (Has scopes) → (case at).parameter ≡ None → (case at).absent ≡ None → missing scopes (case at).policy ≡ None → IsFirst (map IsEnded (case at).rules ++ last_parts at (case at).deed) judgement → IsFirst (in_order at caller (asks case)) judgement
-asks-held at caller case scopes judgement has named there none first =
-    let free = not_refused at.state.config at.moment caller scopes has in
-    let holds = lacks_none at.state.config at.moment caller scopes (case at).policy has none in
-    asks-first at caller case judgement named (inr (free, inr (idle (case at).absent there, inr (holds, first))))
+    -- scopes are missing
+    pub asks-lacking : (lack : Expression) → (case at).absent ≡ None → missing scopes (case at).policy ≡ Some lack → IsFirst (front at caller (asks case) ++ Ps) (only_answer (insufficient_scopes lack))
+    asks-lacking lack there lacks =
+        let answer : option_map insufficient_scopes (missing scopes (case at).policy) ≡ Some (insufficient_scopes lack) = rw lacks refl in
+        let strikes = struck (option_map insufficient_scopes (missing scopes (case at).policy)) (insufficient_scopes lack) answer in
+        asks-first at caller case Ps (only_answer (insufficient_scopes lack)) named (inr (free, inr (idle (case at).absent there, inl (scopes, has, strikes))))
+
+    -- what comes after the policy, for a caller whose scopes hold it
+    pub asks-held : (judgement : Judgement) → (case at).absent ≡ None → missing scopes (case at).policy ≡ None → IsFirst Ps judgement → IsFirst (front at caller (asks case) ++ Ps) judgement
+    asks-held judgement there none first =
+        let holds = lacks_none at.state.config at.moment caller scopes (case at).policy has none in
+        asks-first at caller case Ps judgement named (inr (free, inr (idle (case at).absent there, inr (holds, first))))
+
+  -- nothing refuses the call up to its policy
+  pub asks-passed : (judgement : Judgement) → Passes at caller (case at) → IsFirst Ps judgement → IsFirst (front at caller (asks case) ++ Ps) judgement
+  asks-passed judgement passes first = asks-held passes.scopes passes.has passes.named judgement passes.there passes.held first
 
 -- a rule of the call ends it
 pub asks-ruled : (at : Setting) (caller : Caller) (case : Setting → Case) (scopes : List (List ℕ)) (a : Answer) → HasAccess at.state.config at.moment caller (Has scopes) → (case at).parameter ≡ None → (case at).absent ≡ None → missing scopes (case at).policy ≡ None → IsFirstRule (case at).rules (Some a) → IsFirst (in_order at caller (asks case)) (only_answer a)
 asks-ruled at caller case scopes a has named there none rule =
-    asks-held at caller case scopes (only_answer a) has named there none (rule_ends (case at).rules (last_parts at (case at).deed) a rule)
+    asks-held at caller case (ending at (case at)) scopes has named (only_answer a) there none (rule_ends (case at).rules (last_parts at (case at).deed) a rule)
 
--- nothing refuses the call before what it does is judged
-pub asks-passed : (at : Setting) (caller : Caller) (case : Setting → Case) (judgement : Judgement) → Passes at caller (case at) → IsFirst (last_parts at (case at).deed) judgement → IsFirst (in_order at caller (asks case)) judgement
-asks-passed at caller case judgement passes first =
-    asks-held at caller case passes.scopes judgement passes.has passes.named passes.there passes.held (rules_pass (case at).rules (last_parts at (case at).deed) judgement passes.unruled first)
-
--- the first rule that ends the call refuses it, and where none does nothing refuses it
-pub refusal_by_rule : (at : Setting) (caller : Caller) (case : Setting → Case) (scopes : List (List ℕ)) (a : Option Answer) → HasAccess at.state.config at.moment caller (Has scopes) → (case at).parameter ≡ None → (case at).absent ≡ None → missing scopes (case at).policy ≡ None → IsFirstRule (case at).rules a → IsRefusal at caller case a
-refusal_by_rule at caller case scopes None has named there none rule = record { named = named; scopes = scopes; has = has; there = there; held = none; unruled = rule }
-refusal_by_rule at caller case scopes (Some a) has named there none rule = asks-ruled at caller case scopes a has named there none rule
+-- what is first up to the policy is first, whatever is behind
+pub first-front : (Ps Qs : List (Judgement → Type 0)) (judgement : Judgement) → IsFirst Ps judgement → IsFirst (Ps ++ Qs) judgement
+first-front [] Qs judgement first = absurd first
+first-front (P ∷ Ps) Qs judgement (inl p) = inl p
+first-front (P ∷ Ps) Qs judgement (inr (other, first)) = inr (other, first-front Ps Qs judgement first)
 
 -- a farm is not full for what changes nothing
 pub reads-first : (at : Setting) (deed : Deed) (judgement : Judgement) → deed.change ≡ None → judgement ≡ done at deed → IsFirst (last_parts at deed) judgement
@@ -146,10 +148,49 @@ pub IsJudged-refused : {E : Type 0} (at : Setting) (caller : Caller) (form : For
 IsJudged-refused at caller form (Ok judged) a answer change first = IsJudged-only at caller form judged a answer change first
 IsJudged-refused at caller form (Err e) a answer change first = tt
 
-pub IsJudged-made : (at : Setting) (caller : Caller) (case : Setting → Case) (kind : Kind) (judged : Judged) → Passes at caller (case at) → (case at).deed ≡ changing at.moment kind → IsMade at kind judged → IsJudged at caller (asks case) judged
-IsJudged-made at caller case kind judged passes is made =
+-- what is refused up to its policy is judged so
+pub IsJudged-turned : (at : Setting) (caller : Caller) (form : Form) (judged : Judged) (a : Answer) → judged.answer ≡ a → judged.change ≡ None → IsFirst (front at caller form) (only_answer a) → IsJudged at caller form judged
+IsJudged-turned at caller form judged a answer change first =
+    IsJudged-only at caller form judged a answer change (first-front (front at caller form) (behind at form) (only_answer a) first)
+
+-- what is finished behind its policy is judged so
+pub IsJudged-finished : (at : Setting) (caller : Caller) (case : Setting → Case) (judged : Judged) → Passes at caller (case at) → IsFinished at (case at) judged → IsJudged at caller (asks case) judged
+IsJudged-finished at caller case judged passes finished =
+    record { first = asks-passed at caller case (ending at (case at)) (judgement_of judged) passes finished.first; kept = finished.kept }
+
+-- the same of a call that gives it, or runs out of memory
+pub IsJudged-finished-so : {E : Type 0} (at : Setting) (caller : Caller) (case : Setting → Case) (result : Result Judged E) → Passes at caller (case at) → IfOk result (IsFinished at (case at)) → IfOk result (IsJudged at caller (asks case))
+IsJudged-finished-so at caller case (Ok judged) passes finished = IsJudged-finished at caller case judged passes finished
+IsJudged-finished-so at caller case (Err e) passes finished = tt
+
+-- what comes of a call that passes up to its policy, and is finished so, is judged so
+pub IsJudged-came : (Found : Type 0) (at : Setting) (caller : Caller) (case : Setting → Case) (Comes : Setting → Found → Type 0) (rest : Found → Setting → Case) (found : Found) (judged : Judged) → Passes at caller (case at) → Comes at found → IsFinished at (rest found at) judged → IsJudged at caller (asks_then Found case Comes rest) judged
+IsJudged-came Found at caller case Comes rest found judged passes comes finished = record {
+  first = asks-passed at caller case (GoesOn Found Comes rest at ∷ []) (judgement_of judged) passes (inl (found, comes, finished.first));
+  kept = finished.kept;
+}
+
+pub IsJudged-came-so : {E : Type 0} (Found : Type 0) (at : Setting) (caller : Caller) (case : Setting → Case) (Comes : Setting → Found → Type 0) (rest : Found → Setting → Case) (found : Found) (result : Result Judged E) → Passes at caller (case at) → Comes at found → IfOk result (IsFinished at (rest found at)) → IfOk result (IsJudged at caller (asks_then Found case Comes rest))
+IsJudged-came-so Found at caller case Comes rest found (Ok judged) passes comes finished = IsJudged-came Found at caller case Comes rest found judged passes comes finished
+IsJudged-came-so Found at caller case Comes rest found (Err e) passes comes finished = tt
+
+-- a rule ends it, or what it does is judged
+pub IsFinished-ruled : (at : Setting) (case : Case) (judged : Judged) (a : Answer) → judged.answer ≡ a → judged.change ≡ None → IsFirstRule case.rules (Some a) → IsFinished at case judged
+IsFinished-ruled at case judged a answer change rule = record {
+  first = rw (only-judged judged a answer change) (rule_ends case.rules (last_parts at case.deed) a rule);
+  kept = only-kept judged at.state.contents change;
+}
+
+pub IsFinished-reads : (at : Setting) (case : Case) (judged : Judged) (text : List ℕ) → judged.answer ≡ ok text → judged.change ≡ None → IsFirstRule case.rules None → case.deed.change ≡ None → text ≡ document_text (case.deed.body (changed at.state.contents at.moment None)) → IsFinished at case judged
+IsFinished-reads at case judged text answer change unruled reads is = record {
+  first = rw (only-judged judged (ok text) answer change) (rules_pass case.rules (last_parts at case.deed) (only_answer (ok text)) unruled (reads-first at case.deed (only_answer (ok text)) reads (done-only at case.deed text reads is)));
+  kept = only-kept judged at.state.contents change;
+}
+
+pub IsFinished-made : (at : Setting) (case : Case) (kind : Kind) (judged : Judged) → IsFirstRule case.rules None → case.deed ≡ changing at.moment kind → IsMade at kind judged → IsFinished at case judged
+IsFinished-made at case kind judged unruled is made =
     let P : Deed → Type 0 = λ deed. IsFirst (last_parts at deed) (judgement_of judged) in
-    record { first = asks-passed at caller case (judgement_of judged) passes (subst P (sym is) made.first); kept = made.kept }
+    record { first = rules_pass case.rules (last_parts at case.deed) (judgement_of judged) unruled (subst P (sym is) made.first); kept = made.kept }
 
 -- ---- there is one
 
@@ -168,41 +209,59 @@ first_rule_some [] decided = (None, refl)
 first_rule_some (rule ∷ rules) (inl ends, rest) = (Some rule.answer, inl (ends, refl))
 first_rule_some (rule ∷ rules) (inr goes_on, rest) = let found = first_rule_some rules rest in (found.0, inr (goes_on, found.1))
 
-ruled_some : (at : Setting) (caller : Caller) (case : Setting → Case) (scopes : List (List ℕ)) (rule : Option Answer) → HasAccess at.state.config at.moment caller (Has scopes) → (case at).parameter ≡ None → (case at).absent ≡ None → missing scopes (case at).policy ≡ None → IsFirstRule (case at).rules rule → (judgement : Judgement) × IsFirst (in_order at caller (asks case)) judgement
-ruled_some at caller case scopes (Some a) has named there none rule = (only_answer a, asks-ruled at caller case scopes a has named there none rule)
-ruled_some at caller case scopes None has named there none rule =
-    let last = last_some at (case at).deed (full at.state (case at).deed.change) refl in
-    (last.0, asks-passed at caller case last.0 (record { named = named; scopes = scopes; has = has; there = there; held = none; unruled = rule }) last.1)
+-- some judgement is the first behind the policy of a case whose rules are decided
+pub ending_some : (at : Setting) (case : Case) → AreDecided case.rules → (judgement : Judgement) × IsFirst (ending at case) judgement
+ending_some at case decided = by found.0 found.1 where
+  found : (a : Option Answer) × IsFirstRule case.rules a
+  found = first_rule_some case.rules decided
 
-lacking_some : (at : Setting) (caller : Caller) (case : Setting → Case) → AreDecided (case at).rules → (scopes : List (List ℕ)) (lack : Option Expression) → HasAccess at.state.config at.moment caller (Has scopes) → (case at).parameter ≡ None → (case at).absent ≡ None → missing scopes (case at).policy ≡ lack → (judgement : Judgement) × IsFirst (in_order at caller (asks case)) judgement
-lacking_some at caller case decided scopes (Some e) has named there is = (only_answer (insufficient_scopes e), asks-lacking at caller case scopes e has named there is)
-lacking_some at caller case decided scopes None has named there is =
-    let found = first_rule_some (case at).rules decided in
-    ruled_some at caller case scopes found.0 has named there is found.1
+  by : (a : Option Answer) → IsFirstRule case.rules a → (judgement : Judgement) × IsFirst (ending at case) judgement
+  by (Some a) rule = (only_answer a, rule_ends case.rules (last_parts at case.deed) a rule)
+  by None rule =
+      let last = last_some at case.deed (full at.state case.deed.change) refl in
+      (last.0, rules_pass case.rules (last_parts at case.deed) last.0 rule last.1)
 
-absent_some : (at : Setting) (caller : Caller) (case : Setting → Case) → AreDecided (case at).rules → (scopes : List (List ℕ)) (absent : Option Answer) → HasAccess at.state.config at.moment caller (Has scopes) → (case at).parameter ≡ None → (case at).absent ≡ absent → (judgement : Judgement) × IsFirst (in_order at caller (asks case)) judgement
-absent_some at caller case decided scopes (Some a) has named is = (only_answer a, asks-absent at caller case scopes a has named is)
-absent_some at caller case decided scopes None has named is = lacking_some at caller case decided scopes (missing scopes (case at).policy) has named is refl
+module _ (at : Setting) (caller : Caller) (case : Setting → Case) (Ps : List (Judgement → Type 0)) (some : Passes at caller (case at) → (judgement : Judgement) × IsFirst Ps judgement) where
+  lacking_some : (scopes : List (List ℕ)) (lack : Option Expression) → HasAccess at.state.config at.moment caller (Has scopes) → (case at).parameter ≡ None → (case at).absent ≡ None → missing scopes (case at).policy ≡ lack → (judgement : Judgement) × IsFirst (front at caller (asks case) ++ Ps) judgement
+  lacking_some scopes (Some e) has named there is = (only_answer (insufficient_scopes e), asks-lacking at caller case Ps scopes has named e there is)
+  lacking_some scopes None has named there is =
+      let found = some (record { named = named; scopes = scopes; has = has; there = there; held = is }) in
+      (found.0, asks-held at caller case Ps scopes has named found.0 there is found.1)
 
-access_some : (at : Setting) (caller : Caller) (case : Setting → Case) → AreDecided (case at).rules → (access : Access) → HasAccess at.state.config at.moment caller access → (case at).parameter ≡ None → (judgement : Judgement) × IsFirst (in_order at caller (asks case)) judgement
-access_some at caller case decided (Refused a) has named = (only_answer a, asks-refused at caller case a named has)
-access_some at caller case decided (Has scopes) has named = absent_some at caller case decided scopes (case at).absent has named refl
+  absent_some : (scopes : List (List ℕ)) (absent : Option Answer) → HasAccess at.state.config at.moment caller (Has scopes) → (case at).parameter ≡ None → (case at).absent ≡ absent → (judgement : Judgement) × IsFirst (front at caller (asks case) ++ Ps) judgement
+  absent_some scopes (Some a) has named is = (only_answer a, asks-absent at caller case Ps scopes has named a is)
+  absent_some scopes None has named is = lacking_some scopes (missing scopes (case at).policy) has named is refl
 
-asks_some : (at : Setting) (caller : Caller) (case : Setting → Case) → AreDecided (case at).rules → (access : Access) → HasAccess at.state.config at.moment caller access → (parameter : Option Answer) → (case at).parameter ≡ parameter → (judgement : Judgement) × IsFirst (in_order at caller (asks case)) judgement
-asks_some at caller case decided access has (Some a) is = (only_answer a, asks-misnamed at caller case a is)
-asks_some at caller case decided access has None is = access_some at caller case decided access has is
+  access_some : (access : Access) → HasAccess at.state.config at.moment caller access → (case at).parameter ≡ None → (judgement : Judgement) × IsFirst (front at caller (asks case) ++ Ps) judgement
+  access_some (Refused a) has named = (only_answer a, asks-refused at caller case Ps a named has)
+  access_some (Has scopes) has named = absent_some scopes (case at).absent has named refl
 
--- each rule of what is called ends it or does not
-abbrev pub IsDecided : Form → Setting → Type 0
-IsDecided (asks case) at = AreDecided (case at).rules
-IsDecided form at = Unit {0}
+  asks_some : (access : Access) → HasAccess at.state.config at.moment caller access → (parameter : Option Answer) → (case at).parameter ≡ parameter → (judgement : Judgement) × IsFirst (front at caller (asks case) ++ Ps) judgement
+  asks_some access has (Some a) is = (only_answer a, asks-misnamed at caller case Ps a is)
+  asks_some access has None is = access_some access has is
+
+-- each rule of what is called ends it or does not; and where its front refuses nothing, something comes of it, whose rules are decided
+abbrev pub IsDecided : Form → Setting → Caller → Type 0
+IsDecided (asks case) at caller = AreDecided (case at).rules
+IsDecided (asks_then Found case Comes rest) at caller =
+    Passes at caller (case at) → (found : Found) × Comes at found × AreDecided (rest found at).rules
+IsDecided form at caller = Unit {0}
 
 -- whatever is called, some judgement is the first, for a caller of some access
-pub in_order-some : (at : Setting) (caller : Caller) (form : Form) → IsDecided form at → (access : Access) → HasAccess at.state.config at.moment caller access → (judgement : Judgement) × IsFirst (in_order at caller form) judgement
+pub in_order-some : (at : Setting) (caller : Caller) (form : Form) → IsDecided form at caller → (access : Access) → HasAccess at.state.config at.moment caller access → (judgement : Judgement) × IsFirst (in_order at caller form) judgement
 in_order-some at caller (has_no_route a) decided access has = (only_answer a, inl refl)
 in_order-some at caller (has_bad_parameter a) decided access has = (only_answer a, inr (λ other strikes. strikes, inl refl))
 in_order-some at caller (has_bad_body a) decided access has = (only_answer a, inr (λ other strikes. strikes, inr (λ other strikes. strikes, inl refl)))
-in_order-some at caller (asks case) decided access has = asks_some at caller case decided access has (case at).parameter refl
+in_order-some at caller (asks case) decided access has =
+    asks_some at caller case (ending at (case at)) (λ passes. ending_some at (case at) decided) access has (case at).parameter refl
+in_order-some at caller (asks_then Found case Comes rest) decided access has =
+    let goes_on : Passes at caller (case at) → (judgement : Judgement) × IsFirst (GoesOn Found Comes rest at ∷ []) judgement =
+    λ passes.
+    let found = decided passes in
+    let last = ending_some at (rest found.0 at) found.2 in
+    (last.0, inl (found.0, found.1, last.1))
+    in
+    asks_some at caller case (GoesOn Found Comes rest at ∷ []) goes_on access has (case at).parameter refl
 
 -- ---- it is one
 
@@ -242,15 +301,35 @@ single_lacks config moment caller policy a b p q =
     let P : List (List ℕ) → Type 0 = λ scopes. Strikes (option_map insufficient_scopes (missing scopes policy)) a in
     single_strikes (option_map insufficient_scopes (missing q.0 policy)) a b (subst P same p.2) q.2
 
+single_ending : (at : Setting) (case : Case) → AreSingle (ending at case)
+single_ending at case =
+    single_rules case.rules (last_parts at case.deed) (single_strikes (full at.state case.deed.change), (λ x y i j. i ∙ sym j, tt))
+
+-- what comes of a call is one
+abbrev pub IsDetermined : Form → Setting → Type 0
+IsDetermined (asks_then Found case Comes rest) at = (found other : Found) → Comes at found → Comes at other → found ≡ other
+IsDetermined form at = Unit {0}
+
+single_goes_on : (Found : Type 0) (Comes : Setting → Found → Type 0) (rest : Found → Setting → Case) (at : Setting) → ((found other : Found) → Comes at found → Comes at other → found ≡ other) → IsSingle (GoesOn Found Comes rest at)
+single_goes_on Found Comes rest at one a b p q =
+    let P : Found → Type 0 = λ found. IsFirst (ending at (rest found at)) a in
+    IsFirst-one (ending at (rest q.0 at)) a b (single_ending at (rest q.0 at)) (subst P (one p.0 q.0 p.1 q.1) p.2) q.2
+
+single_behind : (at : Setting) (form : Form) → IsDetermined form at → AreSingle (behind at form)
+single_behind at (has_no_route a) one = single_ending at passing
+single_behind at (has_bad_parameter a) one = single_ending at passing
+single_behind at (has_bad_body a) one = single_ending at passing
+single_behind at (asks case) one = single_ending at (case at)
+single_behind at (asks_then Found case Comes rest) one = (single_goes_on Found Comes rest at one, tt)
+
 -- two judgements that are both the first are one
-pub in_order-one : (at : Setting) (caller : Caller) (form : Form) (a b : Judgement) → IsFirst (in_order at caller form) a → IsFirst (in_order at caller form) b → a ≡ b
-in_order-one at caller form a b p q =
+pub in_order-one : (at : Setting) (caller : Caller) (form : Form) (a b : Judgement) → IsDetermined form at → IsFirst (in_order at caller form) a → IsFirst (in_order at caller form) b → a ≡ b
+in_order-one at caller form a b one p q =
     let config = at.state.config in
     let moment = at.moment in
     let case = case_of form at in
-    let last : AreSingle (last_parts at case.deed) = (single_strikes (full at.state case.deed.change), (λ x y i j. i ∙ sym j, tt)) in
     IsFirst-one (in_order at caller form) a b
-    (single_strikes (route_of form), (single_strikes (parameter_of form at), (single_strikes (body_of form), (single_no_access config moment caller, (single_strikes case.absent, (single_lacks config moment caller case.policy, single_rules case.rules (last_parts at case.deed) last))))))
+    (single_strikes (route_of form), (single_strikes (parameter_of form at), (single_strikes (body_of form), (single_no_access config moment caller, (single_strikes case.absent, (single_lacks config moment caller case.policy, single_behind at form one))))))
     p q
 
 -- what refuses a call of whoever has these scopes refuses it of a caller who has them

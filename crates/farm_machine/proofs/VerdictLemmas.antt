@@ -1,5 +1,5 @@
 -- The verdict is one, and each call has one.
-use Rattle.std.proofs.Common.{◌≡◌, ◌⊎◌, ℕ, Bool, true, false, List, ◌++◌, length, Option, Some, None, not, ◌&&◌, nat_le, nat_lt, refl, inl, inr}
+use Rattle.std.proofs.Common.{◌≡◌, ◌⊎◌, ℕ, Bool, true, false, List, ◌++◌, length, Option, Some, None, Ok, Err, not, ◌&&◌, nat_le, nat_lt, refl, inl, inr}
 use Rattle.hawk_auth.specs.Clients.{IsBook}
 use Rattle.role_expand.specs.Cycles.{IsAccepted}
 use Rattle.farm_record.specs.declared.change.Creation.{Creation}
@@ -10,9 +10,12 @@ use Rattle.farm_rows.specs.Contents.{row_with}
 use Rattle.farm_rows.specs.Waits.{missing_dependency, early_dependency}
 use Rattle.task_defs.specs.declared.task_def.TaskDef.{TaskDef}
 use Rattle.farm_machine.specs.declared.question.Call.{Call}
-use Rattle.farm_machine.specs.declared.question.Call.TheVariants.{NoRoute, BadParameter, BadBody, Ping, Task, Status, ListTaskGroup, ListDependentTasks, PendingTasks, CreateTask, ClaimWork, ReclaimTask, ReportRun, ScheduleTask, RerunTask, CancelTask}
+use Rattle.farm_machine.specs.declared.question.Call.TheVariants.{NoRoute, BadParameter, BadBody, Ping, Task, Status, ListTaskGroup, ListDependentTasks, PendingTasks, CreateTask, ClaimWork, ReclaimTask, ReportRun, ScheduleTask, RerunTask, CancelTask, TriggerHook}
 use Rattle.farm_machine.specs.declared.reply.Answer.{Answer}
-use Rattle.farm_machine.specs.Calls.CreateTask.{standing, scheduler_besides, where_found, joining}
+use Rattle.farm_machine.specs.declared.question.Caller.{Caller}
+use Rattle.farm_machine.specs.Calls.CreateTask.{standing, scheduler_besides, where_found, joining, create_task}
+use Rattle.farm_machine.specs.Calls.TriggerHook.{Fired, case_after}
+use Rattle.farm_machine.specs.Laws.{FiringEnds}
 use Rattle.farm_machine.specs.Case.{Setting, Case, Rule, when, of_row, of_run}
 use Rattle.farm_machine.specs.Entry.{Asking}
 use Rattle.farm_machine.specs.Judgement.{Judgement}
@@ -21,12 +24,34 @@ use Rattle.farm_machine.specs.State.{State}
 use Rattle.farm_machine.specs.Verdict.{form_of, setting_of, IsVerdict}
 use Rattle.farm_machine.proofs.AccessLemmas.{HasAccess-some}
 use Rattle.farm_machine.proofs.EqualLemmas.{definition_decided}
-use Rattle.farm_machine.proofs.OrderLemmas.{AreDecided, IsDecided, in_order-one, in_order-some}
+use Rattle.farm_machine.proofs.FiredLemmas.{ComesTo-one, ComesTo-some}
+use Rattle.farm_machine.proofs.OrderLemmas.{AreDecided, IsDecided, IsDetermined, in_order-one, in_order-some}
+
+-- what comes of a call is one
+pub form-determined : (call : Call) (at : Setting) → IsDetermined (form_of call) at
+form-determined (NoRoute name) at = tt
+form-determined (BadParameter parameter) at = tt
+form-determined (BadBody fault) at = tt
+form-determined Ping at = tt
+form-determined (Task id) at = tt
+form-determined (Status id) at = tt
+form-determined (ListTaskGroup group page) at = tt
+form-determined (ListDependentTasks id page) at = tt
+form-determined (PendingTasks queue) at = tt
+form-determined (CreateTask creation) at = tt
+form-determined (ClaimWork work) at = tt
+form-determined (ReclaimTask name) at = tt
+form-determined (ReportRun report) at = tt
+form-determined (ScheduleTask id) at = tt
+form-determined (RerunTask id) at = tt
+form-determined (CancelTask id) at = tt
+form-determined (TriggerHook trigger) at = ComesTo-one trigger at
 
 -- two verdicts of one call in one state are one
 pub IsVerdict-one : (state : State) (asking : Asking) (a b : Judgement) → IsVerdict state asking a → IsVerdict state asking b → a ≡ b
 unfolding IsVerdict
-IsVerdict-one state asking a b p q = in_order-one (setting_of state asking) asking.caller (form_of asking.call) a b p q
+IsVerdict-one state asking a b p q =
+    in_order-one (setting_of state asking) asking.caller (form_of asking.call) a b (form-determined asking.call (setting_of state asking)) p q
 
 -- ---- each rule of a call ends it or does not
 
@@ -59,30 +84,39 @@ run-decided : (id : List ℕ) (run : ℕ) (each : Row → Case) (there : Bool) (
 run-decided id run each true row decided = decided
 run-decided id run each false row decided = tt
 
-form-decided : (call : Call) (at : Setting) → IsDecided (form_of call) at
-form-decided (NoRoute name) at = tt
-form-decided (BadParameter parameter) at = tt
-form-decided (BadBody fault) at = tt
-form-decided Ping at = tt
-form-decided (Task id) at = status-decided id (row_with id at.state.contents.rows) _ (λ row. tt)
-form-decided (Status id) at = status-decided id (row_with id at.state.contents.rows) _ (λ row. tt)
-form-decided (ListTaskGroup group page) at = tt
-form-decided (ListDependentTasks id page) at = tt
-form-decided (PendingTasks queue) at = tt
-form-decided (CreateTask creation) at =
+-- a createTask's rules are decided
+pub create-decided : (creation : Creation) (at : Setting) → AreDecided (create_task creation at).rules
+create-decided creation at =
     standing-decided creation.definition (row_with creation.id at.state.contents.rows) _
     (when-decided (nat_le creation.definition.deadline at.moment) too_late, joining-decided creation at.state.contents.rows)
-form-decided (ClaimWork work) at = tt
-form-decided (ReclaimTask name) at =
+
+-- and so are those of what comes of a hook
+after-decided : (fired : Fired) (at : Setting) → AreDecided (case_after fired at).rules
+after-decided (Ok creation) at = create-decided creation at
+after-decided (Err answer) at = (inl refl, tt)
+
+form-decided : (longest : ℕ) (call : Call) (at : Setting) (caller : Caller) → IsAccepted longest at.state.config.roles → FiringEnds at call → IsDecided (form_of call) at caller
+form-decided longest (NoRoute name) at caller accepted ends = tt
+form-decided longest (BadParameter parameter) at caller accepted ends = tt
+form-decided longest (BadBody fault) at caller accepted ends = tt
+form-decided longest Ping at caller accepted ends = tt
+form-decided longest (Task id) at caller accepted ends = status-decided id (row_with id at.state.contents.rows) _ (λ row. tt)
+form-decided longest (Status id) at caller accepted ends = status-decided id (row_with id at.state.contents.rows) _ (λ row. tt)
+form-decided longest (ListTaskGroup group page) at caller accepted ends = tt
+form-decided longest (ListDependentTasks id page) at caller accepted ends = tt
+form-decided longest (PendingTasks queue) at caller accepted ends = tt
+form-decided longest (CreateTask creation) at caller accepted ends = create-decided creation at
+form-decided longest (ClaimWork work) at caller accepted ends = tt
+form-decided longest (ReclaimTask name) at caller accepted ends =
     status-decided name.id (row_with name.id at.state.contents.rows) _
     (λ row. run-decided name.id name.run _ (nat_lt name.run (length row.runs)) row (when-decided (not (is_running_at name.run row)) (conflict 3 row), tt))
-form-decided (ReportRun report) at =
+form-decided longest (ReportRun report) at caller accepted ends =
     status-decided report.id (row_with report.id at.state.contents.rows) _
     (λ row. run-decided report.id report.run _ (nat_lt report.run (length row.runs)) row
     (when-decided (ended_for_at report.run (reason_of report.reason) row) (tells_status row), (when-decided (not (is_running_at report.run row)) (conflict 3 row), tt)))
-form-decided (ScheduleTask id) at =
+form-decided longest (ScheduleTask id) at caller accepted ends =
     status-decided id (row_with id at.state.contents.rows) _ (λ row. (when-decided (not (is_unscheduled row)) (tells_status row), tt))
-form-decided (RerunTask id) at =
+form-decided longest (RerunTask id) at caller accepted ends =
     status-decided id (row_with id at.state.contents.rows) _
     (λ row. (
       when-decided (not (is_unscheduled row) && not (is_resolved row)) (tells_status row),
@@ -91,12 +125,15 @@ form-decided (RerunTask id) at =
         (when-decided (nat_le row.definition.deadline at.moment) (conflict 5 row), (when-decided (nat_le 50 (length row.runs)) (conflict 6 row), tt)),
       ),
     ))
-form-decided (CancelTask id) at = status-decided id (row_with id at.state.contents.rows) _ (λ row. (when-decided (is_resolved row) (tells_status row), tt))
+form-decided longest (CancelTask id) at caller accepted ends = status-decided id (row_with id at.state.contents.rows) _ (λ row. (when-decided (is_resolved row) (tells_status row), tt))
+form-decided longest (TriggerHook trigger) at caller accepted ends = λ passes.
+    let some = ComesTo-some longest trigger at accepted ends passes.there in
+    (some.0, some.1, after-decided some.0 at)
 
--- each call has a verdict, over accepted roles and a book of clients
-pub IsVerdict-some : (longest : ℕ) (state : State) (asking : Asking) → IsAccepted longest state.config.roles → IsBook state.config.clients → (judgement : Judgement) × IsVerdict state asking judgement
+-- each call has a verdict, over accepted roles and a book of clients; a triggerHook where the firing of its hook comes to something
+pub IsVerdict-some : (longest : ℕ) (state : State) (asking : Asking) → IsAccepted longest state.config.roles → IsBook state.config.clients → FiringEnds (setting_of state asking) asking.call → (judgement : Judgement) × IsVerdict state asking judgement
 unfolding IsVerdict
-IsVerdict-some longest state asking accepted book =
+IsVerdict-some longest state asking accepted book ends =
     let at = setting_of state asking in
     let has = HasAccess-some longest state.config at.moment asking.caller accepted book in
-    in_order-some at asking.caller (form_of asking.call) (form-decided asking.call at) has.0 has.1
+    in_order-some at asking.caller (form_of asking.call) (form-decided longest asking.call at asking.caller accepted ends) has.0 has.1

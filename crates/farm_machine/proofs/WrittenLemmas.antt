@@ -22,7 +22,7 @@ said-kind state asking judgement change verdict is said Tick same = tt
 said-kind state asking judgement change verdict is said (Create creation) same =
     let makes : creation_of judgement.change ≡ Some creation = ap creation_of is ∙ ap creation_of_kind same in
     let creates = verdict-creates state asking judgement creation verdict makes in
-    subst IsSaidCall creates.called said
+    creates.said said
 said-kind state asking judgement change verdict is said (Schedule id) same = tt
 said-kind state asking judgement change verdict is said (Rerun id) same = tt
 said-kind state asking judgement change verdict is said (Cancel id) same = tt

@@ -12,3 +12,4 @@ pub mod RerunTask
 pub mod ScheduleTask
 pub mod Status
 pub mod Task
+pub mod TriggerHook

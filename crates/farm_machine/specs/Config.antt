@@ -3,9 +3,9 @@ use Rattle.std.specs.Prelude.{ℕ, ◌*◌, min, max, length}
 use Rattle.farm_machine.specs.declared.config.Config.{Config}
 use Rattle.farm_machine.specs.declared.config.ConfigCounts.{ConfigCounts}
 
--- a configuration has roles and clients, and no hooks
+-- how many roles, clients and hooks a configuration has
 abbrev pub counts_of : Config → ConfigCounts
-counts_of config = record { roles = length config.roles; clients = length config.clients; hooks = 0 }
+counts_of config = record { roles = length config.roles; clients = length config.clients; hooks = length config.hooks }
 
 -- how long a claim lasts, in milliseconds: a second at least and a day at most, whatever a configuration says
 abbrev pub claim_millis : Config → ℕ

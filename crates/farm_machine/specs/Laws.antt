@@ -1,5 +1,5 @@
 -- What holds in every history of a farm: who is denied, and that a task is made once.
-use Rattle.std.specs.Prelude.{◌≡◌, ◌≢◌, ℕ, ◌≤◌, Bool, false, IsTrue, List, ◌∷◌, ◌++◌, filter, length, Option, Some, None, bytes_eq}
+use Rattle.std.specs.Prelude.{◌≡◌, ◌≢◌, ℕ, ◌≤◌, Bool, false, IsTrue, List, ◌∷◌, ◌++◌, filter, length, Option, Some, None, Result, Err, bytes_eq}
 use Rattle.scope_sets.specs.Expressions.{Expression, holds, missing, HasNoEmptyAllOf}
 use Rattle.history.specs.Histories.{IsLegal, end_state}
 use Rattle.call_rules.specs.Policy.{create_policy}
@@ -7,12 +7,19 @@ use Rattle.farm_record.specs.declared.change.Change.{Change}
 use Rattle.farm_record.specs.declared.change.Creation.{Creation}
 use Rattle.farm_record.specs.declared.change.Kind.{Kind}
 use Rattle.farm_record.specs.declared.change.Kind.TheVariants.{Create}
-use Rattle.farm_text.specs.Document.{document_text}
+use Rattle.farm_text.specs.Document.{object, document_text}
+use Rattle.hook_fire.specs.Firing.{IsFired}
+use Rattle.hook_fire.specs.Hooks.{HookData}
+use Rattle.hook_fire.specs.declared.fault.FireFault.{FireFault}
+use Rattle.hook_fire.specs.declared.fault.FireFault.TheVariants.{NoMemory}
+use Rattle.task_defs.specs.declared.task_def.TaskDef.{TaskDef}
 use Rattle.run_states.specs.Rows.{Row}
 use Rattle.farm_rows.specs.Contents.{row_with}
-use Rattle.farm_machine.specs.declared.question.Call.TheVariants.{CreateTask}
+use Rattle.farm_machine.specs.declared.question.Call.{Call}
+use Rattle.farm_machine.specs.declared.question.Call.TheVariants.{CreateTask, TriggerHook}
 use Rattle.farm_machine.specs.declared.reply.Answer.{Answer}
 use Rattle.farm_machine.specs.Access.{Has, HasAccess}
+use Rattle.farm_machine.specs.Calls.TriggerHook.{hook_at}
 use Rattle.farm_machine.specs.Case.{Setting}
 use Rattle.farm_machine.specs.Entry.{Asking, Entry, call, finished}
 use Rattle.farm_machine.specs.Judgement.{Judgement, only_answer}
@@ -35,7 +42,14 @@ abbrev pub where_there : Option Answer → Option Answer → Expression → Opti
 where_there None None policy = Some policy
 where_there parameter absent policy = None
 
--- what a call asks of scopes, where it is of its form and what it names is there
+-- Where the hook that a call triggers is there, its firing comes to something: each template does, where memory is ample.
+abbrev pub FiringEnds : Setting → Call → Type 0
+FiringEnds at (TriggerHook trigger) =
+    (hook : HookData) → hook_at trigger.hook at ≡ Some hook
+    → (outcome : Result TaskDef FireFault) × IsFired hook.template (object trigger.payload) at.moment at.drawn outcome × (outcome ≢ Err NoMemory)
+FiringEnds at asked = Unit {0}
+
+-- what a call asks of scopes, where it is of its form and what it names is there; of a triggerHook another law speaks
 abbrev pub asked_policy : Form → Setting → Option Expression
 asked_policy (asks case) at = where_there (case at).parameter (case at).absent (case at).policy
 asked_policy form at = None

@@ -7,7 +7,9 @@ pub mod Config
 pub mod Deeds
 pub mod Entry
 pub mod Expressions
+pub mod Firings
 pub mod Grants
+pub mod HookLaws
 pub mod Judgement
 pub mod Law
 pub mod Laws

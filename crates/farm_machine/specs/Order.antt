@@ -15,12 +15,14 @@ use Rattle.farm_machine.specs.Judgement.{Judgement, only_answer}
 use Rattle.farm_machine.specs.Replies.{ok, insufficient_scopes, farm_full}
 use Rattle.farm_machine.specs.State.{State}
 
--- the form of what is called: it has no route, or a parameter or a body off its form, with that answer, or it asks something
+-- The form of what is called: it has no route, or a parameter or a body off its form, with that answer, or it asks something; or where nothing
+-- in its front refuses it, something comes of it, which has the rules and the deed.
 pub data Form : Type 1 where
   has_no_route : (answer : Answer) → Form
   has_bad_parameter : (answer : Answer) → Form
   has_bad_body : (answer : Answer) → Form
   asks : (case : Setting → Case) → Form
+  asks_then : (Found : Type 0) → (front : Setting → Case) → (Comes : Setting → Found → Type 0) → (rest : Found → Setting → Case) → Form
 
 -- the answer where no route has the method and the target
 abbrev pub route_of : Form → Option Answer
@@ -31,6 +33,7 @@ route_of form = None
 abbrev pub parameter_of : Form → Setting → Option Answer
 parameter_of (has_bad_parameter answer) at = Some answer
 parameter_of (asks case) at = (case at).parameter
+parameter_of (asks_then Found front Comes rest) at = (front at).parameter
 parameter_of form at = None
 
 -- the answer where the body is off its form
@@ -41,6 +44,7 @@ body_of form = None
 -- what a call that asks something has for the order
 abbrev pub case_of : Form → Setting → Case
 case_of (asks case) at = case at
+case_of (asks_then Found front Comes rest) at = front at
 case_of form at = passing
 
 -- a refusal that strikes gives its answer, and changes nothing
@@ -91,13 +95,30 @@ abbrev pub IsFirst : List (Judgement → Type 0) → Judgement → Type 0
 IsFirst [] judgement = ⊥
 IsFirst (P ∷ Ps) judgement = P judgement ⊎ (((other : Judgement) → ¬ P other) × IsFirst Ps judgement)
 
--- what may judge a call, in the one order: each gives a judgement where it strikes
-abbrev pub in_order : Setting → Caller → Form → List (Judgement → Type 0)
-in_order at caller form =
+-- the end of the order: the rules of a case, whether the farm is full, and what it does
+abbrev pub ending : Setting → Case → List (Judgement → Type 0)
+ending at case = map IsEnded case.rules ++ Strikes (full at.state case.deed.change) ∷ IsDone at case.deed ∷ []
+
+-- something comes of the call, and what has that gives the judgement
+abbrev pub GoesOn : (Found : Type 0) → (Setting → Found → Type 0) → (Found → Setting → Case) → Setting → Judgement → Type 0
+GoesOn Found Comes rest at judgement = (found : Found) × Comes at found × IsFirst (ending at (rest found at)) judgement
+
+-- what may judge a call behind its policy
+abbrev pub behind : Setting → Form → List (Judgement → Type 0)
+behind at (asks_then Found front Comes rest) = GoesOn Found Comes rest at ∷ []
+behind at form = ending at (case_of form at)
+
+-- what may refuse a call up to its policy, in the one order
+abbrev pub front : Setting → Caller → Form → List (Judgement → Type 0)
+front at caller form =
     Strikes (route_of form)
     ∷ Strikes (parameter_of form at)
     ∷ Strikes (body_of form)
     ∷ HasNoAccess at.state.config at.moment caller
     ∷ Strikes (case_of form at).absent
     ∷ LacksScopes at.state.config at.moment caller (case_of form at).policy
-    ∷ (map IsEnded (case_of form at).rules ++ Strikes (full at.state (case_of form at).deed.change) ∷ IsDone at (case_of form at).deed ∷ [])
+    ∷ []
+
+-- what may judge a call, in the one order: each gives a judgement where it strikes
+abbrev pub in_order : Setting → Caller → Form → List (Judgement → Type 0)
+in_order at caller form = front at caller form ++ behind at form

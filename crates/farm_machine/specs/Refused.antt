@@ -11,9 +11,9 @@ use Rattle.farm_machine.specs.declared.judged.Judged.{Judged}
 use Rattle.farm_machine.specs.declared.question.Caller.{Caller}
 use Rattle.farm_machine.specs.declared.reply.Answer.{Answer}
 use Rattle.farm_machine.specs.Access.{Has, HasAccess}
-use Rattle.farm_machine.specs.Case.{Setting, Case, changing, IsFirstRule}
+use Rattle.farm_machine.specs.Case.{Setting, Case, changing}
 use Rattle.farm_machine.specs.Judgement.{only_answer}
-use Rattle.farm_machine.specs.Order.{Form, asks, Strikes, full, IsDone, in_order, IsFirst}
+use Rattle.farm_machine.specs.Order.{Form, asks, Strikes, full, IsDone, front, ending, in_order, IsFirst}
 use Rattle.farm_machine.specs.Planned.{judgement_of}
 use Rattle.farm_machine.specs.Replies.{ok}
 use Rattle.farm_machine.specs.State.{working}
@@ -23,24 +23,28 @@ use Rattle.farm_machine.specs.Works.{told_of}
 abbrev pub setting_at : Config → Contents → ℕ → List ℕ → Setting
 setting_at config contents moment drawn = record { state = working config contents; moment = moment; drawn = drawn }
 
--- nothing refuses the call: its parameters name what they may, its caller has access, what it is of is there, its policy holds, and none
--- of its rules ends it
+-- nothing refuses the call up to its policy: its parameters name what they may, its caller has access, what it is of is there, and its
+-- policy holds
 pub record Passes (at : Setting) (caller : Caller) (case : Case) : Type 0 where
   pub named : case.parameter ≡ None
   pub scopes : List (List ℕ)
   pub has : HasAccess at.state.config at.moment caller (Has scopes)
   pub there : case.absent ≡ None
   pub held : missing scopes case.policy ≡ None
-  pub unruled : IsFirstRule case.rules None
 
--- this answer refuses the call, or nothing does
+-- this answer refuses the call up to its policy, or nothing does
 abbrev pub IsRefusal : Setting → Caller → (Setting → Case) → Option Answer → Type 0
 IsRefusal at caller case None = Passes at caller (case at)
-IsRefusal at caller case (Some answer) = IsFirst (in_order at caller (asks case)) (only_answer answer)
+IsRefusal at caller case (Some answer) = IsFirst (front at caller (asks case)) (only_answer answer)
 
 -- the call is judged so, with a plan of its change over these tables
 pub record IsJudged (at : Setting) (caller : Caller) (form : Form) (judged : Judged) : Type 0 where
   pub first : IsFirst (in_order at caller form) (judgement_of judged)
+  pub kept : IfSome judged.change (tasks.IsPlanOn at.state.contents)
+
+-- what nothing refuses up to its policy is judged so, with a plan of its change over these tables
+pub record IsFinished (at : Setting) (case : Case) (judged : Judged) : Type 0 where
+  pub first : IsFirst (ending at case) (judgement_of judged)
   pub kept : IfSome judged.change (tasks.IsPlanOn at.state.contents)
 
 -- this change is planned over these tables, and what it leaves of the tasks that it names is answered

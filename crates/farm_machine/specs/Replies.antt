@@ -9,7 +9,7 @@ use Rattle.task_statuses.specs.Statuses.{status_of}
 use Rattle.task_defs.specs.Forms.{queue_name}
 use Rattle.task_defs.specs.declared.names.TaskQueue.{TaskQueue}
 use Rattle.farm_machine.specs.declared.question.BodyFault.{BodyFault}
-use Rattle.farm_machine.specs.declared.question.BodyFault.TheVariants.{NotJson, NotWhole, NoDefinition, NoWork, NoReason}
+use Rattle.farm_machine.specs.declared.question.BodyFault.TheVariants.{NotJson, NotWhole, NoDefinition, NoWork, NoReason, NoPayload}
 use Rattle.farm_machine.specs.declared.reply.Answer.{Answer}
 use Rattle.farm_machine.specs.declared.reply.Reply.{Reply}
 use Rattle.farm_machine.specs.declared.reply.Reply.TheVariants.{Answered, OutOfMemory, DiskFault, Halted}
@@ -48,13 +48,23 @@ input_error details =
 abbrev pub bad_parameter : List ℕ → Answer
 bad_parameter name = input_error ((codes "name", text name) ∷ (codes "rule", whole (pos 22)) ∷ [])
 
--- a body is no JSON, or has a number that is not whole, or is no definition, no request for work, or no reason
+-- a body is no JSON, or has a number that is not whole, or is no definition, no request for work, no reason, or no payload of a hook
 abbrev pub bad_body : BodyFault → Answer
 bad_body NotJson = input_error ((codes "rule", whole (pos 20)) ∷ [])
 bad_body (NotWhole path) = input_error ((codes "path", text path) ∷ (codes "rule", whole (pos 21)) ∷ [])
 bad_body (NoDefinition fault) = input_error ((codes "key", text fault.key) ∷ (codes "rule", whole (pos fault.rule)) ∷ [])
 bad_body NoWork = input_error ((codes "rule", whole (pos 23)) ∷ [])
 bad_body NoReason = input_error ((codes "rule", whole (pos 24)) ∷ [])
+bad_body NoPayload = input_error ((codes "rule", whole (pos 25)) ∷ [])
+
+-- the template of a hook has this fault of the table of faults, at this place
+abbrev pub template_fault : ℕ → List ℕ → Answer
+template_fault fault path =
+    input_error ((codes "fault", whole (pos fault)) ∷ (codes "path", text path) ∷ (codes "rule", whole (pos 18)) ∷ [])
+
+-- the template of a hook costs too much
+abbrev pub too_costly : Answer
+too_costly = input_error ((codes "rule", whole (pos 19)) ∷ [])
 
 -- a task is to end before it begins
 abbrev pub too_late : Answer
@@ -122,7 +132,7 @@ abbrev pub overstepping : Expression → Answer
 overstepping missing =
     authentication_failed ((codes "missing", document_of missing) ∷ (codes "reason", text (codes "Oversteps")) ∷ [])
 
--- too many scopes are derivable for the caller
+-- too many scopes are derivable, for the caller or for the hook
 abbrev pub expansion_limit : Answer
 expansion_limit =
     record {
@@ -136,6 +146,14 @@ insufficient_scopes missing =
     record {
       status = 403;
       body = error_text (codes "InsufficientScopes") (members_of ((codes "missing", document_of missing) ∷ [])) (codes "scopes are missing");
+    }
+
+-- the scopes of the hook do not hold what its task asks for, and this is missing
+abbrev pub hook_insufficient_scopes : Expression → Answer
+hook_insufficient_scopes missing =
+    record {
+      status = 403;
+      body = error_text (codes "HookInsufficientScopes") (members_of ((codes "missing", document_of missing) ∷ [])) (codes "the hook's scopes are missing");
     }
 
 -- memory ran out

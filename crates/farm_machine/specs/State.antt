@@ -19,4 +19,4 @@ empty_state config = working config no_contents
 
 -- A configuration that stands only where a type wants a value. No farm has it.
 abbrev pub no_config : Config
-no_config = record { host = []; port = 0; claim_timeout = 0; max_tasks = 0; roles = []; clients = [] }
+no_config = record { host = []; port = 0; claim_timeout = 0; max_tasks = 0; roles = []; clients = []; hooks = [] }

@@ -1,7 +1,7 @@
 //! The answers of calls: statuses of HTTP (RFC 9110), and bodies as JSON (RFC 8259).
 
 ghost use Rattle.std.specs.Prelude.{◌≡◌, ◌≢◌, ◌<◌, ◌^◌, codes, Err, IfOk};
-ghost use Rattle.farm_machine.specs.Replies.{ok, not_found, bad_parameter, bad_body, too_late, bad_dependency, pending_body, conflict, other_scheduler, farm_full, status_body, not_authentic, skewed, overstepping, expansion_limit, insufficient_scopes, error_text};
+ghost use Rattle.farm_machine.specs.Replies.{ok, not_found, bad_parameter, bad_body, too_late, bad_dependency, pending_body, conflict, other_scheduler, farm_full, status_body, not_authentic, skewed, overstepping, expansion_limit, insufficient_scopes, hook_insufficient_scopes, template_fault, too_costly, error_text};
 ghost use Rattle.hawk_auth.specs.Access.{UnlessNoMemory};
 ghost use Rattle.farm_machine.specs.Access.{Refused, access_by};
 ghost use Rattle.farm_machine.specs.Told.{HasSeconds};
@@ -9,13 +9,14 @@ ghost use Rattle.farm_text.specs.Doc.{document};
 ghost use Rattle.farm_text.specs.Document.{document_text};
 ghost use Rattle.farm_text.specs.Entries.{held};
 ghost use Rattle.farm_text.specs.Slug.{slug_text};
+ghost use Rattle.call_rules.specs.HookNames.{hook_name as name_of_hook};
 ghost use Rattle.call_rules.specs.Policy.{run_name};
 ghost use Rattle.scope_sets.specs.Expressions.{view};
 
 use crate::expressions::expression_doc;
 use crate::question::BodyFault;
 use crate::reply::Answer;
-use call_rules::run_name;
+use call_rules::{HookName, hook_name, run_name};
 use farm_record::RunName;
 use farm_text::{Doc, Entries, SlugId, Text};
 use hawk_auth::AuthFault;
@@ -73,6 +74,14 @@ pub(crate) fn no_group(alloc: Global, group: SlugId) -> Result<Answer, AllocErro
     not_found(alloc, "group", name.as_str())
 }
 
+/// No hook has this name.
+pub(crate) fn no_hook(alloc: Global, hook: &HookName) -> Result<Answer, AllocError>
+    ensures { IfOk result (λ a. a ≡ not_found (codes "hook") (name_of_hook hook.now.group hook.now.id)) }
+{
+    let name = hook_name(alloc, hook)?;
+    not_found(alloc, "hook", name.as_str())
+}
+
 /// The request breaks a rule, which these details tell.
 fn input_error(alloc: Global, details: Entries) -> Result<Answer, AllocError>
     ensures { IfOk result (λ a. a ≡ record {
@@ -107,11 +116,33 @@ pub(crate) fn bad_body(alloc: Global, fault: &BodyFault) -> Result<Answer, Alloc
             .with(alloc, "rule", Doc::Int(21))?,
         BodyFault::NoWork => Entries::new(alloc).with(alloc, "rule", Doc::Int(23))?,
         BodyFault::NoReason => Entries::new(alloc).with(alloc, "rule", Doc::Int(24))?,
+        BodyFault::NoPayload => Entries::new(alloc).with(alloc, "rule", Doc::Int(25))?,
         BodyFault::NoDefinition(fault) => Entries::new(alloc)
             .with(alloc, "key", Doc::text(alloc, fault.key.as_str())?)?
             .with(alloc, "rule", Doc::Int(i64::from(fault.rule)))?,
     };
     input_error(alloc, details)
+}
+
+/// The template of a hook has the fault of this number, at this place.
+pub(crate) fn template_fault(alloc: Global, fault: u8, path: &str) -> Result<Answer, AllocError>
+    ensures { IfOk result (λ a. a ≡ template_fault fault path.now) }
+{
+    let details = Entries::new(alloc)
+        .with(alloc, "fault", Doc::Int(i64::from(fault)))?
+        .with(alloc, "path", Doc::text(alloc, path)?)?
+        .with(alloc, "rule", Doc::Int(18))?;
+    input_error(alloc, details)
+}
+
+/// The template of a hook costs too much.
+pub(crate) fn too_costly(alloc: Global) -> Result<Answer, AllocError>
+    ensures { IfOk result (λ a. a ≡ too_costly) }
+{
+    input_error(
+        alloc,
+        Entries::new(alloc).with(alloc, "rule", Doc::Int(19))?,
+    )
 }
 
 /// The task's deadline is not still to come.
@@ -276,7 +307,7 @@ fn authentication_failed(alloc: Global, details: Entries) -> Result<Answer, Allo
     })
 }
 
-/// More scopes are derivable for the caller than a closure may have.
+/// More scopes are derivable, for the caller or for the hook, than a closure may have.
 pub(crate) fn expansion_limit(alloc: Global) -> Result<Answer, AllocError>
     ensures { IfOk result (λ a. a ≡ expansion_limit) }
 {
@@ -300,6 +331,22 @@ pub(crate) fn insufficient_scopes(alloc: Global, missing: &Expr) -> Result<Answe
     Ok(Answer {
         status: StatusCode::FORBIDDEN,
         body: error_text(alloc, "InsufficientScopes", details, "scopes are missing")?,
+    })
+}
+
+/// The scopes of the hook do not hold what its task asks for, and this is missing.
+pub(crate) fn hook_insufficient_scopes(alloc: Global, missing: &Expr) -> Result<Answer, AllocError>
+    ensures { IfOk result (λ a. a ≡ hook_insufficient_scopes (view missing.now)) }
+{
+    let details = Entries::new(alloc).with(alloc, "missing", expression_doc(alloc, missing)?)?;
+    Ok(Answer {
+        status: StatusCode::FORBIDDEN,
+        body: error_text(
+            alloc,
+            "HookInsufficientScopes",
+            details,
+            "the hook's scopes are missing",
+        )?,
     })
 }
 

@@ -12,3 +12,4 @@ pub(crate) mod rerun_task;
 pub(crate) mod schedule_task;
 pub(crate) mod status;
 pub(crate) mod task;
+pub(crate) mod trigger_hook;

@@ -30,12 +30,13 @@ pub(crate) struct Scene<'a> {
 impl<'a> Model for Scene<'a> {
     ghost use Rattle.std.specs.Coded.{codes};
     ghost use Rattle.task_defs.specs.Codes.{members_code};
+    ghost use Rattle.hook_fire.specs.Codes.{document_code};
     ghost use Rattle.farm_machine.specs.Case.{Setting};
     ghost use Rattle.farm_machine.specs.State.{working};
 
     ghost Value = { Setting };
 
-    ghost coded = { Prim.hlevel (codes, members_code) };
+    ghost coded = { Prim.hlevel (codes, members_code, document_code) };
 
     ghost view = { λ s. record { state = working s.config.now s.tables.now; moment = s.moment; drawn = s.drawn } };
 }

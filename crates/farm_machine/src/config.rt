@@ -5,6 +5,7 @@ ghost use Rattle.farm_machine.specs.Config.{counts_of};
 use crate::grants::Grants;
 use farm_text::Text;
 use hawk_auth::ClientBook;
+use hook_fire::HookBook;
 
 /// How a farm is set up.
 #[derive(Debug, Drop)]
@@ -21,6 +22,8 @@ pub struct Config {
     pub roles: Grants,
     /// The clients, who sign their calls.
     pub clients: ClientBook,
+    /// The hooks, which make tasks where they are triggered.
+    pub hooks: HookBook,
 }
 
 /// How many rows of each kind a configuration has.
@@ -28,7 +31,6 @@ pub struct Config {
 pub struct ConfigCounts {
     pub roles: u64,
     pub clients: u64,
-    /// 0, until farm files have hooks.
     pub hooks: u64,
 }
 
@@ -40,7 +42,7 @@ impl Config {
         ConfigCounts {
             roles: self.roles.len() as u64,
             clients: self.clients.len() as u64,
-            hooks: 0,
+            hooks: self.hooks.len() as u64,
         }
     }
 }

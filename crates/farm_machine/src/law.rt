@@ -6,12 +6,13 @@ ghost use Rattle.role_expand.specs.Cycles.{IsAccepted};
 ghost use Rattle.farm_machine.specs.Entry.{Asking};
 ghost use Rattle.farm_machine.specs.State.{State};
 ghost use Rattle.farm_machine.specs.Judgement.{Judgement};
-ghost use Rattle.farm_machine.specs.Laws.{AccessIsExact, IsCreatedOnce, AnswersAgain};
+ghost use Rattle.farm_machine.specs.HookLaws.{CallersAreExact, HooksAreExact};
+ghost use Rattle.farm_machine.specs.Laws.{FiringEnds, AccessIsExact, IsCreatedOnce, AnswersAgain};
 ghost use Rattle.farm_machine.specs.ReadyLaws.{LeavesNoneReady, IsScheduledOnce, StartsWhereReady, IsServedForGood};
 ghost use Rattle.farm_machine.specs.Replay.{RecordsRestore, KeptMayFollow, FrontsReplay};
 ghost use Rattle.farm_machine.specs.RunLaws.{IsClaimedOnce, EndsOnce, ReportsInTime};
 ghost use Rattle.farm_machine.specs.Step.{farm_rules};
-ghost use Rattle.farm_machine.specs.Verdict.{IsVerdict};
+ghost use Rattle.farm_machine.specs.Verdict.{setting_of, IsVerdict};
 ghost use Rattle.history.specs.Asks.{HasOneEntry};
 
 use crate::question::Question;
@@ -28,11 +29,12 @@ pub struct States {}
 impl Model for States {
     ghost use Rattle.std.specs.Coded.{codes};
     ghost use Rattle.task_defs.specs.Codes.{members_code};
+    ghost use Rattle.hook_fire.specs.Codes.{document_code};
     ghost use Rattle.farm_machine.specs.State.{State, empty_state, no_config};
 
     ghost Value = { State };
 
-    ghost coded = { Prim.hlevel (codes, members_code) };
+    ghost coded = { Prim.hlevel (codes, members_code, document_code) };
 
     ghost view = { λ _. empty_state no_config };
 }
@@ -43,11 +45,12 @@ pub struct Entries {}
 impl Model for Entries {
     ghost use Rattle.std.specs.Coded.{codes};
     ghost use Rattle.task_defs.specs.Codes.{members_code};
+    ghost use Rattle.hook_fire.specs.Codes.{document_code};
     ghost use Rattle.farm_machine.specs.Entry.{Entry, tick};
 
     ghost Value = { Entry };
 
-    ghost coded = { Prim.hlevel (codes, members_code) };
+    ghost coded = { Prim.hlevel (codes, members_code, document_code) };
 
     ghost view = { λ _. tick 0 };
 }
@@ -58,13 +61,14 @@ pub struct Openings {}
 impl Model for Openings {
     ghost use Rattle.std.specs.Coded.{codes};
     ghost use Rattle.task_defs.specs.Codes.{members_code};
+    ghost use Rattle.hook_fire.specs.Codes.{document_code};
     ghost use Rattle.std.specs.Prelude.{[]};
     ghost use Rattle.farm_machine.specs.Law.{Opening};
     ghost use Rattle.farm_machine.specs.State.{empty_state, no_config};
 
     ghost Value = { Opening };
 
-    ghost coded = { Prim.hlevel (codes, members_code) };
+    ghost coded = { Prim.hlevel (codes, members_code, document_code) };
 
     ghost view = { λ _. record { state = empty_state no_config; records = []; faults = 0 } };
 }
@@ -101,16 +105,25 @@ pub fn a_question_and_a_reply_have_one_entry()
     ensures { HasOneEntry farm_rules }
 {}
 
-/// Each call has a verdict, over each accepted set of roles and each book of clients.
+/// Each call has a verdict, over each accepted set of roles and each book of clients; a triggerHook where the firing of its hook comes to
+/// something.
 pub fn each_call_has_a_verdict()
     ensures { (longest : ℕ) (state : State) (asking : Asking) → IsAccepted longest state.config.roles → IsBook state.config.clients
-        → (judgement : Judgement) × IsVerdict state asking judgement }
+        → FiringEnds (setting_of state asking) asking.call → (judgement : Judgement) × IsVerdict state asking judgement }
 {}
 
 /// A call that is of its form and names what is there is denied exactly where its caller's scopes do not hold what it asks; then its
 /// answer tells what is missing, which is something.
 pub fn a_denial_is_of_scopes_that_are_missing()
     ensures { AccessIsExact }
+{}
+
+/// Whoever triggers a hook that is there is denied exactly where its scopes do not hold what that asks; and where they hold it, the hook is
+/// exactly where all that its own scopes give does not hold what a createTask of its definition asks. Then the answer tells what is
+/// missing, which is something.
+pub fn a_hook_has_its_own_scopes()
+    ensures callers { CallersAreExact }
+    ensures hooks { HooksAreExact }
 {}
 
 /// At most one task is ever created under an id.

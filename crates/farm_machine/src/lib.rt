@@ -11,6 +11,7 @@ mod calls;
 mod case;
 pub mod config;
 mod expressions;
+mod firing;
 pub mod grants;
 mod judged;
 pub mod law;

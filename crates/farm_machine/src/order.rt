@@ -7,7 +7,7 @@ ghost use Rattle.farm_machine.specs.Access.{Has, HasAccess};
 ghost use Rattle.farm_machine.specs.Case.{changing};
 ghost use Rattle.farm_machine.specs.Deeds.{IsReady};
 ghost use Rattle.farm_machine.specs.Order.{asks, full, makes_task};
-ghost use Rattle.farm_machine.specs.Refused.{setting_at, IsRefusal, IsJudged, IsPlannedSo, IsMade};
+ghost use Rattle.farm_machine.specs.Refused.{setting_at, IsRefusal, IsJudged, IsFinished, IsPlannedSo, IsMade};
 ghost use Rattle.farm_machine.specs.Replies.{ok, farm_full};
 ghost use Rattle.farm_machine.specs.Tellings.{told_by};
 ghost use Rattle.farm_machine.specs.Works.{at_moment};
@@ -56,6 +56,34 @@ pub(crate) fn judge<C: Called + Drop>(
     if let Some(answer) = refusal(alloc, caller, &call, &at)? {
         return Ok(Judged::only(answer));
     }
+    finish(alloc, call, config, tables, moment, drawn)
+}
+
+/// Judges a call that nothing refuses up to its policy: by its own rules, and by what it does. The tables stay as they were.
+pub(crate) fn finish<C: Called + Drop>(
+    alloc: Global,
+    call: C,
+    config: &Config,
+    tables: &mut Tables,
+    moment: Moment,
+    drawn: SlugId,
+) -> Result<Judged, AllocError>
+    requires ready { IsReady (setting_at config.now tables.old moment drawn) }
+    requires named { (C.case call (setting_at config.now tables.old moment drawn)).parameter ≡ None }
+    requires there { (C.case call (setting_at config.now tables.old moment drawn)).absent ≡ None }
+    ensures finished { IfOk result (IsFinished (setting_at config.now tables.old moment drawn) (C.case call (setting_at config.now tables.old moment drawn))) }
+    ensures written { IfOk result (λ judged. AreWritten judged.change (option_map (λ r. r.items) judged.written)) }
+    ensures same { tables.new ≡ tables.old }
+{
+    let at = Scene {
+        config,
+        tables: &*tables,
+        moment,
+        drawn,
+    };
+    if let Some(answer) = call.rule(alloc, &at)? {
+        return Ok(Judged::only(answer));
+    }
     match call.deed(alloc, &at)? {
         Done::Reads(body) => Ok(Judged::only(answers::ok(alloc, &body)?)),
         Done::Changes(kind) => {
@@ -65,9 +93,9 @@ pub(crate) fn judge<C: Called + Drop>(
     }
 }
 
-/// The answer that refuses a call, if one does: for a parameter, for its caller, for what it is of, for scopes that are missing, by its own
-/// rules.
-fn refusal<C: Called>(
+/// The answer that refuses a call up to its policy, if one does: for a parameter, for its caller, for what it is of, for scopes that are
+/// missing.
+pub(crate) fn refusal<C: Called>(
     alloc: Global,
     caller: &Caller,
     call: &C,
@@ -116,8 +144,7 @@ fn refusal_within<C: Called>(
     if let Some(lack) = missing(alloc, scopes, &call.policy(alloc, at)?)? {
         return Ok(Some(answers::insufficient_scopes(alloc, &lack)?));
     }
-    let rule = call.rule(alloc, at)?;
-    Ok(rule)
+    Ok(None)
 }
 
 /// Plans a change, where the farm is not full for it.

@@ -2,11 +2,12 @@ ghost use Rattle.std.specs.Prelude.{◌≡◌, ◌≤◌};
 ghost use Rattle.farm_text.specs.declared.moment.TheConstants.{LAST_TOLD_MOMENT};
 ghost use Rattle.farm_machine.specs.Written.{IsSaidCall};
 
+use call_rules::HookName;
 use farm_record::{Creation, Resolution, RunName};
 use farm_text::{Moment, SlugId, Text};
 use http_wire::Bytes;
 use std::marker::Model;
-use task_defs::{DefFault, Identifier, TaskQueue};
+use task_defs::{DefFault, Identifier, Object, TaskQueue};
 
 /// A parameter of a target, by its name in the route or the query.
 #[derive(Clone, Copy, Debug, PartialEq, Eq)]
@@ -15,6 +16,8 @@ pub enum Parameter {
     RunId,
     TaskGroupId,
     Queue,
+    HookGroupId,
+    HookId,
     /// How many tasks a page has at most.
     Limit,
     /// The token of a page.
@@ -33,6 +36,8 @@ impl Parameter {
             Parameter::RunId => "runId",
             Parameter::TaskGroupId => "taskGroupId",
             Parameter::Queue => "queue",
+            Parameter::HookGroupId => "hookGroupId",
+            Parameter::HookId => "hookId",
             Parameter::Limit => "limit",
             Parameter::ContinuationToken => "continuationToken",
         }
@@ -76,6 +81,8 @@ pub enum BodyFault {
     NoWork,
     /// It is no reason for which a worker ends a run as an exception.
     NoReason,
+    /// It is no object, as what a hook is triggered with is.
+    NoPayload,
 }
 
 /// What a worker asks for: runs of a queue.
@@ -86,6 +93,14 @@ pub struct WorkRequest {
     pub worker_id: Identifier,
     /// How many runs it takes at most: 1 to 32.
     pub tasks: u8,
+}
+
+/// Which hook is triggered, and with what.
+#[derive(Debug, Drop)]
+pub struct Trigger {
+    pub hook: HookName,
+    /// What its template sees as `payload`.
+    pub payload: Object,
 }
 
 /// Which tasks of a list are asked for: those behind one that a token names, or from the first on, so many at most.
@@ -130,6 +145,8 @@ pub enum Call {
     RerunTask(SlugId),
     /// A task is resolved, where it was not.
     CancelTask(SlugId),
+    /// A hook is fired, and the task that it makes is created under the id that was drawn.
+    TriggerHook(Trigger),
 }
 
 /// One question to the farm: the moment that the clock told, the id that was drawn, who calls, and what.
@@ -146,6 +163,7 @@ pub struct Question {
 impl Model for Question {
     ghost use Rattle.std.specs.Coded.{codes};
     ghost use Rattle.task_defs.specs.Codes.{members_code};
+    ghost use Rattle.hook_fire.specs.Codes.{document_code};
     ghost use Rattle.std.specs.Prelude.{◌≤◌};
     ghost use Rattle.farm_text.specs.declared.moment.TheConstants.{LAST_TOLD_MOMENT};
     ghost use Rattle.farm_machine.specs.Entry.{Asking};
@@ -153,7 +171,7 @@ impl Model for Question {
 
     ghost Value = { Asking };
 
-    ghost coded = { Prim.hlevel (codes, members_code) };
+    ghost coded = { Prim.hlevel (codes, members_code, document_code) };
 
     ghost view = { λ q. record { moment = q.moment; drawn = q.drawn; caller = q.caller; call = q.call } };
 

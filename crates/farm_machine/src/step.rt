@@ -3,6 +3,7 @@
 ghost use Rattle.std.specs.Prelude.{◌≡◌, ◌≤◌, false, None, IfOk, option_map};
 ghost use Rattle.farm_text.specs.declared.moment.TheConstants.{LAST_TOLD_MOMENT};
 ghost use Rattle.farm_rows.specs.Due.{is_due};
+ghost use Rattle.farm_machine.specs.declared.question.Call.{Call as AnyCall};
 ghost use Rattle.farm_machine.specs.Changes.{moment_of as moment_by, changed};
 ghost use Rattle.farm_machine.specs.Deeds.{IsReady};
 ghost use Rattle.farm_machine.specs.Order.{asks};
@@ -26,12 +27,13 @@ use crate::calls::rerun_task::RerunTask;
 use crate::calls::schedule_task::ScheduleTask;
 use crate::calls::status::Status;
 use crate::calls::task::Task;
+use crate::calls::trigger_hook::judge_trigger;
 use crate::case::Called;
 use crate::config::Config;
 use crate::judged::Judged;
 use crate::order::judge;
 use crate::plan::Plan;
-use crate::question::{BodyFault, Call, Caller, Question};
+use crate::question::{BodyFault, Call, Caller, Question, Trigger};
 use crate::reply::Reply;
 use crate::tables::Tables;
 use farm_text::{Moment, SlugId};
@@ -117,6 +119,7 @@ impl<'a> Hearing<'a> {
             Call::ScheduleTask(id) => self.judge(alloc, ScheduleTask { id }, tables),
             Call::RerunTask(id) => self.judge(alloc, RerunTask { id }, tables),
             Call::CancelTask(id) => self.judge(alloc, CancelTask { id }, tables),
+            Call::TriggerHook(trigger) => self.judge_trigger(alloc, trigger, tables),
         }
     }
 
@@ -136,6 +139,29 @@ impl<'a> Hearing<'a> {
             alloc,
             self.caller,
             call,
+            self.config,
+            tables,
+            self.moment,
+            self.drawn,
+        )
+    }
+
+    /// Judges a triggerHook. The tables stay as they were.
+    fn judge_trigger(
+        &self,
+        alloc: Global,
+        trigger: Trigger,
+        tables: &mut Tables,
+    ) -> Result<Judged, AllocError>
+        requires { IsReady (setting_at self.now.config.now tables.old self.now.moment self.now.drawn) }
+        ensures judged { IfOk result (IsJudged (setting_at self.now.config.now tables.old self.now.moment self.now.drawn) self.now.caller.now (form_of (AnyCall.TriggerHook trigger))) }
+        ensures written { IfOk result (λ judged. AreWritten judged.change (option_map (λ r. r.items) judged.written)) }
+        ensures same { tables.new ≡ tables.old }
+    {
+        judge_trigger(
+            alloc,
+            self.caller,
+            trigger,
             self.config,
             tables,
             self.moment,

@@ -125,7 +125,7 @@ made-after contents at number (Resolve r) may =
     omega arith
 
 -- each task keeps its id
-ids-after : (at number : ℕ) (deed : Deed) (rows : List Row) → map (λ row. row.id) (rows_after at number deed rows) ≡ map (λ row. row.id) rows
+pub ids-after : (at number : ℕ) (deed : Deed) (rows : List Row) → map (λ row. row.id) (rows_after at number deed rows) ≡ map (λ row. row.id) rows
 ids-after at number (Create row) rows = refl
 ids-after at number (Schedule id) rows = change-ids (has_id id) (scheduled number at) (scheduled-later number at) rows
 ids-after at number (Rerun id) rows = change-ids (has_id id) (run_again number at) (again-later number at) rows

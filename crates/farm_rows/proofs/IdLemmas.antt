@@ -83,7 +83,7 @@ created-refused contents at creation row stands = by (may_apply contents (creati
 
 -- ---- each task keeps an id of its own
 
-other-ids : (id : List ℕ) (rows : List Row) → row_with id rows ≡ None → list_any (bytes_eq id) (map (λ row. row.id) rows) ≡ false
+pub other-ids : (id : List ℕ) (rows : List Row) → row_with id rows ≡ None → list_any (bytes_eq id) (map (λ row. row.id) rows) ≡ false
 other-ids id [] none = refl
 other-ids id (row ∷ rows) none = by (other-ids id rows) (bytes_eq row.id id) refl where
   by : (row_with id rows ≡ None → list_any (bytes_eq id) (map (λ row. row.id) rows) ≡ false) → (b : Bool) → bytes_eq row.id id ≡ b → list_any (bytes_eq id) (map (λ row. row.id) (row ∷ rows)) ≡ false

@@ -8,6 +8,9 @@ pub mod SweepLemmas
 pub mod ClaimLemmas
 pub mod FitLemmas
 pub mod PlaceLemmas
+pub mod PlacedLemmas
+pub mod GroupLemmas
+pub mod KeptLemmas
 pub mod TableLemmas
 pub mod IdLemmas
 pub mod ChangeLemmas

@@ -71,7 +71,7 @@ any-found test (y ∷ ys) x is = by (any-found test ys x) (test y) refl where
   by rest true here = rw here refl
   by rest false here = rw here (rest (rw here at is))
 
-any-lost : {A : Type 0} (test : A → Bool) (xs : List A) → find test xs ≡ None → list_any test xs ≡ false
+pub any-lost : {A : Type 0} (test : A → Bool) (xs : List A) → find test xs ≡ None → list_any test xs ≡ false
 any-lost test [] is = refl
 any-lost test (y ∷ ys) is = by (any-lost test ys) (test y) refl where
   by : (find test ys ≡ None → list_any test ys ≡ false) → (b : Bool) → test y ≡ b → list_any test (y ∷ ys) ≡ false

@@ -1,12 +1,12 @@
 -- A change is planned.
-use Rattle.std.proofs.Common.{◌≡◌, ℕ, ◌+◌, ◌≤◌, max, Bool, true, false, cond, List, [], ◌∷◌, ◌++◌, length, Option, Some, None, refl, ap, sym, ◌∙◌, subst}
+use Rattle.std.proofs.Common.{◌≡◌, ℕ, ◌+◌, ◌≤◌, max, Bool, true, false, cond, List, [], ◌∷◌, ◌++◌, length, Option, None, refl, ap, sym, ◌∙◌, subst}
 use Rattle.std.specs.Option.{option_to_list}
 use Rattle.run_states.specs.Rows.{Row, new_row, scheduled}
 use Rattle.farm_record.specs.declared.change.Creation.{Creation}
 use Rattle.farm_rows.specs.declared.plan.Deed.{Deed}
 use Rattle.farm_rows.specs.declared.plan.Deed.TheVariants.{Create, Schedule, Rerun, Cancel, Claim as TakesRuns, Reclaim, Resolve}
-use Rattle.farm_rows.specs.Contents.{Contents, row_with, HaveOwnIds}
-use Rattle.farm_rows.specs.Changes.{creating, may_apply, applied}
+use Rattle.farm_rows.specs.Contents.{Contents, HaveOwnIds}
+use Rattle.farm_rows.specs.Changes.{creating, may_apply}
 use Rattle.farm_rows.specs.Ready.{is_ready, has_ready, settled_row}
 use Rattle.farm_rows.specs.Deeds.{kind_of, change_of, row_of, shown_of, rows_after, planned_of}
 use Rattle.farm_rows.specs.Plans.{Planned, room_for, names_of, rows_with, named_rows, FindsRoom, IsPlanOn}

@@ -93,7 +93,7 @@ alike-later [] after alike = tt
 alike-later (row ∷ rows) [] alike = absurd alike
 alike-later (row ∷ rows) (other ∷ after) alike = (alike.0.later, alike-later rows after alike.1)
 
-alike-ids : (rows after : List Row) → AreAlike rows after → map (λ row. row.id) after ≡ map (λ row. row.id) rows
+pub alike-ids : (rows after : List Row) → AreAlike rows after → map (λ row. row.id) after ≡ map (λ row. row.id) rows
 alike-ids [] [] alike = refl
 alike-ids [] (other ∷ after) alike = absurd alike
 alike-ids (row ∷ rows) [] alike = absurd alike

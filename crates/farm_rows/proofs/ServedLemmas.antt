@@ -1,5 +1,5 @@
 -- What a task serves those that wait for it, nothing takes back.
-use Rattle.std.proofs.Common.{◌≡◌, ℕ, zero, suc, Bool, true, false, List, [], ◌∷◌, length, bytes_eq, Option, Some, None, refl, ap, sym, ◌∙◌}
+use Rattle.std.proofs.Common.{◌≡◌, ℕ, zero, suc, Bool, true, false, List, [], ◌∷◌, length, bytes_eq, Option, Some, None, refl, ap, ◌∙◌}
 use Rattle.std.specs.List.{list_any}
 use Rattle.task_defs.specs.declared.choices.Requires.{Requires}
 use Rattle.task_defs.specs.declared.choices.Requires.TheVariants.{AllCompleted}

@@ -1,12 +1,12 @@
 -- Tasks that settle one after the other.
-use Rattle.std.proofs.Common.{◌≡◌, ℕ, zero, suc, ◌+◌, ◌≤◌, Bool, true, false, cond, List, [], ◌∷◌, length, count_by, slice_get, Option, Some, None, refl, ap, sym, ◌∙◌, arith}
+use Rattle.std.proofs.Common.{◌≡◌, ℕ, zero, suc, ◌+◌, ◌≤◌, Bool, true, false, cond, List, [], ◌∷◌, map, length, count_by, slice_get, Option, Some, None, refl, ap, sym, ◌∙◌, arith}
 use Rattle.std.specs.Option.{option_map_or}
 use Rattle.std.specs.List.{list_any}
 use Rattle.run_states.specs.Runs.{change_at}
 use Rattle.run_states.specs.Rows.{Row, is_unscheduled, scheduled}
 use Rattle.farm_rows.specs.Ready.{is_ready, started}
 use Rattle.farm_rows.specs.Settling.{is_ready_at, settled_at, one_if}
-use Rattle.farm_rows.proofs.ReadyLemmas.{AreAlike, all-alike, alike-same, alike-scheduled, ready-alike, busy-none, started-none, count-none, count-cons}
+use Rattle.farm_rows.proofs.ReadyLemmas.{AreAlike, all-alike, alike-ids, alike-same, alike-scheduled, ready-alike, busy-none, started-none, count-none, count-cons}
 
 -- the tasks before a place are started, and the others stay
 abbrev pub upto : (Row → Bool) → ℕ → ℕ → ℕ → List Row → List Row
@@ -49,6 +49,10 @@ upto-alike test number at (suc k) (row ∷ rows) = by (upto-alike test number at
   by : AreAlike rows (upto test number at k rows) → AreAlike rows (upto test (number + 1) at k rows) → (b : Bool) → test row ≡ b → AreAlike (row ∷ rows) (upto test number at (suc k) (row ∷ rows))
   by here more true is = rw is (alike-scheduled number at row, more)
   by here more false is = rw is (alike-same row, here)
+
+-- each keeps its id
+pub upto-ids : (test : Row → Bool) (number at k : ℕ) (rows : List Row) → map (λ row. row.id) (upto test number at k rows) ≡ map (λ row. row.id) rows
+upto-ids test number at k rows = alike-ids rows (upto test number at k rows) (upto-alike test number at k rows)
 
 upto-get : (test : Row → Bool) (number at k : ℕ) (rows : List Row) → slice_get (upto test number at k rows) k ≡ slice_get rows k
 upto-get test number at zero rows = refl

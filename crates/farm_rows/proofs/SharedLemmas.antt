@@ -1,5 +1,5 @@
 -- What all turns leave, in code.
-use Rattle.std.proofs.Common.{◌≡◌, ℕ, false, List, map, bytes_eq, ap, sym, ◌∙◌, subst}
+use Rattle.std.proofs.Common.{◌≡◌, ℕ, false, map, bytes_eq, ap, sym, ◌∙◌, subst}
 use Rattle.std.specs.List.{IsDistinct}
 use Rattle.farm_rows.specs.Contents.{Contents, HaveOwnIds}
 use Rattle.farm_rows.specs.Ready.{has_ready}

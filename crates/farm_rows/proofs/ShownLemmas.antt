@@ -1,7 +1,7 @@
 -- The tasks that a change names: the change of them alone is what it leaves of them among all.
-use Rattle.std.proofs.Common.{◌≡◌, ℕ, Bool, true, false, not, ◌&&◌, List, [], ◌∷◌, ◌++◌, map, filter, length, Option, Some, None, bytes_eq, nat_le, zero, suc, max, ◌≤◌, refl, ap, sym, ◌∙◌, subst, arith, ◌==◌, ◌+◌, ◌-◌}
-use Rattle.std.specs.List.{list_all, AllByRecursion, IsDistinct, fold, last_or, reduce}
-use Rattle.std.specs.Option.{option_map_or, option_to_list}
+use Rattle.std.proofs.Common.{◌≡◌, ℕ, Bool, true, false, not, ◌&&◌, List, [], ◌∷◌, map, filter, length, Option, Some, None, bytes_eq, nat_le, zero, suc, ◌≤◌, refl, ap, sym, ◌∙◌, subst, arith, ◌==◌, ◌+◌, ◌-◌}
+use Rattle.std.specs.List.{list_all, AllByRecursion, fold, last_or, reduce}
+use Rattle.std.specs.Option.{option_map_or}
 use Rattle.std.proofs.lemmas.Bool.{and_parts, eqb-false}
 use Rattle.std.proofs.lemmas.Map.Keys.{IsDistinct-head, IsDistinct-tail}
 use Rattle.std.proofs.lemmas.Slice.Eq.{bytes_eq-Decides}
@@ -9,21 +9,17 @@ use Rattle.task_defs.specs.declared.names.TaskQueue.{TaskQueue}
 use Rattle.run_states.specs.declared.run.Claim.{Claim}
 use Rattle.run_states.specs.declared.run.Run.{Run}
 use Rattle.run_states.specs.Runs.{is_pending_run}
-use Rattle.run_states.specs.Rows.{Row, is_pending, new_row, scheduled}
+use Rattle.run_states.specs.Rows.{Row, is_pending, scheduled}
 use Rattle.run_states.specs.Moves.{run_again, canceled, claimed, reclaimed, resolved}
 use Rattle.run_states.proofs.LaterLemmas.{scheduled-later, again-later, claimed-later, canceled-later, reclaimed-later, resolved-later}
-use Rattle.farm_record.specs.declared.change.Creation.{Creation}
 use Rattle.farm_record.specs.declared.change.RunName.{RunName}
 use Rattle.farm_rows.specs.declared.plan.Deed.{Deed}
 use Rattle.farm_rows.specs.declared.plan.Deed.TheVariants.{Create, Schedule, Rerun, Cancel, Claim as TakesRuns, Reclaim, Resolve}
 use Rattle.farm_rows.specs.Contents.{Contents, row_with, HaveOwnIds}
-use Rattle.farm_rows.specs.Changes.{change_row, reason_of, claim_of, all_claimed, may_keep, are_first, creating, may_be, may_apply, applied}
-use Rattle.farm_rows.specs.Ready.{is_ready, has_ready, settled_row}
-use Rattle.farm_rows.specs.Deeds.{kind_of, change_of, row_of, shown_of, rows_after, planned_of}
+use Rattle.farm_rows.specs.Changes.{change_row, reason_of, claim_of, all_claimed, may_keep, are_first, may_be}
+use Rattle.farm_rows.specs.Deeds.{kind_of, rows_after}
 use Rattle.farm_rows.specs.Picks.{is_same_queue, waits_in, goes_before, better, pick, picks, last_name, names_last, are_picks, without}
-use Rattle.farm_rows.specs.Plans.{room_for, rows_with, named_rows, FindsRoom, IsPlanOn}
-use Rattle.farm_rows.proofs.ChangeLemmas.{may-is, rows-applied}
-use Rattle.farm_rows.proofs.IdLemmas.{created-stands}
+use Rattle.farm_rows.specs.Plans.{rows_with, named_rows}
 
 -- ---- a change of one task
 

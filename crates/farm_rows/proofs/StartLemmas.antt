@@ -1,7 +1,7 @@
 -- Runs that are made as their tasks are scheduled: where a task is ready, or by the change that schedules it.
-use Rattle.std.proofs.Common.{◌≡◌, ℕ, zero, suc, ◌+◌, ◌-◌, ◌≤◌, min, Bool, true, false, cond, List, [], ◌∷◌, ◌++◌, length, count_by, sum_by, is_none, Option, Some, None, refl, ap, sym, ◌∙◌, arith, nat_le, nat_lt, ◌&&◌}
-use Rattle.std.specs.List.{list_any, list_all, last_or}
-use Rattle.std.proofs.lemmas.Bool.{leb-true, le-leb, and_parts, and_from}
+use Rattle.std.proofs.Common.{◌≡◌, ℕ, zero, suc, ◌+◌, ◌-◌, min, Bool, true, false, cond, List, [], ◌∷◌, ◌++◌, length, count_by, is_none, Option, Some, None, refl, ap, sym, ◌∙◌, arith, nat_le, nat_lt, ◌&&◌}
+use Rattle.std.specs.List.{list_any, last_or}
+use Rattle.std.proofs.lemmas.Bool.{and_parts, and_from}
 use Rattle.std.proofs.lemmas.List.Folds.{list_all-append}
 use Rattle.std.proofs.lemmas.List.Sums.{sum_by-cons, sum_by_push}
 use Rattle.run_states.specs.declared.reasons.ReasonCreated.{ReasonCreated}
@@ -11,7 +11,7 @@ use Rattle.run_states.specs.declared.reasons.ReasonResolved.TheVariants as reaso
 use Rattle.run_states.specs.declared.run.Claim.{Claim as RunClaim}
 use Rattle.run_states.specs.declared.run.Run.{Run}
 use Rattle.run_states.specs.Reasons.{retry_after}
-use Rattle.run_states.specs.Runs.{taken, kept, ended, exception_run, pending_run, change_last, change_at}
+use Rattle.run_states.specs.Runs.{taken, kept, ended, pending_run, change_last, change_at}
 use Rattle.run_states.specs.Rows.{Row, is_unscheduled, is_resolved, is_pending, is_running_at, loses_claim, runs_finished, finished, exceeded, first_run, scheduled, new_row}
 use Rattle.run_states.specs.Moves.{retried, followed, closed, claimed, reclaimed, resolved, expired, canceled, may_rerun, run_again}
 use Rattle.farm_record.specs.declared.change.Change.{Change}

@@ -1,5 +1,5 @@
 -- A turn: what fits, and that each number that is drawn is of a new run.
-use Rattle.std.proofs.Common.{◌≡◌, ℕ, ◌+◌, ◌-◌, ◌≤◌, Bool, true, false, cond, ◌&&◌, List, [], ◌∷◌, length, find, count_by, is_none, Option, Some, None, refl, ap, sym, ◌∙◌, arith}
+use Rattle.std.proofs.Common.{◌≡◌, ℕ, ◌+◌, ◌-◌, ◌≤◌, Bool, true, false, cond, List, [], ◌∷◌, length, find, count_by, is_none, Some, None, refl, ap, sym, ◌∙◌, arith}
 use Rattle.std.specs.List.{list_any, list_all, last_or}
 use Rattle.std.proofs.lemmas.Bool.{and_parts, and_from}
 use Rattle.std.proofs.lemmas.List.Sums.{sum_by-cons}

@@ -205,7 +205,7 @@ resolved-stays contents at = by (list_any (meets_deadline at) contents.rows) ref
   by true some_ = rw (deadline-resolved contents at some_) (change-stays (meets_deadline at) (exceeded at) (exceeded-later at) contents.rows)
   by false none = rw (claim-resolved contents at none) (change-stays (loses_claim at) (expired contents.next at) (expired-later contents.next at) contents.rows)
 
-resolved-ids : (contents : Contents) (at : ℕ) → map (λ row. row.id) (resolved_at contents at).rows ≡ map (λ row. row.id) contents.rows
+pub resolved-ids : (contents : Contents) (at : ℕ) → map (λ row. row.id) (resolved_at contents at).rows ≡ map (λ row. row.id) contents.rows
 resolved-ids contents at = by (list_any (meets_deadline at) contents.rows) refl where
   by : (b : Bool) → list_any (meets_deadline at) contents.rows ≡ b → map (λ row. row.id) (resolved_at contents at).rows ≡ map (λ row. row.id) contents.rows
   by true some_ = ap (λ (c : Contents). map (λ row. row.id) c.rows) (deadline-resolved contents at some_) ∙ change-ids (meets_deadline at) (exceeded at) (exceeded-later at) contents.rows

@@ -12,3 +12,4 @@ pub mod Plans
 pub mod Deeds
 pub mod Sweep
 pub mod Settling
+pub mod Placed

@@ -1,5 +1,5 @@
 -- Tasks that settle one after the other. The contracts of private functions alone speak of these.
-use Rattle.std.specs.Prelude.{ℕ, zero, suc, ◌+◌, Bool, false, List, [], ◌∷◌, slice_get, if◌then◌else◌}
+use Rattle.std.specs.Prelude.{ℕ, Bool, false, List, slice_get, if◌then◌else◌}
 use Rattle.std.specs.Option.{option_map_or}
 use Rattle.run_states.specs.Runs.{change_at}
 use Rattle.run_states.specs.Rows.{Row, scheduled}

@@ -1,14 +1,17 @@
 //! Which changes may be made of one task.
-ghost use Rattle.std.specs.Prelude.{◌≡◌, not, false, find, bytes_eq, option_copied};
+ghost use Rattle.std.specs.Prelude.{◌≡◌, not, false, option_copied};
 ghost use Rattle.std.specs.Option.{option_map_or};
 ghost use Rattle.run_states.specs.Rows.{is_unscheduled, is_resolved, is_running_at};
 ghost use Rattle.run_states.specs.Moves.{may_rerun};
 ghost use Rattle.farm_rows.specs.Changes.{on_row, may_keep, kept_scheduler, may_join};
+ghost use Rattle.farm_rows.specs.Placed.{AreGrouped};
 
-use crate::moves::row_with;
+use crate::groups::first_of;
+use crate::places::Rows;
 use farm_record::Creation;
 use farm_text::{Moment, SlugId};
 use run_states::{MOST_RUNS, TaskRow};
+use slug_places::places::Places;
 use task_defs::Identifier;
 
 /// How long a run is kept at most, in milliseconds: a day.
@@ -22,10 +25,10 @@ pub(crate) fn may_keep(at: Moment, until: Moment) -> bool
 }
 
 /// Whether the task with this id stands and may be run again.
-pub(crate) fn may_rerun(rows: &[TaskRow], id: SlugId, at: Moment) -> bool
+pub(crate) fn may_rerun(rows: &Rows<'_>, id: SlugId, at: Moment) -> bool
     ensures { result ≡ on_row (may_rerun at) id rows.now }
 {
-    match row_with(rows, id) {
+    match rows.with(id) {
         Some(row) => row_may_rerun(row, at),
         None => false,
     }
@@ -38,59 +41,57 @@ fn row_may_rerun(row: &TaskRow, at: Moment) -> bool
 }
 
 /// Whether the task with this id stands and is not resolved.
-pub(crate) fn may_cancel(rows: &[TaskRow], id: SlugId) -> bool
+pub(crate) fn may_cancel(rows: &Rows<'_>, id: SlugId) -> bool
     ensures { result ≡ on_row (λ row. not (is_resolved row)) id rows.now }
 {
-    match row_with(rows, id) {
+    match rows.with(id) {
         Some(row) => !row.is_resolved(),
         None => false,
     }
 }
 
 /// Whether the run of a task is there and running.
-pub(crate) fn is_running(rows: &[TaskRow], id: SlugId, run: u8) -> bool
+pub(crate) fn is_running(rows: &Rows<'_>, id: SlugId, run: u8) -> bool
     ensures { result ≡ on_row (is_running_at run) id rows.now }
 {
-    match row_with(rows, id) {
+    match rows.with(id) {
         Some(row) => row.is_running_at(run),
         None => false,
     }
 }
 
 /// Whether the task with this id stands and is unscheduled.
-pub(crate) fn may_schedule(rows: &[TaskRow], id: SlugId) -> bool
+pub(crate) fn may_schedule(rows: &Rows<'_>, id: SlugId) -> bool
     ensures { result ≡ on_row is_unscheduled id rows.now }
 {
-    match row_with(rows, id) {
+    match rows.with(id) {
         Some(row) => row.is_unscheduled(),
         None => false,
     }
 }
 
 /// Whether a new task has the scheduler of its group, where that has tasks.
-pub(crate) fn may_join(rows: &[TaskRow], creation: &Creation) -> bool
+pub(crate) fn may_join(rows: &[TaskRow], groups: Option<&Places>, creation: &Creation) -> bool
+    requires { AreGrouped (option_copied groups) rows.now }
     ensures { result ≡ may_join creation.now rows.now }
 {
-    match kept_scheduler(rows, creation.definition.task_group_id) {
+    match kept_scheduler(rows, groups, creation.definition.task_group_id) {
         Some(kept) => kept.as_str() == creation.definition.scheduler_id.as_str(),
         None => true,
     }
 }
 
 /// The scheduler that the tasks of a group have, as the first of them has it.
-pub(crate) fn kept_scheduler(rows: &[TaskRow], group: SlugId) -> Option<&Identifier>
+pub(crate) fn kept_scheduler<'a>(
+    rows: &'a [TaskRow],
+    groups: Option<&Places>,
+    group: SlugId,
+) -> Option<&'a Identifier>
+    requires { AreGrouped (option_copied groups) rows.now }
     ensures { option_copied result ≡ kept_scheduler group rows.now }
 {
-    match first_of(rows, group) {
+    match first_of(rows, groups, group) {
         Some(row) => Some(&row.definition().scheduler_id),
         None => None,
     }
-}
-
-/// The first task of a group.
-fn first_of(rows: &[TaskRow], group: SlugId) -> Option<&TaskRow>
-    ensures { option_copied result ≡ find (λ row. bytes_eq row.definition.task_group_id group) rows.now }
-{
-    rows.iter()
-        .find(|row| row.definition().task_group_id == group)
 }

@@ -7,10 +7,12 @@
 mod checks;
 mod copies;
 mod counts;
+mod groups;
 mod laws;
 mod lists;
 mod moves;
 mod picks;
+mod places;
 mod plan;
 mod room;
 mod settle;

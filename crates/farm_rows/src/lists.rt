@@ -4,7 +4,7 @@ ghost use Rattle.std.specs.List.{list_any};
 ghost use Rattle.farm_rows.specs.Changes.{on_row};
 ghost use Rattle.farm_rows.specs.Lists.{is_listed, listed, names_listed, behind_id, behind, page_rows, has_more};
 
-use crate::moves::{place_of, row_with};
+use crate::places::Rows;
 use farm_text::SlugId;
 use run_states::TaskRow;
 use std::alloc::{AllocError, Global};
@@ -27,10 +27,10 @@ pub struct Page<'a> {
 }
 
 /// Whether the task with this id stands, and is on a list.
-pub(crate) fn lists(rows: &[TaskRow], list: &TaskList, id: SlugId) -> bool
+pub(crate) fn lists(rows: &Rows<'_>, list: &TaskList, id: SlugId) -> bool
     ensures { result ≡ on_row (is_listed list.now) id rows.now }
 {
-    match row_with(rows, id) {
+    match rows.with(id) {
         Some(row) => is_listed(list, row),
         None => false,
     }
@@ -58,7 +58,7 @@ fn is_among(ids: &[SlugId], id: SlugId) -> bool
 /// task of the list.
 pub(crate) fn page_behind<'a>(
     alloc: Global,
-    rows: &'a [TaskRow],
+    rows: &Rows<'a>,
     list: &TaskList,
     after: Option<SlugId>,
     limit: u16,
@@ -74,26 +74,27 @@ pub(crate) fn page_behind<'a>(
 }
 
 /// The tasks behind the one that a token names, or all, where there is none; or none, where the token names no task of the list.
-fn behind<'a>(rows: &'a [TaskRow], list: &TaskList, after: Option<SlugId>) -> Option<&'a [TaskRow]>
+fn behind<'a>(rows: &Rows<'a>, list: &TaskList, after: Option<SlugId>) -> Option<&'a [TaskRow]>
     ensures { MatchOption result (names_listed list.now after rows.now ≡ false)
         (λ rest. (names_listed list.now after rows.now ≡ true) × (listed list.now rest.now ≡ behind after (listed list.now rows.now))) }
 {
     match after {
         Some(token) => behind_id(rows, list, token),
-        None => Some(rows),
+        None => Some(rows.list()),
     }
 }
 
 /// The tasks behind the one with this id, where that is on the list.
-fn behind_id<'a>(rows: &'a [TaskRow], list: &TaskList, token: SlugId) -> Option<&'a [TaskRow]>
+fn behind_id<'a>(rows: &Rows<'a>, list: &TaskList, token: SlugId) -> Option<&'a [TaskRow]>
     ensures { MatchOption result (on_row (is_listed list.now) token rows.now ≡ false)
         (λ rest. (on_row (is_listed list.now) token rows.now ≡ true) × (listed list.now rest.now ≡ behind_id token (listed list.now rows.now))) }
 {
-    let Some(place) = place_of(rows, token) else {
+    let Some(place) = rows.place(token) else {
         return None;
     };
-    if is_listed(list, &rows[place]) {
-        Some(&rows[place + 1..])
+    let all = rows.list();
+    if is_listed(list, &all[place]) {
+        Some(&all[place + 1..])
     } else {
         None
     }

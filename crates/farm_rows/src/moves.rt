@@ -1,85 +1,97 @@
 //! What changes of one task, by its id. None of it takes memory.
 ghost use Rattle.std.specs.Prelude.{◌≡◌, Some, option_copied};
-ghost use Rattle.std.specs.List.{position};
 ghost use Rattle.run_states.specs.Rows.{scheduled};
 ghost use Rattle.run_states.specs.Moves.{run_again, canceled, claimed, reclaimed, resolved};
 ghost use Rattle.farm_rows.specs.Contents.{row_with};
 ghost use Rattle.farm_rows.specs.Due.{draws};
-ghost use Rattle.farm_rows.specs.Changes.{has_id, change_row, reason_of};
+ghost use Rattle.farm_rows.specs.Changes.{change_row, reason_of};
+ghost use Rattle.farm_rows.specs.Placed.{ArePlaced};
 
+use crate::places::{place_of, row_with};
 use farm_record::{Reclaim, Report, Resolution};
 use farm_text::{Moment, SlugId};
 use run_states::{Claim as RunClaim, ReasonResolved, TaskRow};
-
-/// The place of the task with this id.
-pub(crate) fn place_of(rows: &[TaskRow], id: SlugId) -> Option<usize>
-    ensures { result ≡ position (has_id id) rows.now }
-{
-    rows.iter().position(|row| row.id() == id)
-}
-
-/// The task with this id.
-pub(crate) fn row_with(rows: &[TaskRow], id: SlugId) -> Option<&TaskRow>
-    ensures { option_copied result ≡ row_with id rows.now }
-{
-    rows.iter().find(|row| row.id() == id)
-}
+use slug_places::places::Places;
 
 /// The task becomes pending, where it is unscheduled.
-pub(crate) fn schedule(rows: &mut [TaskRow], id: SlugId, at: Moment, number: u64)
+pub(crate) fn schedule(
+    rows: &mut [TaskRow],
+    places: Option<&Places>,
+    id: SlugId,
+    at: Moment,
+    number: u64,
+)
+    requires { ArePlaced (option_copied places) rows.old }
     ensures { rows.new ≡ change_row id (scheduled number at) rows.old }
 {
-    if let Some(place) = place_of(rows, id) {
+    if let Some(place) = place_of(rows, places, id) {
         let row = &mut rows[place];
         row.schedule(at, number);
     }
 }
 
 /// The task is run again, where it may be.
-pub(crate) fn rerun(rows: &mut [TaskRow], id: SlugId, at: Moment, number: u64)
+pub(crate) fn rerun(
+    rows: &mut [TaskRow],
+    places: Option<&Places>,
+    id: SlugId,
+    at: Moment,
+    number: u64,
+)
+    requires { ArePlaced (option_copied places) rows.old }
     ensures { rows.new ≡ change_row id (run_again number at) rows.old }
 {
-    if let Some(place) = place_of(rows, id) {
+    if let Some(place) = place_of(rows, places, id) {
         let row = &mut rows[place];
         let _ = row.rerun(at, number);
     }
 }
 
 /// The task is canceled, where it is not resolved.
-pub(crate) fn cancel(rows: &mut [TaskRow], id: SlugId, at: Moment)
+pub(crate) fn cancel(rows: &mut [TaskRow], places: Option<&Places>, id: SlugId, at: Moment)
+    requires { ArePlaced (option_copied places) rows.old }
     ensures { rows.new ≡ change_row id (canceled at) rows.old }
 {
-    if let Some(place) = place_of(rows, id) {
+    if let Some(place) = place_of(rows, places, id) {
         let row = &mut rows[place];
         row.cancel(at);
     }
 }
 
 /// A worker takes the pending run of the task.
-pub(crate) fn claim(rows: &mut [TaskRow], id: SlugId, claim: RunClaim)
+pub(crate) fn claim(rows: &mut [TaskRow], places: Option<&Places>, id: SlugId, claim: RunClaim)
+    requires { ArePlaced (option_copied places) rows.old }
     ensures { rows.new ≡ change_row id (claimed claim) rows.old }
 {
-    if let Some(place) = place_of(rows, id) {
+    if let Some(place) = place_of(rows, places, id) {
         let row = &mut rows[place];
         row.claim(claim);
     }
 }
 
 /// A worker keeps its run.
-pub(crate) fn reclaim(rows: &mut [TaskRow], reclaim: Reclaim)
+pub(crate) fn reclaim(rows: &mut [TaskRow], places: Option<&Places>, reclaim: Reclaim)
+    requires { ArePlaced (option_copied places) rows.old }
     ensures { rows.new ≡ change_row reclaim.id (reclaimed reclaim.run reclaim.taken_until) rows.old }
 {
-    if let Some(place) = place_of(rows, reclaim.id) {
+    if let Some(place) = place_of(rows, places, reclaim.id) {
         let row = &mut rows[place];
         let _ = row.reclaim(reclaim.run, reclaim.taken_until);
     }
 }
 
 /// The run of a task ends, as its worker reports.
-pub(crate) fn resolve(rows: &mut [TaskRow], resolution: &Resolution, at: Moment, number: u64)
+pub(crate) fn resolve(
+    rows: &mut [TaskRow],
+    places: Option<&Places>,
+    resolution: &Resolution,
+    at: Moment,
+    number: u64,
+)
+    requires { ArePlaced (option_copied places) rows.old }
     ensures { let r = resolution.now in rows.new ≡ change_row r.id (resolved r.run (reason_of r.reason) number at) rows.old }
 {
-    if let Some(place) = place_of(rows, resolution.id) {
+    if let Some(place) = place_of(rows, places, resolution.id) {
         let row = &mut rows[place];
         let reason = reason_of(resolution.reason);
         let _ = row.resolve(at, resolution.run, reason, number);
@@ -87,10 +99,11 @@ pub(crate) fn resolve(rows: &mut [TaskRow], resolution: &Resolution, at: Moment,
 }
 
 /// How many numbers a report draws: one, where a new run follows.
-pub(crate) fn drawn(rows: &[TaskRow], resolution: &Resolution) -> u64
+pub(crate) fn drawn(rows: &[TaskRow], places: Option<&Places>, resolution: &Resolution) -> u64
+    requires { ArePlaced (option_copied places) rows.now }
     ensures { result ≡ draws (reason_of resolution.now.reason) (row_with resolution.now.id rows.now) }
 {
-    match row_with(rows, resolution.id) {
+    match row_with(rows, places, resolution.id) {
         Some(row) => drawn_of(row, reason_of(resolution.reason)),
         None => 0,
     }

@@ -7,7 +7,7 @@ ghost use Rattle.farm_rows.specs.Picks.{is_same_queue, waits_in, goes_before, be
 ghost use Rattle.farm_rows.specs.Left.{left};
 
 use crate::checks::may_keep;
-use crate::moves::row_with;
+use crate::places::Rows;
 use claim_queue::rank;
 use farm_record::{Claim, RunName};
 use farm_text::{Moment, SlugId};
@@ -16,21 +16,21 @@ use std::alloc::{AllocError, Global};
 use task_defs::TaskQueue;
 
 /// Whether a worker may take runs: until a moment that is still to come, at most a day later; and they are 1 to 32, the first of their queue.
-pub(crate) fn may_claim(rows: &[TaskRow], at: Moment, claim: &Claim) -> bool
+pub(crate) fn may_claim(rows: &Rows<'_>, at: Moment, claim: &Claim) -> bool
     ensures { result ≡ (may_keep at claim.now.taken_until && (nat_le (length claim.now.runs) 32 && are_first claim.now.runs rows.now)) }
 {
     may_keep(at, claim.taken_until) && are_first(rows, claim.runs.list())
 }
 
 /// Whether the runs of these names are, each in its turn, the pick of the queue of the first one's task.
-fn are_first(rows: &[TaskRow], names: &[RunName]) -> bool
+fn are_first(rows: &Rows<'_>, names: &[RunName]) -> bool
     ensures { result ≡ are_first names.now rows.now }
 {
     let Some(first) = names.first() else {
         return false;
     };
-    match row_with(rows, first.id) {
-        Some(row) => are_picks(rows, &row.definition().queue, names),
+    match rows.with(first.id) {
+        Some(row) => are_picks(rows.list(), &row.definition().queue, names),
         None => false,
     }
 }

@@ -6,7 +6,7 @@ ghost use Rattle.farm_rows.specs.Plans.{rows_with, named_rows};
 ghost use Rattle.farm_rows.specs.Deeds.{kind_of, rows_after};
 
 use crate::copies::claims;
-use crate::moves::row_with;
+use crate::places::Rows;
 use crate::plan::Deed;
 use crate::work::make;
 use farm_record::RunName;
@@ -17,7 +17,7 @@ use std::alloc::{AllocError, Global};
 /// The tasks that a change of tasks that stand names, as they will be, where a new run has this number.
 pub(crate) fn shown(
     alloc: Global,
-    rows: &[TaskRow],
+    rows: &Rows<'_>,
     at: Moment,
     number: u64,
     deed: &Deed,
@@ -26,12 +26,12 @@ pub(crate) fn shown(
 {
     let mut shown = named(alloc, rows, deed)?;
     let claims = claims(alloc, at, deed)?;
-    make(&mut shown, at, number, deed, claims);
+    make(&mut shown, None, at, number, deed, claims);
     Ok(shown)
 }
 
 /// Copies of the tasks that a change names, as far as they stand.
-fn named(alloc: Global, rows: &[TaskRow], deed: &Deed) -> Result<Vec<TaskRow>, AllocError>
+fn named(alloc: Global, rows: &Rows<'_>, deed: &Deed) -> Result<Vec<TaskRow>, AllocError>
     ensures { IfOk result (λ v. v.items ≡ named_rows (kind_of deed.now) rows.now) }
 {
     match deed {
@@ -44,7 +44,7 @@ fn named(alloc: Global, rows: &[TaskRow], deed: &Deed) -> Result<Vec<TaskRow>, A
 }
 
 /// A copy of the task with this id, if it stands.
-fn one(alloc: Global, rows: &[TaskRow], id: SlugId) -> Result<Vec<TaskRow>, AllocError>
+fn one(alloc: Global, rows: &Rows<'_>, id: SlugId) -> Result<Vec<TaskRow>, AllocError>
     ensures { IfOk result (λ v. v.items ≡ rows_with (id ∷ []) rows.now) }
 {
     let mut found = Vec::new(alloc);
@@ -53,7 +53,7 @@ fn one(alloc: Global, rows: &[TaskRow], id: SlugId) -> Result<Vec<TaskRow>, Allo
 }
 
 /// Copies of the tasks of these runs, as far as they stand.
-fn each(alloc: Global, rows: &[TaskRow], names: &[RunName]) -> Result<Vec<TaskRow>, AllocError>
+fn each(alloc: Global, rows: &Rows<'_>, names: &[RunName]) -> Result<Vec<TaskRow>, AllocError>
     ensures { IfOk result (λ v. v.items ≡ rows_with (map (λ name. name.id) names.now) rows.now) }
 {
     let mut found = Vec::with_capacity(alloc, names.len())?;
@@ -67,12 +67,12 @@ fn each(alloc: Global, rows: &[TaskRow], names: &[RunName]) -> Result<Vec<TaskRo
 fn add(
     alloc: Global,
     found: &mut Vec<TaskRow>,
-    rows: &[TaskRow],
+    rows: &Rows<'_>,
     id: SlugId,
 ) -> Result<(), AllocError>
     ensures { OnOk result (found.new.items ≡ found.old.items ++ option_to_list (row_with id rows.now)) }
 {
-    if let Some(row) = row_with(rows, id) {
+    if let Some(row) = rows.with(id) {
         found.push(row.copy(alloc)?)?;
     }
     Ok(())

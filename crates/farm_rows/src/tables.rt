@@ -1,30 +1,29 @@
 //! The tables of a farm's tasks.
-ghost use Rattle.std.specs.Prelude.{◌≡◌, ◌<◌, ◌≤◌, [], true, true, false, map, Some, None, length, vec_capacity, slice_get, count_by, option_copied, IfOk, OnOk, MatchOption};
+ghost use Rattle.std.specs.Prelude.{◌≡◌, ◌<◌, ◌≤◌, [], true, true, false, map, Some, None, length, vec_capacity, slice_get, count_by, option_copied, IfOk, MatchOption};
 ghost use Rattle.farm_text.specs.declared.moment.TheConstants.{LAST_TOLD_MOMENT};
 ghost use Rattle.farm_rows.specs.Contents.{no_contents, row_with, counts_of, HaveOwnIds};
-ghost use Rattle.farm_rows.specs.Ready.{settled_row};
 ghost use Rattle.farm_rows.specs.Due.{is_due, advance};
 ghost use Rattle.farm_rows.specs.Picks.{waits_in, picks};
-ghost use Rattle.farm_rows.specs.Changes.{on_row, kept_scheduler, creating, may_create, may_be, may_apply, applied};
+ghost use Rattle.farm_rows.specs.Changes.{on_row, kept_scheduler, may_create, may_be, may_apply, applied};
 ghost use Rattle.farm_rows.specs.Waits.{missing_dependency, early_dependency};
 ghost use Rattle.farm_rows.specs.Lists.{is_listed, listed, names_listed, page_rows, has_more};
-ghost use Rattle.farm_rows.specs.Plans.{named_rows, IsPlanOn};
-ghost use Rattle.farm_rows.specs.Deeds.{kind_of, change_of, row_of, planned_of, claims_of, rows_after};
+ghost use Rattle.farm_rows.specs.Plans.{IsPlanOn};
+ghost use Rattle.farm_rows.specs.Deeds.{change_of, row_of, planned_of, claims_of};
 ghost use Rattle.farm_rows.specs.Summary.{summary_of};
 ghost use Rattle.farm_rows.specs.Sweep.{all_turns};
+
+mod plans;
 
 use crate::checks::{
     is_running, kept_scheduler, may_cancel, may_join, may_keep, may_rerun, may_schedule,
 };
-use crate::copies::claims;
 use crate::counts::RowCounts;
+use crate::groups::keep_first;
 use crate::lists::{Page, TaskList, lists, page_behind};
-use crate::moves::row_with;
 use crate::picks::{may_claim, pending, picks};
+use crate::places::{Rows, keep_noted};
 use crate::plan::{Deed, TaskPlan};
-use crate::room::{add, grown};
-use crate::settle::settle_new;
-use crate::shown::shown;
+use crate::room::add;
 use crate::summary::{Summary, summary_of};
 use crate::sweep::{soonest, soonest_with};
 use crate::turns::resolve_due;
@@ -33,7 +32,9 @@ use crate::work::change;
 use farm_record::{Change, Creation, Kind, RunName};
 use farm_text::{LAST_TOLD_MOMENT, Moment, SlugId};
 use run_states::{Claim as RunClaim, TaskRow};
+use slug_places::places::Places;
 use std::alloc::{AllocError, Global};
+use std::collections::BTreeMap;
 use std::marker::Model;
 use task_defs::{Identifier, TaskQueue};
 
@@ -49,6 +50,10 @@ pub struct TaskTables {
     next: u64,
     /// The first moment at which something falls due.
     soonest: Option<Moment>,
+    /// The place of each task by its id, where these are kept.
+    places: Option<Places>,
+    /// The place of the first task of each group, where these are kept.
+    groups: Option<Places>,
 }
 
 impl Model for TaskTables {
@@ -56,7 +61,7 @@ impl Model for TaskTables {
     ghost use Rattle.std.specs.Coded.{codes};
     ghost use Rattle.task_defs.specs.Codes.{members_code};
     ghost use Rattle.farm_rows.specs.Contents.{Contents};
-    ghost use Rattle.farm_rows.specs.Sweep.{IsKept};
+    ghost use Rattle.farm_rows.specs.Placed.{AreTables};
 
     ghost Value = { Contents };
 
@@ -64,7 +69,7 @@ impl Model for TaskTables {
 
     ghost view = { λ t. record { rows = t.rows.items; last = t.last; next = t.next } };
 
-    ghost invariant = { λ t. IsKept t.rows.items t.last t.next t.soonest (vec_capacity t.rows) };
+    ghost invariant = { λ t. AreTables t.rows.items t.last t.next t.soonest (vec_capacity t.rows) t.places t.groups };
 }
 
 impl TaskTables {
@@ -77,6 +82,8 @@ impl TaskTables {
             last: Moment::FIRST,
             next: 0,
             soonest: None,
+            places: Some(BTreeMap::new(alloc)),
+            groups: Some(BTreeMap::new(alloc)),
         }
     }
 
@@ -120,7 +127,7 @@ impl TaskTables {
         if !self.due(moment) {
             return;
         }
-        self.next = resolve_due(&mut self.rows, self.next, moment);
+        self.next = resolve_due(&mut self.rows, self.places.as_ref(), self.next, moment);
         self.soonest = soonest(&self.rows);
     }
 
@@ -128,7 +135,14 @@ impl TaskTables {
     pub fn row(&self, id: SlugId) -> Option<&TaskRow>
         ensures { option_copied result ≡ row_with id self.now.rows }
     {
-        row_with(&self.rows, id)
+        self.by_ids().with(id)
+    }
+
+    /// The tasks, which are looked up by their ids.
+    fn by_ids(&self) -> Rows<'_>
+        ensures { result ≡ self.now.rows }
+    {
+        Rows::new(&self.rows, self.places.as_ref())
     }
 
     /// The task at this place, counted from 0 in the order of creation.
@@ -170,14 +184,14 @@ impl TaskTables {
     pub fn kept_scheduler(&self, group: SlugId) -> Option<&Identifier>
         ensures { option_copied result ≡ kept_scheduler group self.now.rows }
     {
-        kept_scheduler(&self.rows, group)
+        kept_scheduler(&self.rows, self.groups.as_ref(), group)
     }
 
     /// The first task that a new one waits for, in the order of its definition, that is not the task itself and does not stand.
     pub fn missing_dependency(&self, creation: &Creation) -> Option<SlugId>
         ensures { result ≡ missing_dependency creation.now self.now.rows }
     {
-        missing_dependency(&self.rows, creation)
+        missing_dependency(&self.by_ids(), creation)
     }
 
     /// The first task that a new one waits for, in the order of its definition, that is not the task itself, and stands, but expires before
@@ -185,14 +199,14 @@ impl TaskTables {
     pub fn early_dependency(&self, creation: &Creation) -> Option<SlugId>
         ensures { result ≡ early_dependency creation.now self.now.rows }
     {
-        early_dependency(&self.rows, creation)
+        early_dependency(&self.by_ids(), creation)
     }
 
     /// Whether the task with this id stands, and is on a list.
     pub fn lists(&self, list: &TaskList, id: SlugId) -> bool
         ensures { result ≡ on_row (is_listed list.now) id self.now.rows }
     {
-        lists(&self.rows, list, id)
+        lists(&self.by_ids(), list, id)
     }
 
     /// The page of a list behind the task that a token names, or the first page where there is no token, with so many tasks at most; or none,
@@ -209,7 +223,7 @@ impl TaskTables {
             × (map (λ row. row.now) p.rows.items ≡ page_rows after limit (listed list.now self.now.rows))
             × (p.more ≡ has_more after limit (listed list.now self.now.rows)))) }
     {
-        page_behind(alloc, &self.rows, list, after, limit)
+        page_behind(alloc, &self.by_ids(), list, after, limit)
     }
 
     /// The plan of a change, with all the memory that it takes, or none where the change may not be made. The tables stay as they were,
@@ -224,92 +238,6 @@ impl TaskTables {
         }
         let Change { at, kind } = change;
         self.plan_kind(alloc, at, kind)
-    }
-
-    /// The plan of a change that may be made, by its kind.
-    fn plan_kind(
-        &self,
-        alloc: Global,
-        at: Moment,
-        kind: Kind,
-    ) -> Result<Option<TaskPlan>, AllocError>
-        requires { may_apply self.now (record { at = at; kind = kind }) ≡ true }
-        ensures { IfOk result (λ plan. MatchOption plan (may_apply self.now (record { at = at; kind = kind }) ≡ false)
-            (λ p. (p.change ≡ record { at = at; kind = kind }) × IsPlanOn self.now p)) }
-    {
-        match kind {
-            Kind::Create(creation) => Ok(Some(self.plan_creation(alloc, at, creation)?)),
-            Kind::Claim(claim) => Ok(Some(self.plan_of(alloc, at, Deed::Claim(claim))?)),
-            Kind::Schedule(id) => Ok(Some(self.plan_of(alloc, at, Deed::Schedule(id))?)),
-            Kind::Rerun(id) => Ok(Some(self.plan_of(alloc, at, Deed::Rerun(id))?)),
-            Kind::Cancel(id) => Ok(Some(self.plan_of(alloc, at, Deed::Cancel(id))?)),
-            Kind::Reclaim(r) => Ok(Some(self.plan_of(alloc, at, Deed::Reclaim(r))?)),
-            Kind::Resolve(r) => Ok(Some(self.plan_of(alloc, at, Deed::Resolve(r))?)),
-            Kind::Tick => Ok(None),
-        }
-    }
-
-    /// The plan of a creation that may be made.
-    fn plan_creation(
-        &self,
-        alloc: Global,
-        at: Moment,
-        creation: Creation,
-    ) -> Result<TaskPlan, AllocError>
-        requires { may_apply self.now (creating at creation) ≡ true }
-        ensures change { IfOk result (λ p. p.change ≡ creating at creation) }
-        ensures plan { IfOk result (λ p. IsPlanOn self.now p) }
-    {
-        let grown = grown(alloc, self.rows.len())?;
-        let mut row = TaskRow::make(alloc, creation.id, creation.definition)?;
-        self.settle_in(&mut row, at);
-        Ok(TaskPlan {
-            at,
-            deed: Deed::Create(row),
-            rows: Vec::new(alloc),
-            grown,
-            claims: Vec::new(alloc),
-        })
-    }
-
-    /// Makes a new task pending, where it is ready among those that stand.
-    fn settle_in(&self, row: &mut TaskRow, at: Moment)
-        ensures { row.new ≡ settled_row self.now at row.old }
-    {
-        settle_new(&self.rows, row, at, self.next);
-    }
-
-    /// The plan of a change of tasks that stand, which may be made.
-    fn plan_of(&self, alloc: Global, at: Moment, deed: Deed) -> Result<TaskPlan, AllocError>
-        requires stands { row_of deed ≡ None }
-        requires lawful { may_apply self.now (change_of at deed) ≡ true }
-        ensures change { IfOk result (λ p. p.change ≡ change_of at deed) }
-        ensures plan { IfOk result (λ p. IsPlanOn self.now p) }
-    {
-        let (claims, rows) = self.parts(alloc, at, &deed)?;
-        Ok(TaskPlan {
-            at,
-            deed,
-            rows,
-            grown: Vec::new(alloc),
-            claims,
-        })
-    }
-
-    /// The claims that a change makes, and the tasks that it names, as they will be. (Each task has an id of its own.)
-    fn parts(
-        &self,
-        alloc: Global,
-        at: Moment,
-        deed: &Deed,
-    ) -> Result<(Vec<RunClaim>, Vec<TaskRow>), AllocError>
-        ensures own { OnOk result (HaveOwnIds self.now.rows) }
-        ensures claims { IfOk result (λ p. p.0.items ≡ claims_of at deed.now) }
-        ensures rows { IfOk result (λ p. p.1.items ≡ rows_after at self.now.next deed.now (named_rows (kind_of deed.now) self.now.rows)) }
-    {
-        let claims = claims(alloc, at, deed)?;
-        let rows = shown(alloc, &self.rows, at, self.next, deed)?;
-        Ok((claims, rows))
     }
 
     /// Whether a change may be made.
@@ -329,12 +257,13 @@ impl TaskTables {
     {
         match kind {
             Kind::Create(creation) => self.may_create(at, creation),
-            Kind::Claim(claim) => may_claim(&self.rows, at, claim),
-            Kind::Schedule(id) => may_schedule(&self.rows, *id),
-            Kind::Rerun(id) => may_rerun(&self.rows, *id, at),
-            Kind::Cancel(id) => may_cancel(&self.rows, *id),
-            Kind::Reclaim(r) => may_keep(at, r.taken_until) && is_running(&self.rows, r.id, r.run),
-            Kind::Resolve(r) => is_running(&self.rows, r.id, r.run),
+            Kind::Claim(claim) => may_claim(&self.by_ids(), at, claim),
+            Kind::Schedule(id) => may_schedule(&self.by_ids(), *id),
+            Kind::Rerun(id) => may_rerun(&self.by_ids(), *id, at),
+            Kind::Cancel(id) => may_cancel(&self.by_ids(), *id),
+            Kind::Reclaim(r) => may_keep(at, r.taken_until)
+                && is_running(&self.by_ids(), r.id, r.run),
+            Kind::Resolve(r) => is_running(&self.by_ids(), r.id, r.run),
             Kind::Tick => false,
         }
     }
@@ -345,8 +274,8 @@ impl TaskTables {
     {
         self.row(creation.id).is_none()
             && at < creation.definition.deadline
-            && waits_well(&self.rows, creation)
-            && may_join(&self.rows, creation)
+            && waits_well(&self.by_ids(), creation)
+            && may_join(&self.rows, self.groups.as_ref(), creation)
             && self.rows.len() < MOST_TASKS
     }
 
@@ -376,6 +305,9 @@ impl TaskTables {
     {
         let soonest = soonest_with(self.soonest, &row);
         let drawn = row.runs().len() as u64;
+        let place = self.rows.len();
+        keep_noted(&mut self.places, row.id(), place);
+        keep_first(&mut self.groups, &self.rows, row.definition().task_group_id);
         add(&mut self.rows, grown, row);
         self.soonest = soonest;
         self.next += drawn;
@@ -389,7 +321,14 @@ impl TaskTables {
         requires lawful { may_apply self.old (change_of at deed.now) ≡ true }
         ensures { self.new ≡ applied self.old (change_of at deed.now) }
     {
-        let drawn = change(&mut self.rows, at, self.next, deed, claims);
+        let drawn = change(
+            &mut self.rows,
+            self.places.as_ref(),
+            at,
+            self.next,
+            deed,
+            claims,
+        );
         self.soonest = soonest(&self.rows);
         self.next += drawn;
         self.last = at;

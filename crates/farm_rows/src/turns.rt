@@ -1,5 +1,5 @@
 //! What falls due while tasks wait for others, turn by turn. None of it takes memory.
-ghost use Rattle.std.specs.Prelude.{◌≡◌, ◌≤◌, ◌+◌, ◌==◌, true, false, find, filter, min, nat_le, length, Some, None, if◌then◌else◌};
+ghost use Rattle.std.specs.Prelude.{◌≡◌, ◌≤◌, ◌+◌, ◌==◌, true, false, find, filter, min, nat_le, length, Some, None, option_copied, if◌then◌else◌};
 ghost use Rattle.std.specs.List.{list_any, list_all, reduce, position};
 ghost use Rattle.run_states.specs.declared.reasons.ReasonResolved.TheVariants.{ClaimExpired};
 ghost use Rattle.run_states.specs.Rows.{loses_claim, exceeded};
@@ -8,15 +8,23 @@ ghost use Rattle.farm_rows.specs.Ready.{is_ready, settled};
 ghost use Rattle.farm_rows.specs.Contents.{HaveOwnIds};
 ghost use Rattle.farm_rows.specs.Due.{all_due_moments, meets_deadline, change_first, draws, resolved_at};
 ghost use Rattle.farm_rows.specs.Sweep.{numbered, all_turns, runs_made, fits};
+ghost use Rattle.farm_rows.specs.Placed.{ArePlaced};
 
 use crate::settle::{any_unscheduled, settle};
 use crate::sweep::{lost_place, soonest, sweep_due};
 use farm_text::Moment;
 use run_states::TaskRow;
+use slug_places::places::Places;
 
 /// Resolves all that is due at this moment, each at its own moment, and answers the number that is drawn next. Where no task waits for
 /// others, the tasks are swept.
-pub(crate) fn resolve_due(rows: &mut [TaskRow], first: u64, moment: Moment) -> u64
+pub(crate) fn resolve_due(
+    rows: &mut [TaskRow],
+    places: Option<&Places>,
+    first: u64,
+    moment: Moment,
+) -> u64
+    requires placed { ArePlaced (option_copied places) rows.old }
     requires few { length rows.old ≤ 1_000_000 }
     requires fit { list_all fits rows.old ≡ true }
     requires drawn { first ≤ runs_made rows.old }
@@ -27,7 +35,7 @@ pub(crate) fn resolve_due(rows: &mut [TaskRow], first: u64, moment: Moment) -> u
     ensures none { list_any (is_ready rows.old) rows.old ≡ false → list_any (is_ready rows.new) rows.new ≡ false }
 {
     if any_unscheduled(rows) {
-        take_turns(rows, first, moment)
+        take_turns(rows, places, first, moment)
     } else {
         sweep_due(rows, first, moment)
     }
@@ -35,7 +43,8 @@ pub(crate) fn resolve_due(rows: &mut [TaskRow], first: u64, moment: Moment) -> u
 
 /// Resolves all that is due at this moment, each at its own moment, after which the tasks settle each time; and answers the number that is
 /// drawn next.
-fn take_turns(rows: &mut [TaskRow], first: u64, moment: Moment) -> u64
+fn take_turns(rows: &mut [TaskRow], places: Option<&Places>, first: u64, moment: Moment) -> u64
+    requires placed { ArePlaced (option_copied places) rows.old }
     requires few { length rows.old ≤ 1_000_000 }
     requires fit { list_all fits rows.old ≡ true }
     requires drawn { first ≤ runs_made rows.old }
@@ -45,20 +54,21 @@ fn take_turns(rows: &mut [TaskRow], first: u64, moment: Moment) -> u64
 {
     let mut next = first;
     'turns: while let Some(at) = first_due(rows, moment) {
-        next += turn(rows, at, next);
+        next += turn(rows, places, at, next);
     }
     next
 }
 
 /// One turn: what falls due first is resolved, at this moment, and the tasks settle. Answers how many numbers are drawn.
-fn turn(rows: &mut [TaskRow], at: Moment, number: u64) -> u64
+fn turn(rows: &mut [TaskRow], places: Option<&Places>, at: Moment, number: u64) -> u64
+    requires placed { ArePlaced (option_copied places) rows.old }
     requires few { length rows.old ≤ 1_000_000 }
     requires drawn { number ≤ 50_000_000 }
     ensures turn { settled (resolved_at (numbered rows.old number) at) at ≡ numbered rows.new (number + result) }
     ensures few { result ≤ 1_000_001 }
 {
     let drawn = resolve_first(rows, at, number);
-    drawn + settle(rows, at, number + drawn)
+    drawn + settle(rows, places, at, number + drawn)
 }
 
 /// Resolves what falls due first, at this moment. Answers how many numbers are drawn.

@@ -5,13 +5,12 @@ ghost use Rattle.farm_rows.specs.Contents.{row_with};
 ghost use Rattle.farm_rows.specs.Changes.{waits_well};
 ghost use Rattle.farm_rows.specs.Waits.{is_missing, is_early, missing_dependency, early_dependency};
 
-use crate::moves::row_with;
+use crate::places::Rows;
 use farm_record::Creation;
 use farm_text::{Moment, SlugId};
-use run_states::TaskRow;
 
 /// Whether each task that a new one waits for stands, and expires no earlier than its deadline; or is the task itself.
-pub(crate) fn waits_well(rows: &[TaskRow], creation: &Creation) -> bool
+pub(crate) fn waits_well(rows: &Rows<'_>, creation: &Creation) -> bool
     ensures { result ≡ waits_well creation.now rows.now }
 {
     let deadline = creation.definition.deadline;
@@ -20,17 +19,17 @@ pub(crate) fn waits_well(rows: &[TaskRow], creation: &Creation) -> bool
 }
 
 /// Whether the task with this id stands, and expires no earlier than this.
-fn stands_until(rows: &[TaskRow], id: SlugId, moment: Moment) -> bool
+fn stands_until(rows: &Rows<'_>, id: SlugId, moment: Moment) -> bool
     ensures { result ≡ option_map_or (λ row. nat_le moment row.definition.expires) (row_with id rows.now) false }
 {
-    match row_with(rows, id) {
+    match rows.with(id) {
         Some(row) => moment <= row.definition().expires,
         None => false,
     }
 }
 
 /// The first task that a new one waits for, that is not the task itself and does not stand.
-pub(crate) fn missing_dependency(rows: &[TaskRow], creation: &Creation) -> Option<SlugId>
+pub(crate) fn missing_dependency(rows: &Rows<'_>, creation: &Creation) -> Option<SlugId>
     ensures { result ≡ missing_dependency creation.now rows.now }
 {
     match find_missing(rows, creation) {
@@ -40,7 +39,7 @@ pub(crate) fn missing_dependency(rows: &[TaskRow], creation: &Creation) -> Optio
 }
 
 /// The first task that a new one waits for, that is not the task itself and expires before its deadline.
-pub(crate) fn early_dependency(rows: &[TaskRow], creation: &Creation) -> Option<SlugId>
+pub(crate) fn early_dependency(rows: &Rows<'_>, creation: &Creation) -> Option<SlugId>
     ensures { result ≡ early_dependency creation.now rows.now }
 {
     match find_early(rows, creation) {
@@ -49,37 +48,37 @@ pub(crate) fn early_dependency(rows: &[TaskRow], creation: &Creation) -> Option<
     }
 }
 
-fn find_missing<'a>(rows: &[TaskRow], creation: &'a Creation) -> Option<&'a SlugId>
+fn find_missing<'a>(rows: &Rows<'_>, creation: &'a Creation) -> Option<&'a SlugId>
     ensures { option_copied result ≡ missing_dependency creation.now rows.now }
 {
     let ids = creation.definition.dependencies.list();
     ids.iter().find(|id| is_missing(rows, creation, **id))
 }
 
-fn find_early<'a>(rows: &[TaskRow], creation: &'a Creation) -> Option<&'a SlugId>
+fn find_early<'a>(rows: &Rows<'_>, creation: &'a Creation) -> Option<&'a SlugId>
     ensures { option_copied result ≡ early_dependency creation.now rows.now }
 {
     let ids = creation.definition.dependencies.list();
     ids.iter().find(|id| is_early(rows, creation, **id))
 }
 
-fn is_missing(rows: &[TaskRow], creation: &Creation, id: SlugId) -> bool
+fn is_missing(rows: &Rows<'_>, creation: &Creation, id: SlugId) -> bool
     ensures { result ≡ is_missing creation.now rows.now id }
 {
-    id != creation.id && row_with(rows, id).is_none()
+    id != creation.id && rows.with(id).is_none()
 }
 
-fn is_early(rows: &[TaskRow], creation: &Creation, id: SlugId) -> bool
+fn is_early(rows: &Rows<'_>, creation: &Creation, id: SlugId) -> bool
     ensures { result ≡ is_early creation.now rows.now id }
 {
     id != creation.id && expires_before(rows, id, creation.definition.deadline)
 }
 
 /// Whether the task with this id stands, and expires before this.
-fn expires_before(rows: &[TaskRow], id: SlugId, moment: Moment) -> bool
+fn expires_before(rows: &Rows<'_>, id: SlugId, moment: Moment) -> bool
     ensures { result ≡ option_map_or (λ row. nat_lt row.definition.expires moment) (row_with id rows.now) false }
 {
-    match row_with(rows, id) {
+    match rows.with(id) {
         Some(row) => row.definition().expires < moment,
         None => false,
     }

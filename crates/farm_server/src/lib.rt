@@ -9,6 +9,3 @@ mod write;
 pub use connection::{serve_connection, serve_routed};
 pub use gate::{Gate, NoGate, When};
 pub use served::{REQUESTS, Served, a_connection_serves_a_thousand};
-
-#[cfg(test)]
-mod tests;

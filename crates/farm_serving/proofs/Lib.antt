@@ -1,4 +1,3 @@
 pub mod ConnectionLemmas
-pub mod MemoryLemmas
 pub mod TallyLemmas
 pub mod ServingLemmas

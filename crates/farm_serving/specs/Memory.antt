@@ -1,11 +1,11 @@
 -- What a door in memory tells.
-use Rattle.std.specs.Prelude.{ℕ, Bool, true, false, List, map, Option, Some, None}
+use Rattle.std.specs.Prelude.{ℕ, List, map, Option, Some}
 use Rattle.http_wire.specs.Calls.{LinkState}
 use Rattle.http_wire.specs.Memory.{source_left, read_faults, sink_written, write_faults}
 use Rattle.http_wire.specs.declared.joined.Joined.{Joined}
 use Rattle.http_wire.specs.declared.memory.MemorySource.{MemorySource}
 use Rattle.http_wire.specs.declared.memory.MemorySink.{MemorySink}
-use Rattle.farm_serving.specs.declared.memory.MemoryListener.{MemoryListener}
+use Rattle.farm_serving.specs.declared.coming.MemoryListener.{MemoryListener}
 
 -- what a link in memory tells
 abbrev pub memory_state : Joined MemorySource MemorySink → LinkState
@@ -16,18 +16,13 @@ memory_state link = record {
   write_faults = write_faults link.sink;
 }
 
--- a log, where it is told
-abbrev pub told_if : {A : Type 0} → Bool → List A → Option (List A)
-told_if true log = Some log
-told_if false log = None
-
--- the links that it gave, as they were then
+-- the links that it gave, as they were then; a door in memory tells always
 abbrev pub links_given : MemoryListener → Option (List LinkState)
-links_given door = told_if door.tells (map (λ seen. memory_state seen.value) door.given.items)
+links_given door = Some (map (λ seen. memory_state seen.value) door.given.items)
 
 -- the links that it took back, with the numbers of their messages asked
 abbrev pub links_taken : MemoryListener → Option (List (LinkState × ℕ))
-links_taken door = told_if door.tells (map (λ back. (memory_state back.link, back.asked)) door.returned.items)
+links_taken door = Some (map (λ back. (memory_state back.link, back.asked)) door.returned.items)
 
 -- how many of its links are out
 abbrev pub links_out : MemoryListener → ℕ

@@ -1,5 +1,5 @@
 //! A door of the system: a TCP socket that is listened at.
-ghost use Rattle.std.specs.Prelude.{◌≡◌, ◌≤◌, IfOk, None};
+ghost use Rattle.std.specs.Prelude.{◌≡◌, ◌≤◌, ◌↔◌, IfOk, None};
 ghost use Rattle.causes.specs.Causes.{Rose};
 
 use crate::door::Listener;
@@ -26,6 +26,7 @@ pub struct HostListener<R: Clock + Copy> {
     accepts: u64,
     faults: FaultCount,
     why: Option<ErrorKind>,
+    ghost told: { (faults ≡ 0) ↔ (why ≡ None) },
 }
 
 impl<R: Clock + Copy> HostListener<R> {
@@ -61,8 +62,10 @@ impl<R: Clock + Copy> HostListener<R> {
         }
     }
 
-    /// Why the last accept or twin failed that did, as the system told it.
-    pub fn why(&self) -> Option<ErrorKind> {
+    /// Why the last accept or twin failed that did, as the system told it. It is none just where none has.
+    pub fn why(&self) -> Option<ErrorKind>
+        ensures { (⟦<HostListener<R> as Listener>⟧.faults self.now ≡ 0) ↔ (result ≡ None) }
+    {
         self.why
     }
 
@@ -106,6 +109,7 @@ impl<R: Clock + Copy> Listener for HostListener<R> {
         self.accepts = self.accepts.saturating_add(1);
         if self.out == u64::MAX {
             self.faults.raise();
+            self.why = Some(ErrorKind::QuotaExceeded);
             return Err(Failed);
         }
         match accepted(&self.listener) {
@@ -130,54 +134,5 @@ impl<R: Clock + Copy> Listener for HostListener<R> {
             Ok(listener) => Ok(HostListener::over(self.rt, listener)),
             Err(error) => Err(self.fail(&error)),
         }
-    }
-}
-
-#[cfg(test)]
-mod tests {
-    use super::*;
-    use http_wire::Link;
-    use std::io::{Read, Write};
-    use std::test::Fail;
-
-    /// A worker's thread takes its door and its link along.
-    fn is_sent<T: Send>(_thing: &T) {}
-
-    #[test]
-    fn peers_come_over_sockets(rt: HostRuntime) -> Result<(), Fail> {
-        let mut door = HostListener::bind(rt, "127.0.0.1:0")?;
-        let address = door.listener.local_addr()?;
-        let mut other = door.twin()?;
-        let mut first = TcpStream::connect(&rt, address)?;
-        let mut link = door.accept()?;
-        is_sent(&door);
-        is_sent(&link);
-        assert_eq!(rt; first.write(b"ask")?, 3);
-        let mut piece = [0u8; 8];
-        assert_eq!(rt; link.read(&mut piece)?, 3);
-        assert_eq!(rt; link.write(b"answer")?, 6);
-        assert_eq!(rt; first.read(&mut piece)?, 6);
-        assert_eq!(rt; &piece[..6], b"answer".as_slice());
-        let second = TcpStream::connect(&rt, address)?;
-        let mut twins_link = other.accept()?;
-        drop(second);
-        assert_eq!(rt; twins_link.read(&mut piece)?, 0);
-        assert_eq!(rt; (door.out, other.out), (1, 1));
-        door.done(link, 1);
-        other.done(twins_link, 0);
-        assert_eq!(rt; first.read(&mut piece)?, 0);
-        assert_eq!(rt; (door.out, other.out), (0, 0));
-        assert_eq!(rt; (door.accepts, other.accepts), (1, 1));
-        Ok(())
-    }
-
-    #[test]
-    fn a_port_that_is_taken_is_refused(rt: HostRuntime) -> Result<(), Fail> {
-        let door = HostListener::bind(rt, "127.0.0.1:0")?;
-        let address = door.listener.local_addr()?;
-        assert!(rt; TcpListener::bind(&rt, address).is_err());
-        assert!(rt; HostListener::bind(rt, "no address").is_err());
-        assert_eq!(rt; door.why(), None);
-        Ok(())
     }
 }

@@ -3,6 +3,7 @@
 //! `specs/Connections.antt` says what one worker did, `specs/Serving.antt` which places of the desk's history are whose.
 #![tactic(auto)]
 
+mod coming;
 mod door;
 mod ended;
 mod halves;
@@ -12,13 +13,10 @@ mod serving;
 mod share;
 mod worker;
 
+pub use coming::{MemoryListener, Returned};
 pub use door::Listener;
 pub use ended::Ended;
 pub use host_listener::HostListener;
-pub use memory::{MemoryListener, Returned};
 pub use serving::serve;
 pub use share::{Serve, Share};
 pub use worker::Worker;
-
-#[cfg(test)]
-mod tests;

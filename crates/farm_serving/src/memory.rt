@@ -1,80 +1,63 @@
 //! A door in memory, which tells its links.
-ghost use Rattle.std.specs.Prelude.{◌≡◌, ◌+◌, ◌-◌, ◌^◌, ◌<◌, [], ◌∷◌, Some};
+ghost use Rattle.std.specs.Prelude.{◌≡◌, ◌+◌, ◌-◌, ◌^◌, ◌<◌, [], ◌∷◌, Some, length, vec_capacity, IfOk};
 ghost use Rattle.causes.specs.Logs.{LogGrows};
 ghost use Rattle.farm_serving.specs.Memory.{memory_state, links_given, links_taken, links_out, accepts_made, accept_faults};
 
+use crate::coming::{Coming, MemoryListener, Returned};
 use crate::door::Listener;
 use causes::{Failed, FaultCount};
 use http_wire::MemoryLink;
-use std::alloc::Global;
+use std::alloc::{AllocError, Global};
 use std::snapshot::Snapshot;
-
-/// A link that a door took back, with the number of its messages that were asked.
-#[derive(Drop)]
-pub struct Returned {
-    pub link: MemoryLink,
-    pub asked: u64,
-}
-
-/// A door in memory, at which chosen links come. Chosen accepts fail, and so does one that finds no link.
-///
-/// It keeps the links that it took back. Where memory for that runs out, it tells its links no longer.
-#[derive(Drop)]
-pub struct MemoryListener {
-    alloc: Global,
-    coming: Vec<MemoryLink>,
-    twins: Vec<Vec<MemoryLink>>,
-    failing: Vec<u64>,
-    calls: u64,
-    faults: FaultCount,
-    out: u64,
-    tells: bool,
-    given: Vec<Snapshot<MemoryLink>>,
-    returned: Vec<Returned>,
-}
 
 impl MemoryListener {
     /// A door at which these links come, the last of them first. The accepts whose numbers, from 0 on, are in `failing`
     /// fail. At its twins, of which the last is made first, those of `twins` come.
+    ///
+    /// # Errors
+    ///
+    /// Want of memory for what it and its twins tell.
     pub fn new(
         alloc: Global,
         coming: Vec<MemoryLink>,
         failing: Vec<u64>,
         twins: Vec<Vec<MemoryLink>>,
-    ) -> MemoryListener
-        ensures given { links_given result ≡ Some [] }
-        ensures taken { links_taken result ≡ Some [] }
-        ensures out { links_out result ≡ 0 }
-        ensures accepts { accepts_made result ≡ 0 }
-        ensures faults { accept_faults result ≡ 0 }
+    ) -> Result<MemoryListener, AllocError>
+        ensures given { IfOk result (λ door. links_given door ≡ Some []) }
+        ensures taken { IfOk result (λ door. links_taken door ≡ Some []) }
+        ensures out { IfOk result (λ door. links_out door ≡ 0) }
+        ensures accepts { IfOk result (λ door. accepts_made door ≡ 0) }
+        ensures faults { IfOk result (λ door. accept_faults door ≡ 0) }
     {
-        MemoryListener::fresh(alloc, coming, failing, twins, true)
+        let mut roomy = Vec::new(alloc);
+        for links in twins {
+            roomy.push(Coming::new(alloc, links)?)?;
+        }
+        let coming = Coming::new(alloc, coming)?;
+        Ok(MemoryListener::over(alloc, coming, failing, roomy))
     }
 
-    /// The same, which tells its links or does not.
-    fn fresh(
-        alloc: Global,
-        coming: Vec<MemoryLink>,
-        failing: Vec<u64>,
-        twins: Vec<Vec<MemoryLink>>,
-        tells: bool,
-    ) -> MemoryListener
-        ensures tells { result.tells ≡ tells }
+    /// A door at which these links come.
+    fn over(alloc: Global, coming: Coming, failing: Vec<u64>, twins: Vec<Coming>) -> MemoryListener
         ensures given { result.given.items ≡ [] }
         ensures returned { result.returned.items ≡ [] }
         ensures counts { (result.out ≡ 0) × (result.calls ≡ 0) × (result.faults ≡ 0) }
     {
+        let Coming {
+            links,
+            given,
+            returned,
+        } = coming;
         MemoryListener {
             alloc,
-            coming,
+            coming: links,
             twins,
             failing,
             calls: 0,
             faults: FaultCount::new(),
             out: 0,
-            tells,
-            given: Vec::new(alloc),
-            returned: Vec::new(alloc),
+            given,
+            returned,
         }
     }
 
@@ -88,21 +71,19 @@ impl MemoryListener {
     /// Gives a link, which is kept in mind as it is now.
     fn give(&mut self, link: MemoryLink) -> MemoryLink
         requires out { self.old.out < 2 ^ 64 - 1 }
+        requires gives { length self.old.given.items + length self.old.coming.items < vec_capacity self.old.given }
+        requires takes { length self.old.given.items + length self.old.coming.items < vec_capacity self.old.returned }
         ensures same { result ≡ link }
         ensures given { LogGrows (links_given self.old) (links_given self.new) (memory_state link ∷ []) }
         ensures taken { LogGrows (links_taken self.old) (links_taken self.new) [] }
         ensures out { links_out self.new ≡ links_out self.old + 1 }
-        ensures accepts { accepts_made self.new ≡ accepts_made self.old }
-        ensures faults { accept_faults self.new ≡ accept_faults self.old }
+        ensures counts { (accepts_made self.new ≡ accepts_made self.old) × (accept_faults self.new ≡ accept_faults self.old) }
     {
         self.out += 1;
-        match self.given.push(Snapshot::of(&link)) {
-            Ok(()) => link,
-            Err(_) => {
-                self.tells = false;
-                link
-            }
+        if self.given.push(Snapshot::of(&link)).is_err() {
+            unreachable!();
         }
+        link
     }
 }
 
@@ -137,23 +118,21 @@ impl Listener for MemoryListener {
 
     fn done(&mut self, peer: MemoryLink, asked: u64) {
         self.out -= 1;
-        match self.returned.push(Returned { link: peer, asked }) {
-            Ok(()) => {}
-            Err(_) => self.tells = false,
+        if self.returned.push(Returned { link: peer, asked }).is_err() {
+            unreachable!();
         }
     }
 
     fn twin(&mut self) -> Result<MemoryListener, Failed> {
         let coming = match self.twins.pop() {
-            Some(links) => links,
-            None => Vec::new(self.alloc),
+            Some(coming) => coming,
+            None => Coming::none(self.alloc),
         };
-        Ok(MemoryListener::fresh(
+        Ok(MemoryListener::over(
             self.alloc,
             coming,
             Vec::new(self.alloc),
             Vec::new(self.alloc),
-            self.tells,
         ))
     }
 }

@@ -4,14 +4,15 @@ use farm_files::{
 use std::alloc::{AllocError, Global};
 use std::test::Fail;
 
-fn first_fault(alloc: Global, text: &str) -> Option<Fault> {
+/// The first fault of a file, if it has one.
+pub(crate) fn first_fault(alloc: Global, text: &str) -> Option<Fault> {
     match read_farm(alloc, text.as_bytes()) {
         Err(FileFault::Fault(fault)) => Some(fault),
         _ => None,
     }
 }
 
-fn at(table: Table, row: u32, rule: Rule) -> Option<Fault> {
+pub(crate) fn at(table: Table, row: u32, rule: Rule) -> Option<Fault> {
     Some(Fault { table, row, rule })
 }
 
@@ -23,7 +24,7 @@ fn faults_of_the_file(rt: HostRuntime) -> Result<(), Fail> {
         at(Table::File, 0, Rule::NotToml)
     );
     assert_eq!(rt;
-        first_fault(alloc, "[hook]"),
+        first_fault(alloc, "[hooks]"),
         at(Table::File, 0, Rule::UnknownKey)
     );
     assert_eq!(rt;
@@ -31,6 +32,7 @@ fn faults_of_the_file(rt: HostRuntime) -> Result<(), Fail> {
         at(Table::File, 0, Rule::UnknownKey)
     );
     assert_eq!(rt; Rule::NotToml.number(), 1);
+    assert_eq!(rt; Rule::NotJson.number(), 8);
     assert_eq!(rt; Rule::TooLong.number(), 9);
     Ok(())
 }
@@ -201,7 +203,7 @@ fn told(alloc: Global, text: &[u8]) -> Result<String, AllocError> {
 }
 
 /// The first of some rows whose file, before its bar, is told of otherwise than behind it, or `none`.
-fn first_other(alloc: Global, rows: &str) -> Result<&str, Fail> {
+pub(crate) fn first_other(alloc: Global, rows: &str) -> Result<&str, Fail> {
     for row in rows.split('\n') {
         let (text, line) = row.split_once('|').ok_or("a row")?;
         let said = told(alloc, text.as_bytes())?;
@@ -212,7 +214,7 @@ fn first_other(alloc: Global, rows: &str) -> Result<&str, Fail> {
     Ok("none")
 }
 
-const FILES: &str = r#"[hook]|hook: not known: there are [farm], [[role]] and [[client]]
+const FILES: &str = r#"[hooks]|hooks: not known: there are [farm], [[role]], [[client]] and [[hook]]
 farm = 1|farm = 1: it is a table, [farm]
 farm = { prot = 1 }|[farm] prot = 1: not known: the keys are host, port, claim_timeout and max_tasks
 farm = { port = '80' }|[farm] port = "80": it has to be a whole number
@@ -221,7 +223,7 @@ farm = { host = '' }|[farm] host = "": a host is 1 to 255 bytes of printable ASC
 farm = { claim_timeout = 0 }|[farm] claim_timeout = 0: a claim lasts 1 to 86400 seconds
 farm = { max_tasks = -1 }|[farm] max_tasks = -1: a farm takes 1 to 1000000 tasks
 farm.host = '0123456789012345678901234567890123456789012345678901234567890123456789é'|[farm] host = "012345678901234567890123456789012345678901234567890123456789"..: a host is 1 to 255 bytes of printable ASCII
-[role]|role = a table: it is a list of tables, as [[role]] and [[client]] are
+[role]|role = a table: it is a list of tables, as [[role]], [[client]] and [[hook]] are
 role = [1]|[[role]] row 1 = 1: a row is a table
 role = [{ id = 'a', scopes = [] }, { id = 'b', scope = [] }]|[[role]] row 2 (id "b") scope = a list of 0: not known: the keys are id and scopes
 role = [{ id = 'a' }]|[[role]] row 1 (id "a") scopes: it is missing
@@ -311,6 +313,7 @@ fn an_empty_file(rt: HostRuntime) -> Result<(), Fail> {
     assert_eq!(rt; farm.claim_timeout, 1200);
     assert_eq!(rt; farm.max_tasks, 1_000_000);
     assert_eq!(rt; farm.roles.len(), 0);
+    assert_eq!(rt; farm.hooks.len(), 0);
     Ok(())
 }
 

@@ -11,6 +11,7 @@ use farm_machine::tables::{Tables, due, tick};
 use farm_record::Creation;
 use farm_text::{Doc, Moment, SlugId, Text};
 use hawk_auth::{Client, ClientBook};
+use hook_fire::HookBook;
 use http_wire::Bytes;
 use role_expand::{Role, RoleSet};
 use scope_sets::Scope;
@@ -18,6 +19,7 @@ use std::alloc::{AllocError, Global};
 use std::test::Fail;
 use task_defs::read_task;
 
+mod hooks;
 mod runs;
 mod work;
 
@@ -64,6 +66,7 @@ pub(crate) fn config(alloc: Global, count: usize) -> Result<Config, Fail> {
         max_tasks: 1_000_000,
         roles: Grants::new(alloc, roles(alloc, count)?)?,
         clients: clients(alloc)?,
+        hooks: HookBook::new(alloc),
     })
 }
 

@@ -1,5 +1,6 @@
 //! Messages and the calls that they make, by the queue service's reference, and a head by HTTP/1.1.
 use api_routes::{call_of, caller_of, own_reply, reply_head};
+use call_rules::HookName;
 use farm_machine::question::{BodyFault, Call, Caller, PageRequest, Parameter};
 use farm_machine::reply::Reply;
 use farm_record::{Report, RunName};
@@ -39,6 +40,7 @@ fn fault_of<'a>(fault: &'a BodyFault) -> &'a str {
         BodyFault::NoDefinition(fault) => fault.key.as_str(),
         BodyFault::NoWork => "no work",
         BodyFault::NoReason => "no reason",
+        BodyFault::NoPayload => "no payload",
     }
 }
 
@@ -49,6 +51,8 @@ fn parameter_word(parameter: Parameter) -> &'static str {
         Parameter::RunId => "runId",
         Parameter::TaskGroupId => "taskGroupId",
         Parameter::Queue => "queue",
+        Parameter::HookGroupId => "hookGroupId",
+        Parameter::HookId => "hookId",
         Parameter::Limit => "limit",
         Parameter::ContinuationToken => "continuationToken",
     }
@@ -103,6 +107,11 @@ fn run_told(alloc: Global, word: &str, run: u8) -> Result<String, AllocError> {
     format!(in alloc; "{word} {run}")
 }
 
+/// A call of a hook, in words.
+fn hook_told(alloc: Global, hook: &HookName) -> Result<String, AllocError> {
+    format!(in alloc; "trigger {} of {}", hook.id.as_str(), hook.group.as_str())
+}
+
 /// What a message calls, in words.
 fn told(alloc: Global, call: &Call) -> Result<String, AllocError> {
     match call {
@@ -122,6 +131,7 @@ fn told(alloc: Global, call: &Call) -> Result<String, AllocError> {
         Call::ScheduleTask(id) => task_told(alloc, "schedule", *id),
         Call::RerunTask(id) => task_told(alloc, "rerun", *id),
         Call::CancelTask(id) => task_told(alloc, "cancel", *id),
+        Call::TriggerHook(trigger) => hook_told(alloc, &trigger.hook),
     }
 }
 

@@ -1,5 +1,5 @@
 -- A default is there already, or put there.
-use Rattle.std.proofs.Common.{◌≡◌, ℕ, List, true, false, is_some, refl, ap, ◌∙◌}
+use Rattle.std.proofs.Common.{◌≡◌, ℕ, List, true, false, is_some, ap, ◌∙◌}
 use Rattle.farm_text.specs.Moment.{IsMomentText}
 use Rattle.farm_text.specs.Document.{Document, Members, object, member_at, put, text}
 use Rattle.hook_fire.specs.Defaults.{HasDefault}

@@ -1,9 +1,9 @@
 -- A firing has one context, one document and one answer.
-use Rattle.std.proofs.Common.{◌≡◌, ◌≢◌, ℕ, List, Bool, true, false, codes, Option, Some, None, Result, Ok, Err, is_some, refl, sym, ap, subst, ◌∙◌, inl, inr}
+use Rattle.std.proofs.Common.{◌≡◌, ◌≢◌, ℕ, List, Bool, true, false, codes, Some, None, Result, Ok, Err, is_some, refl, sym, ap, subst, ◌∙◌, inl, inr}
 use Rattle.std.specs.Bool.{MatchBool}
 use Rattle.farm_text.specs.Moment.{IsMomentText}
 use Rattle.farm_text.specs.DateTime.{IsDateTime}
-use Rattle.farm_text.specs.Document.{Document, null, boolean, whole, text, array, object, Members, member_at, put, get}
+use Rattle.farm_text.specs.Document.{Document, text, object, Members, member_at, put, get}
 use Rattle.jsone_render.specs.Outcomes.{Outcome, given, faulted, too_much}
 use Rattle.jsone_render.specs.Templates.{IsRendered}
 use Rattle.jsone_render.specs.declared.faults.TemplateFault.{TemplateFault}

@@ -1,8 +1,7 @@
 -- What is written of a moment is read as no other moment, and of one past the last that is read as none.
-use Rattle.std.proofs.Common.{◌≡◌, ℕ, zero, suc, ◌+◌, ◌-◌, ◌*◌, ◌/◌, ◌%◌, ◌^◌, ◌<◌, ◌≤◌, ◌≤ℤ◌, List, [], ◌∷◌, ◌++◌, get_or, drop, ℤ, pos, neg_ℤ, refl, sym, ap, subst, ◌∙◌, inl, inr, arith, append_assoc}
+use Rattle.std.proofs.Common.{◌≡◌, ℕ, zero, suc, ◌+◌, ◌-◌, ◌*◌, ◌/◌, ◌%◌, ◌^◌, ◌<◌, ◌≤◌, ◌≤ℤ◌, List, [], ◌∷◌, ◌++◌, get_or, drop, ℤ, pos, refl, sym, ap, subst, ◌∙◌, inl, inr, arith, append_assoc}
 use Rattle.std.proofs.Math.Nat.{pow-suc}
 use Rattle.jiff_core.specs.Calendar.{days_from_civil, day_count, days_of_months}
-use Rattle.jiff_core.proofs.CalendarLemmas.{days_from_civil-day_count, day_count-epoch}
 use Rattle.jiff_core.proofs.SignedLemmas.{signed_arith}
 use Rattle.farm_text.specs.DateTime.{IsDateTime, IsFullDate, IsOffset, IsHoursMinutes}
 use Rattle.farm_text.specs.Moment.{IsMomentText, last_digits}

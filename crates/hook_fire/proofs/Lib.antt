@@ -2,3 +2,4 @@ pub mod ContextLemmas
 pub mod DefaultLemmas
 pub mod FiringLemmas
 pub mod LateLemmas
+pub mod PlaceLemmas

@@ -1,5 +1,5 @@
 -- What a hook makes when it is fired: the definition that its rendered template says (the Taskcluster reference, 'Hooks'), or why it makes none.
-use Rattle.std.specs.Prelude.{◌≡◌, ℕ, List, Result, MatchResult}
+use Rattle.std.specs.Prelude.{ℕ, List, Result, MatchResult}
 use Rattle.farm_text.specs.Document.{Document}
 use Rattle.jsone_render.specs.Outcomes.{Outcome, given, faulted, too_much}
 use Rattle.jsone_render.specs.Templates.{IsRendered}

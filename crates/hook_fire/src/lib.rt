@@ -1,15 +1,14 @@
-//! Hooks: the definition of the task that a hook makes when it is fired (the Taskcluster reference, 'Hooks').
+//! Hooks: the book of a farm's hooks, and the definition of the task that a hook makes when it is fired (the Taskcluster reference, 'Hooks').
 #![tactic(auto)]
 
+mod book;
 mod context;
 mod defaults;
 mod fault;
 mod firing;
 mod laws;
 
+pub use book::HookBook;
 pub use fault::FireFault;
 pub use firing::{Hook, fire};
-pub use laws::{late_moments_are_not_read, the_firing_is_one};
-
-#[cfg(test)]
-mod tests;
+pub use laws::{hooks_cross_threads, late_moments_are_not_read, the_firing_is_one};

@@ -1,21 +1,23 @@
 //! Sources, sinks and links of the host. They tell as much of what passes through them as the reader or writer below does.
-ghost use Rattle.std.specs.Prelude.{◌≡◌, ◌<◌, ◌↔◌, length, IfOk, None};
+ghost use Rattle.std.specs.Prelude.{◌≡◌, ◌≢◌, ◌<◌, ◌↔◌, length, IfOk, None, Some};
 ghost use Rattle.std.specs.Io.{ReadsAtMost, WritesAtMost};
 ghost use Rattle.std.specs.Io.KnownBytes.{ReadConsumes, WriteAppends};
+ghost use Rattle.std.specs.declared.io.ErrorKind.TheVariants.{Interrupted};
 ghost use Rattle.causes.specs.Causes.{HasCause};
 ghost use Rattle.http_wire.specs.Host.{untold};
 
+use crate::again::{read_again, write_again};
 use crate::link::{Link, Sink, Source};
 use causes::{Failed, FaultCount};
 use std::io::{ErrorKind, Read, Write};
 
-/// A source over any reader. Each error of a read counts, also an interrupted one.
+/// A source over any reader. Each error of a read counts, but that a signal interrupted it: then it is made again.
 #[derive(Drop)]
 pub struct HostSource<R> {
     inner: R,
     faults: FaultCount,
     why: Option<ErrorKind>,
-    ghost told: { (faults ≡ 0) ↔ (why ≡ None) },
+    ghost told: { ((faults ≡ 0) ↔ (why ≡ None)) × (why ≢ Some Interrupted) },
 }
 
 impl<R: Read> HostSource<R> {
@@ -31,9 +33,11 @@ impl<R: Read> HostSource<R> {
         }
     }
 
-    /// Why the last read failed that did, as the reader told it. It is none just where none has.
+    /// Why the last read failed that did, as the reader told it. It is none just where none has, and never
+    /// that a signal interrupted it.
     pub fn why(&self) -> Option<ErrorKind>
-        ensures { (⟦<HostSource<R> as Source>⟧.faults self.now ≡ 0) ↔ (result ≡ None) }
+        ensures told { (⟦<HostSource<R> as Source>⟧.faults self.now ≡ 0) ↔ (result ≡ None) }
+        ensures again { result ≢ Some Interrupted }
     {
         self.why
     }
@@ -45,7 +49,7 @@ impl<R: Read> Source for HostSource<R> {
     ghost faults = { λ s. s.faults };
 
     fn read(&mut self, buf: &mut [u8]) -> Result<usize, Failed> {
-        match self.inner.read(buf) {
+        match read_again(&mut self.inner, buf) {
             Ok(count) => Ok(count),
             Err(error) => {
                 self.faults.raise();
@@ -56,13 +60,13 @@ impl<R: Read> Source for HostSource<R> {
     }
 }
 
-/// A sink over any writer. Each error of a write counts, also an interrupted one, and a write that takes nothing.
+/// A sink over any writer. Each error of a write counts, and a write that takes nothing, but not that a signal interrupted it: then it is made again.
 #[derive(Drop)]
 pub struct HostSink<W> {
     inner: W,
     faults: FaultCount,
     why: Option<ErrorKind>,
-    ghost told: { (faults ≡ 0) ↔ (why ≡ None) },
+    ghost told: { ((faults ≡ 0) ↔ (why ≡ None)) × (why ≢ Some Interrupted) },
 }
 
 impl<W: Write> HostSink<W> {
@@ -78,9 +82,11 @@ impl<W: Write> HostSink<W> {
         }
     }
 
-    /// Why the last write failed that did, as the writer told it. It is none just where none has.
+    /// Why the last write failed that did, as the writer told it. It is none just where none has, and never
+    /// that a signal interrupted it.
     pub fn why(&self) -> Option<ErrorKind>
-        ensures { (⟦<HostSink<W> as Sink>⟧.faults self.now ≡ 0) ↔ (result ≡ None) }
+        ensures told { (⟦<HostSink<W> as Sink>⟧.faults self.now ≡ 0) ↔ (result ≡ None) }
+        ensures again { result ≢ Some Interrupted }
     {
         self.why
     }
@@ -92,7 +98,7 @@ impl<W: Write> Sink for HostSink<W> {
     ghost faults = { λ s. s.faults };
 
     fn write(&mut self, buf: &[u8]) -> Result<usize, Failed> {
-        match self.inner.write(buf) {
+        match write_again(&mut self.inner, buf) {
             Ok(count) if count > 0 || buf.is_empty() => return Ok(count),
             Ok(_) => self.why = Some(ErrorKind::WriteZero),
             Err(error) => self.why = Some(error.kind()),
@@ -102,7 +108,7 @@ impl<W: Write> Sink for HostSink<W> {
     }
 }
 
-/// A link over any stream, as a socket.
+/// A link over any stream, as a socket. A read or a write that a signal interrupts is made again.
 ///
 /// It tells nothing as a link, since a stream says of a read nothing about what is written, nor the other way; its `read` and `write`
 /// say of themselves what the stream does.
@@ -146,7 +152,7 @@ impl<S: Read + Write> Link for StreamLink<S> {
         // It is a read of the stream below.
         ensures below { ReadConsumes (S.remaining self.old.inner) (S.remaining self.new.inner) result buf.new }
     {
-        match self.inner.read(buf) {
+        match read_again(&mut self.inner, buf) {
             Ok(count) => Ok(count),
             Err(_) => {
                 self.read_faults.raise();
@@ -166,7 +172,7 @@ impl<S: Read + Write> Link for StreamLink<S> {
         // It is a write to the stream below.
         ensures below { WriteAppends (S.contents self.old.inner) (S.contents self.new.inner) result buf.now }
     {
-        match self.inner.write(buf) {
+        match write_again(&mut self.inner, buf) {
             Ok(count) if count > 0 || buf.is_empty() => Ok(count),
             _ => {
                 self.write_faults.raise();

@@ -5,6 +5,7 @@
 //! memory, and counts the calls that failed.
 #![tactic(auto)]
 
+mod again;
 mod body;
 mod head;
 mod host;

@@ -12,6 +12,3 @@ mod pieces;
 
 pub use context::Context;
 pub use evaluator::{Cost, EvalFault, eval};
-
-#[cfg(test)]
-mod tests;

@@ -1,5 +1,5 @@
 -- A template whole, with its context.
-use Rattle.std.proofs.Common.{◌≡◌, ℕ, Bool, true, false, List, [], ◌∷◌, Option, Some, Err, refl, sym, ap, subst, ◌∙◌}
+use Rattle.std.proofs.Common.{◌≡◌, ℕ, Bool, true, false, List, [], ◌∷◌, Option, Some, refl, sym, ap, subst, ◌∙◌}
 use Rattle.std.specs.Bool.{MatchBool}
 use Rattle.std.specs.List.{list_all}
 use Rattle.farm_text.specs.Document.{Document, null, boolean, whole, text, array, object, Members}
@@ -7,14 +7,11 @@ use Rattle.farm_text.specs.Doc.{document, documents}
 use Rattle.jsone_values.specs.declared.faults.Fault.TheVariants.{BadContext}
 use Rattle.jsone_eval.specs.declared.context.Context.{Context}
 use Rattle.jsone_eval.specs.Scopes.{scopes_of}
-use Rattle.jsone_render.specs.declared.faults.RenderFault.{RenderFault}
-use Rattle.jsone_render.specs.declared.faults.RenderFault.TheVariants.{Fault as a_fault, TooMuchWork, NoMemory}
-use Rattle.jsone_render.specs.Answers.{Answers, IsAnswer, LacksMap, found_in}
+use Rattle.jsone_render.specs.Answers.{LacksMap}
 use Rattle.jsone_render.specs.Maps.{keys_of}
 use Rattle.jsone_render.specs.Names.{is_name}
 use Rattle.jsone_render.specs.Outcomes.{Outcome, given, faulted, or_null, Operand}
 use Rattle.jsone_render.specs.Templates.{Renders, IsRendered}
-use Rattle.jsone_render.proofs.OutcomeLemmas.{fault_through}
 
 -- nothing is bound but the names of the context
 pub only_scope : (c : Context) (d : Document) → document c.outermost.now ≡ d → c.bindings.items ≡ [] → scopes_of c ≡ d ∷ []
@@ -41,17 +38,3 @@ template_found template context d ms scopes n m found e names only zero h is =
     let there : Renders template (object ms ∷ []) 0 (given found m) =
     subst (λ x. Renders template (x ∷ []) 0 (given found m)) e (subst (λ k. Renders template (context ∷ []) k (given found m)) zero (subst (λ x. Renders template x n (given found m)) only h)) in
     (m, subst (λ x. IsRendered template x (given d m)) (sym e) (by_names template ms true (given d m) names (given found m, there, ap (λ x. given x m) is)))
-
-answer_is : (Is Whole : Outcome Document → Type 0) (f : RenderFault) (m : ℕ) → ((o : Outcome Document) → Is o → Whole o) → Answers (λ (d : Document). d) Is (Err f) m → IsAnswer Whole (Err f)
-answer_is Is Whole (a_fault f) m leads h = leads _ h
-answer_is Is Whole TooMuchWork m leads h = leads _ h
-answer_is Is Whole NoMemory m leads h = tt
-
-pub template_fault : (template context : Document) (ms : Members) (scopes : List Document) (n m : ℕ) (f : RenderFault) → context ≡ object ms → list_all is_name (keys_of ms) ≡ true → scopes ≡ context ∷ [] → n ≡ 0
-    → Answers found_in (Renders template scopes n) (Err f) m → IsAnswer (IsRendered template context) (Err f)
-template_fault template context ms scopes n m f e names only zero h =
-    let there : Answers found_in (Renders template (object ms ∷ []) 0) (Err f) m =
-    subst (λ x. Answers found_in (Renders template (x ∷ []) 0) (Err f) m) e (subst (λ k. Answers found_in (Renders template (context ∷ []) k) (Err f) m) zero (subst (λ x. Answers found_in (Renders template x n) (Err f) m) only h)) in
-    subst (λ x. IsAnswer (IsRendered template x) (Err f)) (sym e)
-    (answer_is (Operand (Renders template) (object ms ∷ []) 0 (λ d k p. p ≡ given d k)) (IsRendered template (object ms)) f m (λ o k. by_names template ms true o names k)
-    (fault_through found_in (λ (d : Document). d) (Renders template (object ms ∷ []) 0) (λ x k p. p ≡ given (or_null x) k) f m m there))

@@ -1,19 +1,12 @@
 -- An expression's text, and what it comes to.
-use Rattle.std.proofs.Common.{◌≡◌, ℕ, List, [], Result, Ok, Err, IfOk, inl, inr, refl, subst}
-use Rattle.farm_text.specs.Document.{Document}
-use Rattle.jsone_values.specs.declared.faults.Fault.TheVariants.{Syntax, TooDeep}
+use Rattle.std.proofs.Common.{◌≡◌, ℕ, List, Result, Ok, Err, IfOk, refl}
 use Rattle.jsone_expr.specs.declared.parser.ParseFault.{ParseFault}
 use Rattle.jsone_expr.specs.declared.parser.ParseFault.TheVariants.{Syntax as syntax_fault, TooDeep as too_deep_fault, NoMemory as parse_memory}
 use Rattle.jsone_expr.specs.declared.parser.Tree.{Tree as ExprTree}
-use Rattle.jsone_expr.specs.Postfix.{postfix}
 use Rattle.jsone_expr.specs.Texts.{IsParsed, IsTooDeep, IsBadByte}
-use Rattle.jsone_expr.specs.Trees.{Tree as Shape}
 use Rattle.jsone_expr.proofs.TextLemmas.{tree_or_bad}
-use Rattle.jsone_eval.specs.Outcomes.{Outcome as EvalOutcome}
-use Rattle.jsone_eval.specs.Values.{IsOutcome}
 use Rattle.jsone_render.specs.Answers.{IsParse}
-use Rattle.jsone_render.specs.Expressions.{told, HasTree, Evaluated}
-use Rattle.jsone_render.specs.Outcomes.{faulted}
+use Rattle.jsone_render.specs.Expressions.{HasTree}
 
 pub parse_so : (source : List ℕ) (r : Result ExprTree ParseFault) → IfOk r (λ tree. tree.text.now ≡ source) → IfOk r (λ tree. IsParsed source tree.nodes.items)
     → ((i : ℕ) → r ≡ Err (syntax_fault i) → IsBadByte source i) → (r ≡ Err too_deep_fault → IsTooDeep source) → IsParse source r
@@ -22,30 +15,8 @@ parse_so source (Err (syntax_fault i)) same is bad deep = λ has. tree_or_bad so
 parse_so source (Err too_deep_fault) same is bad deep = deep refl
 parse_so source (Err parse_memory) same is bad deep = tt
 
-pub by_tree : (source : List ℕ) (scopes : List Document) (n : ℕ) (r : Result ExprTree ParseFault) (tree : ExprTree) (p : EvalOutcome) → r ≡ Ok tree
-    → ((t : Shape) → tree.nodes.items ≡ postfix t → IsOutcome (record { source = tree.text.now; scopes = scopes }) t n p) → IsParse source r → Evaluated source scopes n (told p)
-by_tree source scopes n r tree p e evaluates h =
-    let (same, is) = subst (IsParse source) e h in
-    inl (record {
-      tree = is.tree;
-      of_text = is.of_text;
-      shallow = is.shallow;
-      value = p;
-      evaluated = subst (λ (x : List ℕ). IsOutcome (record { source = x; scopes = scopes }) is.tree n p) same (evaluates is.tree is.written);
-      is = refl;
-    })
-
-pub no_expression : (source : List ℕ) (scopes : List Document) (n : ℕ) (r : Result ExprTree ParseFault) (i : ℕ) → r ≡ Err (syntax_fault i) → IsParse source r → Evaluated source scopes n (faulted Syntax [])
-no_expression source scopes n r i e h = inr (inr (subst (IsParse source) e h, refl))
-
-pub deep_expression : (source : List ℕ) (scopes : List Document) (n : ℕ) (r : Result ExprTree ParseFault) → r ≡ Err too_deep_fault → IsParse source r → Evaluated source scopes n (faulted TooDeep [])
-deep_expression source scopes n r e h = inr (inl (subst (IsParse source) e h, refl))
-
 pub parsed_tree : (source : List ℕ) (tree : ExprTree) → IsParsed source tree.nodes.items → HasTree source
 parsed_tree source tree is = (is.tree, is.of_text)
 
 pub deep_tree : (source : List ℕ) → IsTooDeep source → HasTree source
 deep_tree source is = (is.tree, is.of_text)
-
-pub bad_text : (source : List ℕ) (i : ℕ) → IsBadByte source i → ¬ HasTree source
-bad_text source i bad has = tree_or_bad source has.0 i has.1 bad

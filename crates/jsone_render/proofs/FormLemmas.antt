@@ -1,17 +1,15 @@
 -- The form of a map, step by step.
-use Rattle.std.proofs.Common.{◌≡◌, ℕ, suc, true, false, List, [], ◌∷◌, ◌++◌, get_or, Option, Result, inl, refl, sym, ap, ap₂, subst, ◌∙◌, arith, Bor}
+use Rattle.std.proofs.Common.{◌≡◌, ℕ, suc, true, false, List, [], ◌∷◌, ◌++◌, get_or, inl, refl, sym, ap, ap₂, subst, ◌∙◌, arith, Bor}
 use Rattle.std.proofs.lemmas.Bool.{false≢true}
 use Rattle.std.proofs.lemmas.List.{append_cancel_left}
 use Rattle.std.specs.List.{list_all}
 use Rattle.farm_text.specs.Document.{Members}
-use Rattle.jsone_values.specs.declared.faults.Fault.{Fault}
 use Rattle.jsone_values.specs.declared.faults.Fault.TheVariants.{BadOperator}
 use Rattle.jsone_render.specs.declared.keys.Others.{Others}
 use Rattle.jsone_render.specs.declared.keys.Others.TheVariants.{None as no_others, One as one_other, More as more_others}
 use Rattle.jsone_render.specs.declared.operators.Operator.{Operator}
 use Rattle.jsone_render.specs.Answers.{AreOthers}
-use Rattle.jsone_render.specs.Forms.{Form, faulty, binding, operator_in, has_words, binding_word, takes_names, Binds, ByOthers, ByOperator, IsForm}
-use Rattle.jsone_render.specs.Maps.{keys_of}
+use Rattle.jsone_render.specs.Forms.{Form, faulty, binding, has_words, binding_word, takes_names, Binds, ByOthers}
 use Rattle.jsone_render.specs.Names.{is_name, between_commas, are_distinct, IsBinder}
 use Rattle.jsone_render.proofs.BinderLemmas.{Lacks, name_lacks, has_comma, both, same_inside}
 
@@ -99,6 +97,3 @@ pub by_more : (o : Others) (operator : Operator) (ms : Members) → o ≡ more_o
 by_more o operator ms e ks are =
     let (a, b, more, is) = subst (λ x. AreOthers x ks) e are in
     subst (λ l. ByOthers l operator ms (faulty BadOperator)) (sym is) refl
-
-pub by_operator : (ms : Members) (f : Form) (r : Result (Option Operator) Fault) → r ≡ operator_in (keys_of ms) → ByOperator r ms f → IsForm ms f
-by_operator ms f r e h = subst (λ x. ByOperator x ms f) e h

@@ -3,7 +3,7 @@ use Rattle.std.proofs.Common.{◌≡◌, ℕ, List, [], ◌∷◌, ◌++◌, Opt
 use Rattle.farm_text.specs.Document.{Document, null, boolean, whole, whole as integer, text, array, object, items_of, Members}
 use Rattle.jsone_values.specs.declared.faults.Fault.TheVariants.{WrongKind}
 use Rattle.jsone_values.specs.Members.{listed}
-use Rattle.jsone_render.specs.Answers.{IsNoMap, IsNoList, IsNoText}
+use Rattle.jsone_render.specs.Answers.{IsNoMap, IsNoText}
 use Rattle.jsone_render.specs.Expressions.{OfText}
 use Rattle.jsone_render.specs.Merges.{merged, merged_onto, merge_of, reverse_of, flattened}
 use Rattle.jsone_render.specs.Bindings.{numbered}
@@ -18,14 +18,6 @@ no_map ms (boolean b) ds h = refl
 no_map ms (whole z) ds h = refl
 no_map ms (text bs) ds h = refl
 no_map ms (array es) ds h = refl
-
-pub no_list : (d : Document) (ds : List Document) → IsNoList d → flattened (d ∷ ds) ≡ d ∷ flattened ds
-no_list (array es) ds h = absurd h
-no_list null ds h = refl
-no_list (boolean b) ds h = refl
-no_list (whole z) ds h = refl
-no_list (text bs) ds h = refl
-no_list (object ms) ds h = refl
 
 pub no_text : {A : Type 0} (x : Option Document) (Is : List ℕ → Outcome A → Type 0) → IsNoText x → OfText x Is (faulted WrongKind [])
 no_text (Some (text bs)) Is h = absurd h

@@ -1,12 +1,13 @@
 pub mod KeyLemmas
 pub mod OutcomeLemmas
-pub mod PayLemmas
 pub mod BinderLemmas
 pub mod FormLemmas
 pub mod EvaluationLemmas
 pub mod PathLemmas
 pub mod ScopeLemmas
 pub mod CutLemmas
+pub mod TokenLemmas
+pub mod BracketLemmas
 pub mod TextLemmas
 pub mod TemplateLemmas
 pub mod MapLemmas

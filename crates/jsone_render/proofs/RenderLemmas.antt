@@ -19,11 +19,10 @@ use Rattle.jsone_render.specs.declared.faults.RenderFault.{RenderFault}
 use Rattle.jsone_render.specs.declared.operators.Operator.{Operator}
 use Rattle.jsone_render.specs.declared.operators.Operator.TheVariants.{Eval, If, Switch, Match, Let, Map, Reduce, Find, Sort, FromNow}
 use Rattle.jsone_render.specs.Answers.{Answers, Kept, IsUnder, IsNoMap, IsNoList, LacksMap, Finishes, branch_taken, found_in, strings_in}
-use Rattle.jsone_render.specs.Bindings.{LetIn, numbered, turns_of, EachRenders, MappedOver, TurnsReduce, ReducedOver}
+use Rattle.jsone_render.specs.Bindings.{LetIn, numbered, EachRenders, MappedOver, TurnsReduce, ReducedOver}
 use Rattle.jsone_render.specs.Conditions.{Taken, OneTaken, SwitchRenders, MatchRenders}
 use Rattle.jsone_render.specs.Forms.{Form, IsForm, key_of}
 use Rattle.jsone_render.specs.Maps.{keys_of, kept_at, KeysRender}
-use Rattle.jsone_render.specs.Merges.{merged}
 use Rattle.jsone_render.specs.Names.{is_name}
 use Rattle.jsone_render.specs.Outcomes.{Outcome, given, faulted, pay, worth, at_operator, as_found, kept, After, Meaning, Operand}
 use Rattle.jsone_render.specs.Templates.{Given, SpanRenders, AloneRenders, BoundOver, Under, Renders, ItemsRender, ValuesRender, MemberRenders, BranchRenders, FormRenders}
@@ -201,15 +200,6 @@ takes_none Find key names ms Member d s n a b c e = absurd (c refl)
 takes_none Sort key names ms Member d s n a b c e = absurd (e refl)
 takes_none _ key names ms Member d s n a b c e = refl
 
--- `$map` over a list and over a map, and `$reduce` over a list
-pub map_kind : (Body : Meaning) (names : List (List ℕ)) (d : Document) (s : List Document) (n : ℕ) → IsNoList d → IsNoMap d → MappedOver Body names d s n (faulted WrongKind [])
-map_kind Body names (array ds) s n h k = absurd h
-map_kind Body names (object ms) s n h k = absurd k
-map_kind Body names null s n h k = refl
-map_kind Body names (boolean b) s n h k = refl
-map_kind Body names (whole z) s n h k = refl
-map_kind Body names (text bs) s n h k = refl
-
 pub reduce_kind : (Body : Meaning) (names : List (List ℕ)) (initial d : Document) (s : List Document) (n : ℕ) → IsNoList d → ReducedOver Body names initial d s n (faulted WrongKind [])
 reduce_kind Body names initial (array ds) s n h = absurd h
 reduce_kind Body names initial null s n h = refl
@@ -251,21 +241,6 @@ of_mapped_list_fault Body names d ds turns s n m k f e is h =
     subst (λ y. Answers found_in (MappedOver Body names y s n) (Err f) k) (sym e)
     (fault_through (λ (v : Vec Doc Global). documents v.items) found_in (EachRenders Body names [] (numbered 0 (listed (items_of ds))) s n) (λ es m p. p ≡ worth m (Some (array (items_of es)))) f m k
     (subst (λ ts. Answers (λ (v : Vec Doc Global). documents v.items) (EachRenders Body names [] ts s n) (Err f) m) (is ∙ ap (numbered 0) (sym (listed-items_of ds))) h))
-
--- and over a map
-pub of_mapped_map : (Body : Meaning) (names : List (List ℕ)) (d : Document) (ms : Members) (turns : Turns) (es : List Document) (s : List Document) (n m : ℕ) (made : Result Doc Stop) (r : Found) (k : ℕ) → d ≡ object ms → turns ≡ turns_of names ms
-    → EachRenders Body names [] turns s n (given es m) → Meets (λ x. x ≡ merged es) made → Finishes made m r k → Answers found_in (MappedOver Body names d s n) r k
-of_mapped_map Body names d ms turns es s n m made r k e is h meets finishes =
-    subst (λ y. Answers found_in (MappedOver Body names y s n) r k) (sym e)
-    (answer_through found_in (λ o. (x : Result Document Fault) × (x ≡ merged es) × (o ≡ at_operator m (as_found x))) (MappedOver Body names (object ms) s n) r k
-    (λ o l. (given es m, subst (λ ts. EachRenders Body names [] ts s n (given es m)) is h, l.2 ∙ ap (λ x. at_operator m (as_found x)) l.1)) (made_so made (λ x. x ≡ merged es) m r k meets finishes))
-
-pub of_mapped_map_fault : (Body : Meaning) (names : List (List ℕ)) (d : Document) (ms : Members) (turns : Turns) (s : List Document) (n m k : ℕ) (f : RenderFault) → d ≡ object ms → turns ≡ turns_of names ms
-    → Answers (λ (v : Vec Doc Global). documents v.items) (EachRenders Body names [] turns s n) (Err f) m → Answers found_in (MappedOver Body names d s n) (Err f) k
-of_mapped_map_fault Body names d ms turns s n m k f e is h =
-    subst (λ y. Answers found_in (MappedOver Body names y s n) (Err f) k) (sym e)
-    (fault_through (λ (v : Vec Doc Global). documents v.items) found_in (EachRenders Body names [] (turns_of names ms) s n) (λ es m p. p ≡ at_operator m (as_found (merged es))) f m k
-    (subst (λ ts. Answers (λ (v : Vec Doc Global). documents v.items) (EachRenders Body names [] ts s n) (Err f) m) is h))
 
 -- `$reduce` over a list
 pub reduce_list : (Body : Meaning) (names : List (List ℕ)) (initial d : Document) (ds : List Document) (turns : Turns) (s : List Document) (n : ℕ) (o : Outcome (Option Document)) → d ≡ array (items_of ds) → turns ≡ numbered 0 ds

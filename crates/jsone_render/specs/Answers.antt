@@ -1,6 +1,6 @@
 -- What functions of this crate answer; for private clauses.
 use denote.Ref.{Bor}
-use Rattle.std.specs.Prelude.{◌≡◌, ℕ, Bool, List, [], ◌∷◌, ◌++◌, Option, Some, None, map, option_map, Result, Ok, Err, String, string_bytes}
+use Rattle.std.specs.Prelude.{◌≡◌, ℕ, ◌<◌, length, take, slice_index, Bool, List, [], ◌∷◌, ◌++◌, Option, Some, None, map, option_map, Result, Ok, Err, String, string_bytes}
 use Rattle.std.specs.declared.alloc.Global.{Global}
 use Rattle.farm_text.specs.Document.{Document, text, array, object}
 use Rattle.farm_text.specs.Doc.{document}
@@ -95,6 +95,11 @@ form_in (binding_map o key names) = binding o key.now (names_in names)
 abbrev pub EndsAt : List ℕ → Option (Bor (List ℕ) × Bor (List ℕ)) → Type 0
 EndsAt behind (Some (source, rest)) = (behind ≡ source.now ++ 125 ∷ rest.now) × IsShortest behind source.now
 EndsAt behind None = NoneEnds behind
+
+-- no expression ends before another `}` than this one
+abbrev pub EndsOnlyAt : List ℕ → Option ℕ → Type 0
+EndsOnlyAt behind (Some end) = (end < length behind) × (slice_index behind end ≡ 125) × ((i : ℕ) → i < length behind → slice_index behind i ≡ 125 → HasTree (take i behind) → i ≡ end)
+EndsOnlyAt behind None = NoneEnds behind
 
 -- a fault, unless memory runs out
 abbrev pub IsStop : {A : Type 0} → Result A Fault → Stop → Type 0

@@ -2,6 +2,7 @@ pub mod Outcomes
 pub mod Names
 pub mod Expressions
 pub mod Texts
+pub mod Ends
 pub mod Maps
 pub mod Forms
 pub mod Merges

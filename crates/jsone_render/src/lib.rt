@@ -5,6 +5,7 @@ mod applied;
 mod binders;
 mod bindings;
 mod conditions;
+mod ends;
 pub mod faults;
 mod forms;
 mod keys;

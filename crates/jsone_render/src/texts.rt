@@ -7,6 +7,7 @@ ghost use Rattle.jsone_render.specs.Answers.{Answers, Kept, found_in, EndsAt, Is
 ghost use Rattle.jsone_render.specs.Expressions.{HasTree};
 ghost use Rattle.jsone_render.specs.Texts.{ends_with_dollar, shown, Valued, Interpolated, Written, TextRenders};
 
+use crate::ends::only_end;
 use crate::faults::RenderFault;
 use crate::paths::here;
 use crate::renderer::{Renderer, parsed};
@@ -52,17 +53,17 @@ fn cut_expression<'a>(
     ensures { IfOk result (EndsAt behind.now) }
 {
     let bytes = behind.as_bytes();
-    let mut taken = 0usize;
-    let mut rest = behind;
-    while let Some((piece, next)) = rest.split_once("}") {
-        let end = taken + piece.len();
-        if has_tree(alloc, &bytes[..end])? {
-            return Ok(Some((&bytes[..end], next)));
+    match only_end(bytes) {
+        Some(end) => {
+            let source = &bytes[..end];
+            if has_tree(alloc, source)? {
+                Ok(Some((source, &behind[end + 1..])))
+            } else {
+                Ok(None)
+            }
         }
-        taken = end + 1;
-        rest = next;
+        None => Ok(None),
     }
-    Ok(None)
 }
 
 fn ends_with_dollar(text: &[u8]) -> bool

@@ -13,6 +13,3 @@ pub use laws::no_two_routes_fit;
 pub use path::PathForm;
 pub use route::Route;
 pub use table::{Found, Table};
-
-#[cfg(test)]
-mod tests;

@@ -21,7 +21,13 @@ const YIELDING: u32 = 12;
 /// The rounds that spin or yield the processor, of the one who is next.
 const YIELDING_NEXT: u32 = 64;
 
-/// The most microseconds that a round sleeps.
+/// The tickets before a caller's own from which on it is woken as each is served. So a raise wakes few.
+const NEAR: u64 = 3;
+
+/// The microseconds after which a caller that is near looks again, also where nobody woke it.
+const LONGEST_NAP: u64 = 10_000;
+
+/// The most microseconds that a round sleeps, of those who are not near.
 const LONGEST_SLEEP: u64 = 96;
 
 /// One ask: draws a ticket, waits until it is served, asks the object, and lets the next ticket be served.
@@ -43,7 +49,17 @@ pub(crate) fn ask_in_turn<O: Object, R: Wait>(
     let asked = Snapshot::of(&question);
     let answer = ask_object(hall, seat, question);
     raise::<O, Brand>(hall, seat, &asked, &answer);
+    wake_near(hall, ticket);
     answer
+}
+
+/// Wakes the callers that are near, where some have drawn a ticket behind this one.
+fn wake_near<O: Object>(hall: &Hall<O>, ticket: u64)
+    requires { hall.now.table_id.words ≡ 2 }
+{
+    if hall.peek(0) > ticket.saturating_add(1) {
+        hall.wake_all(1);
+    }
 }
 
 /// Waits until the ticket is served, and takes the object.
@@ -64,29 +80,39 @@ fn await_turn<O: Object, R: Wait>(rt: &R, hall: &Hall<O>, seat: &mut Seat<O>, ti
             round = 0;
             before = served;
         }
-        pause(rt, hall, served, ticket.saturating_sub(served) == 1, round);
+        pause(rt, hall, served, ticket.saturating_sub(served), round);
         round = round.saturating_add(1);
     }
     unreachable!()
 }
 
-/// Waits a little: spins at first, then yields the processor, then sleeps, each time longer, but for less than 100 microseconds.
-/// Who is next yields for longer, since it is soon served.
-fn pause<O: Object, R: Wait>(rt: &R, hall: &Hall<O>, served: u64, is_next: bool, round: u32)
+/// Waits a little: spins at first, then yields the processor, and then sleeps. Who is next yields for longer, since it is soon served. Who is
+/// near sleeps until the next ticket is served; the others for a time that grows, and is less than 100 microseconds.
+fn pause<O: Object, R: Wait>(rt: &R, hall: &Hall<O>, served: u64, distance: u64, round: u32)
     requires { hall.now.table_id.words ≡ 2 }
 {
-    let yielding = if is_next { YIELDING_NEXT } else { YIELDING };
+    let yielding = if distance == 1 {
+        YIELDING_NEXT
+    } else {
+        YIELDING
+    };
     if round < SPINNING {
         for _ in 0..1u32 << round {
             hint::spin_loop();
         }
     } else if round < yielding {
         thread::yield_now();
+    } else if distance <= NEAR {
+        hall.park_timeout(rt, 1, low(served), Duration::from_micros(LONGEST_NAP));
     } else {
         let micros = (4 * u64::from(round - yielding + 1)).min(LONGEST_SLEEP);
-        let low = (served % 4_294_967_296) as u32;
-        hall.park_timeout(rt, 1, low, Duration::from_micros(micros));
+        hall.park_timeout(rt, 0, low(hall.peek(0)), Duration::from_micros(micros));
     }
+}
+
+/// The low 32 bits of a word.
+fn low(word: u64) -> u32 {
+    (word % 4_294_967_296) as u32
 }
 
 /// Asks the object that the caller has.

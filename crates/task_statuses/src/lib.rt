@@ -6,8 +6,6 @@ mod laws;
 mod names;
 mod runs;
 mod status;
-#[cfg(test)]
-mod tests;
 
 pub use definition::definition_doc;
 pub use laws::moments_have_texts;

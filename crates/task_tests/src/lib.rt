@@ -1,10 +1,13 @@
-//! Tests of definitions, records, runs, rows and scopes of tasks: of `task_defs`, `farm_record`, `run_states`, `farm_rows`, `call_rules`.
+//! Tests of definitions, records, runs, rows, statuses, scopes and hooks of tasks: of `task_defs`, `farm_record`, `run_states`,
+//! `farm_rows`, `task_statuses`, `call_rules`, `hook_fire`.
 //!
 //! They stand in a crate of their own since the gate proves a crate's tests together with the crate: here it proves the tests alone.
 #![tactic(auto)]
 
 #[cfg(test)]
 mod definitions;
+#[cfg(test)]
+mod hooks;
 #[cfg(test)]
 mod records;
 #[cfg(test)]
@@ -13,3 +16,5 @@ mod rows;
 mod runs;
 #[cfg(test)]
 mod scopes;
+#[cfg(test)]
+mod statuses;

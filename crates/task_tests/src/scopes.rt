@@ -1,13 +1,13 @@
 //! What creating a task asks, against an expression that was worked by hand.
 use call_rules::{
-    Call, cancel_scopes, claim_scopes, expression, reclaim_scope, rerun_scopes, resolve_scope,
-    schedule_scopes,
+    Call, HookGroupId, HookId, HookName, cancel_scopes, claim_scopes, expression, reclaim_scope,
+    rerun_scopes, resolve_scope, schedule_scopes,
 };
 use farm_text::{Doc, SlugId, Text};
 use scope_sets::Expr;
 use std::alloc::Global;
 use std::test::Fail;
-use task_defs::{Identifier, TaskDef, TaskQueue, read_task};
+use task_defs::{Identifier, TaskDef, read_task};
 
 /// A task of priority high with a scope and a route.
 #[test]
@@ -26,20 +26,29 @@ fn scoped(alloc: Global) -> Result<TaskDef, Fail> {
 }
 
 fn calls_ask_holds(alloc: Global, id: SlugId, def: &TaskDef) -> bool {
-    match identifier(alloc, "w") {
-        Some(worker) => calls_ask(alloc, id, def, &def.queue, &worker),
-        None => false,
+    match (identifier(alloc, "w"), hook_name(alloc)) {
+        (Some(worker), Some(hook)) => calls_ask(alloc, id, def, &worker, &hook),
+        _ => false,
     }
+}
+
+/// The hook `h` of group `g`.
+fn hook_name(alloc: Global) -> Option<HookName> {
+    let group = HookGroupId::new(Text::from_str(alloc, "g").ok()?)?;
+    let id = HookId::new(Text::from_str(alloc, "h").ok()?)?;
+    Some(HookName { group, id })
 }
 
 fn calls_ask(
     alloc: Global,
     id: SlugId,
     def: &TaskDef,
-    queue: &TaskQueue,
     worker: &Identifier,
+    hook: &HookName,
 ) -> bool {
-    matches!(expression(alloc, Call::CreateTask(def)), Ok(asked) if is_creation(&asked))
+    let queue = &def.queue;
+    matches!(expression(alloc, Call::TriggerHook(hook)), Ok(asked) if is_one(&asked, "hooks:trigger-hook:g/h"))
+        && matches!(expression(alloc, Call::CreateTask(def)), Ok(asked) if is_creation(&asked))
         && matches!(expression(alloc, Call::Status(id)), Ok(asked) if is_one(&asked, "queue:status:AAAAAAAAQACAAAAAAAAAAA"))
         && matches!(expression(alloc, Call::Task(id)), Ok(asked) if is_one(&asked, "queue:get-task:AAAAAAAAQACAAAAAAAAAAA"))
         && matches!(expression(alloc, Call::ListTaskGroup(id)), Ok(asked) if is_one(&asked, "queue:list-task-group:AAAAAAAAQACAAAAAAAAAAA"))

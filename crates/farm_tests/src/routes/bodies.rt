@@ -50,3 +50,20 @@ fn workers_tell_why_a_run_ended(rt: HostRuntime) -> Result<(), Fail> {
     assert_eq!(rt; first_other(rt.alloc(), REASONS)?, "none");
     Ok(())
 }
+
+const PAYLOADS: &str = r#"POST /api/hooks/v1/hooks/g/h/trigger|{"x":[]}|trigger h of g
+POST /api/hooks/v1/hooks/%67_1/h%2Fi/trigger?a|{}|trigger h/i of g_1
+POST /api/hooks/v1/hooks/g/h/trigger|[]|no payload
+POST /api/hooks/v1/hooks/g/h/trigger|null|no payload
+POST /api/hooks/v1/hooks/g/h/trigger||no JSON
+POST /api/hooks/v1/hooks/g/h/trigger|{"x":1.5}|/x
+POST /api/hooks/v1/hooks/g%2Fg/h.i/trigger||bad hookGroupId
+POST /api/hooks/v1/hooks/g/h.i/trigger||bad hookId
+POST /api/hooks/v1/hooks/g/%ff/trigger|{}|bad hookId
+POST /api/hooks/v1/hooks//h/trigger|{}|no route /api/hooks/v1/hooks//h/trigger"#;
+
+#[test]
+fn hooks_are_triggered_with_objects(rt: HostRuntime) -> Result<(), Fail> {
+    assert_eq!(rt; first_other(rt.alloc(), PAYLOADS)?, "none");
+    Ok(())
+}

@@ -45,7 +45,10 @@ GET /api/queue/v1/pending/prov||bad queue
 GET /api/queue/v1/pending/prov%2Fwt/x||bad queue
 GET /api/queue/v1/pending/prov/w.t||bad queue
 GET /api/queue/v1/pending/prov/wt/||no route /api/queue/v1/pending/prov/wt/
-POST /api/hooks/v1/hooks/g/h/trigger|{}|no route /api/hooks/v1/hooks/g/h/trigger"#;
+POST /api/hooks/v1/hooks/g/h/trigger|{}|trigger h of g
+GET /api/hooks/v1/hooks/g/h/trigger||no route /api/hooks/v1/hooks/g/h/trigger
+POST /api/hooks/v1/hooks/g/h/i/trigger|{}|no route /api/hooks/v1/hooks/g/h/i/trigger
+POST /api/queue/v1/hooks/g/h/trigger|{}|no route /api/queue/v1/hooks/g/h/trigger"#;
 
 #[test]
 fn each_route_is_its_own(rt: HostRuntime) -> Result<(), Fail> {

@@ -7,11 +7,11 @@ use Rattle.dep_graph.proofs.edges.add_edges.Goals as goal
 use Rattle.dep_graph.proofs.edges.add_edges.Goals.{in-Some, in-None}
 
 pub loop-dependency-init : goal.loop-dependency-init
-loop-dependency-init c = (adds-first (rows_of c.args.tasks.now) c.args.dependencies.now c.args.row c.args.edges.now.items c.requires.len c.requires.rooms, refl, refl)
+loop-dependency-init c = (adds-first (rows_of c.args.tasks.now.tasks) c.args.dependencies.now c.args.row c.args.edges.now.items c.requires.len c.requires.rooms, refl, refl)
 
 pub add_edge-requires-clause-within : goal.add_edge-requires-clause-within
 add_edge-requires-clause-within c =
-    let rows = rows_of c.args.tasks.now in
+    let rows = rows_of c.args.tasks.now.tasks in
     let names = c.args.dependencies.now in
     let i = c.loop-dependency.dependency-index in
     let edges = c.loop-dependency.edges.items in
@@ -26,11 +26,11 @@ add_edge-requires-clause-room c =
     let names = c.args.dependencies.now in
     let i = c.loop-dependency.dependency-index in
     let within : i < length names = search (rules, arith) in
-    room-next (rows_of c.args.tasks.now) names c.args.row i (slice_index names i) c.in-Some.place (edges_of c.args.edges.now.items) c.loop-dependency.edges.items within (next-name names i within) c.in-Some.ensures.some c.loop-dependency.invariant.0
+    room-next (rows_of c.args.tasks.now.tasks) names c.args.row i (slice_index names i) c.in-Some.place (edges_of c.args.edges.now.items) c.loop-dependency.edges.items within (next-name names i within) c.in-Some.ensures.some c.loop-dependency.invariant.0
 
 pub loop-dependency-preserved : goal.loop-dependency-preserved
 loop-dependency-preserved c =
-    let rows = rows_of c.args.tasks.now in
+    let rows = rows_of c.args.tasks.now.tasks in
     let names = c.args.dependencies.now in
     let i = c.loop-dependency.dependency-index in
     let old = edges_of c.args.edges.now.items in

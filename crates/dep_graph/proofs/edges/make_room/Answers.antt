@@ -8,7 +8,7 @@ use Rattle.dep_graph.proofs.edges.make_room.Goals.{in-Some+in_ok-make_room_at-in
 
 pub loop-row-preserved : goal.loop-row-preserved
 loop-row-preserved c =
-    let rows = rows_of c.args.tasks.now in
+    let rows = rows_of c.args.tasks.now.tasks in
     let names = c.args.rows.now in
     let i = c.loop-row.row-index in
     let edges = c.loop-row.edges.items in
@@ -31,4 +31,4 @@ loop-row-preserved c =
 pub returns-clause-rooms : goal.returns-clause-rooms
 returns-clause-rooms c =
     let past : length c.args.rows.now ≤ c.loop-row.row-index = search (rules, arith) in
-    rooms-whole (rows_of c.args.tasks.now) c.args.rows.now c.loop-row.row-index c.loop-row.edges.items past c.loop-row.invariant.1
+    rooms-whole (rows_of c.args.tasks.now.tasks) c.args.rows.now c.loop-row.row-index c.loop-row.edges.items past c.loop-row.invariant.1

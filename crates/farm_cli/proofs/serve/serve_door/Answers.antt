@@ -14,4 +14,4 @@ returns-clause-lent g c =
 
 pub serve_object-left-requires-send-O : goal.serve_object-left-requires-send-O
 serve_object-left-requires-send-O g c = λ κs within.
-    param_send _ _ (arg_send _ yes _ (farm_send _ g.H.Store.Disk c.type_bounds.send-H-Store c.farms_tables_cross_threads.ensures.sent))
+    param_send _ _ (arg_send _ yes _ (farm_send _ g.H.Store.Disk c.type_bounds.send-H-Store c.hooks_cross_threads.ensures.sent c.farms_tables_cross_threads.ensures.sent))

@@ -1,4 +1,4 @@
-use Rattle.std.proofs.Common.{◌≡◌, ℕ, List, sym, ap, ◌∙◌, subst, refl, arith}
+use Rattle.std.proofs.Common.{◌≡◌, ℕ, List, sym, ◌∙◌, subst, refl, arith}
 use Rattle.std.specs.List.{list_any}
 use Rattle.std.specs.Str.{bytes_eq}
 use Rattle.std.proofs.lemmas.Bool.{false≢true}
@@ -10,7 +10,7 @@ use Rattle.toml.specs.Data.{Data}
 use Rattle.toml.specs.View.{view, table_view}
 use Rattle.farm_files.specs.Earlier.{AreIdsOf}
 use Rattle.farm_files.specs.Clients.{client_rows}
-use Rattle.farm_files.specs.Rows.{Kind, HasRowForm, says_of}
+use Rattle.farm_files.specs.Rows.{HasRowForm, says_of}
 use Rattle.farm_files.proofs.RuleLemmas.{table_is, table_refused, keys_refused, form_refused, id_refused, row_taken}
 use Rattle.farm_files.proofs.clients.read_row.Goals as goal
 
@@ -67,6 +67,6 @@ returns c =
     } in
     let e : c.as_str.result.now ≡ client_rows.id_of (client_rows.says ms) = c.as_str.ensures ∙ c.in-Ok.ensures.2.id in (
       row_taken client_rows c.args.ids.now c.args.row (view c.args.value.now) ms c.in-Some.ensures c.in-Ok.ensures.0 form c.has_id.result c.if-has_id.false
-          (subst (λ (x : List ℕ). (used : List (List ℕ)) → AreIdsOf used c.args.ids.now → c.has_id.result ≡ list_any (λ other. bytes_eq x other) used) e c.has_id.ensures),
+          (subst (λ (x : List ℕ). (used : List (List ℕ)) → AreIdsOf used c.args.ids.now → c.has_id.result ≡ list_any (λ other. bytes_eq x other) used) e c.has_id.ensures) tt,
       subst (λ (d : Data). IsClientFrom (says_of client_rows d) (client_data c.in-Ok.client)) (sym (table_is (view c.args.value.now) ms c.in-Some.ensures)) c.in-Ok.ensures.2,
     )

@@ -7,7 +7,7 @@ use Rattle.toml.specs.Data.{Data}
 use Rattle.toml.specs.View.{view, table_view}
 use Rattle.farm_files.specs.Earlier.{AreIdsOf}
 use Rattle.farm_files.specs.Roles.{role_rows}
-use Rattle.farm_files.specs.Rows.{Kind, HasRowForm, says_of}
+use Rattle.farm_files.specs.Rows.{HasRowForm, says_of}
 use Rattle.farm_files.proofs.RuleLemmas.{table_is, table_refused, keys_refused, form_refused, id_refused, row_taken}
 use Rattle.farm_files.proofs.roles.read_row.Goals as goal
 
@@ -48,6 +48,6 @@ returns c =
     } in
     let e : c.as_str.result.now ≡ role_rows.id_of (role_rows.says ms) = c.as_str.ensures.value ∙ ap (λ (r : RoleData). r.id) c.in-Ok.ensures.2 in (
       row_taken role_rows c.args.ids.now c.args.row (view c.args.value.now) ms c.in-Some.ensures c.in-Ok.ensures.0 form c.has_id.result c.if-has_id.false
-          (subst (λ (x : List ℕ). (used : List (List ℕ)) → AreIdsOf used c.args.ids.now → c.has_id.result ≡ list_any (λ other. bytes_eq x other) used) e c.has_id.ensures),
+          (subst (λ (x : List ℕ). (used : List (List ℕ)) → AreIdsOf used c.args.ids.now → c.has_id.result ≡ list_any (λ other. bytes_eq x other) used) e c.has_id.ensures) tt,
       subst (λ (d : Data). role_data c.in-Ok.role ≡ says_of role_rows d) (sym (table_is (view c.args.value.now) ms c.in-Some.ensures)) c.in-Ok.ensures.2,
     )

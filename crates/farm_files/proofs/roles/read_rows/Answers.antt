@@ -1,4 +1,4 @@
-use Rattle.std.proofs.Common.{◌≡◌, ℕ, ◌+◌, ◌<◌, List, [], ◌∷◌, ◌++◌, map, take, length, sym, ap, ◌∙◌, subst, refl, arith}
+use Rattle.std.proofs.Common.{◌<◌, map, take, length, ap, ◌∙◌, subst, refl, arith}
 use Rattle.std.proofs.lemmas.List.{length-map, take_all}
 use Rattle.std.proofs.lemmas.Option.{slice_get_within}
 use Rattle.role_expand.specs.Roles.{RoleData}
@@ -7,7 +7,7 @@ use Rattle.farm_files.specs.declared.fault.Table.TheVariants.{Role}
 use Rattle.farm_files.specs.Earlier.{AreIdsOf}
 use Rattle.farm_files.specs.Faults.{fault_at}
 use Rattle.farm_files.specs.Roles.{role_rows}
-use Rattle.farm_files.specs.Rows.{Kind, RowAtBreaks, says_of}
+use Rattle.farm_files.specs.Rows.{RowAtBreaks, says_of}
 use Rattle.farm_files.specs.Parts.{IsFirstRow}
 use Rattle.farm_files.proofs.RowLemmas.{at_place, earlier_is, row_sound_at, row_breaks_at, row_unbroken_at, rows_more, row_within, said_ids_more, roles_more}
 use Rattle.farm_files.proofs.roles.read_rows.Goals as goal

@@ -1,4 +1,5 @@
 -- Whoever has access is asked for its scopes, and another caller is refused.
+use Rattle.std.proofs.Common.{[]}
 use Rattle.farm_machine.specs.Access.{Has, Refused, HasAccess}
 use Rattle.farm_machine.proofs.AccessLemmas.{has_kept, has_made, has_refused}
 use Rattle.farm_machine.proofs.OrderLemmas.{asks-refused, refused-within}
@@ -23,4 +24,4 @@ returns-in-Refused g c =
     let at = c.args.at.now in
     let case = g.C.Called.case c.args.call.now in
     let has : HasAccess at.state.config at.moment c.args.caller.now (Refused c.in-Refused.answer) = rw (← c.at.view_is) (has_refused c.at.inside.config.now c.at.inside.moment c.args.caller.now c.in_ok-scopes.field-0 c.in-Refused.answer c.in-Refused.is c.in_ok-scopes.ensures) in
-    asks-refused at c.args.caller.now case c.in-Refused.answer c.requires has
+    asks-refused at c.args.caller.now case [] c.in-Refused.answer c.requires has

@@ -1,9 +1,11 @@
-use Rattle.std.proofs.Common.{◌≡◌, ◌+◌, ◌≤◌, false, List, length, suc, add-one, ap, sym, ◌∙◌, arith}
+use Rattle.std.proofs.Common.{◌≡◌, ◌+◌, false, List, length, add-one, ap, sym, ◌∙◌, arith}
 use Rattle.std.specs.List.{list_any}
 use Rattle.run_states.specs.Rows.{Row, is_unscheduled}
+use Rattle.std.specs.Prelude.{option_copied}
 use Rattle.farm_rows.specs.Ready.{is_ready}
 use Rattle.farm_rows.specs.Settling.{one_if, is_ready_at, settled_at}
-use Rattle.farm_rows.proofs.SettleLemmas.{upto, counted, upto-all, counted-all, counted-few, one-few, settle-rows, settle-count, settle-none, count-busy}
+use Rattle.farm_rows.proofs.PlacedLemmas.{ids_of, placed-same}
+use Rattle.farm_rows.proofs.SettleLemmas.{upto, counted, upto-ids, upto-all, counted-all, counted-few, one-few, settle-rows, settle-count, settle-none, count-busy}
 use Rattle.farm_rows.proofs.settle.settle.Goals as goal
 
 pub returns-then-not-any_unscheduled-clause-rows : goal.returns-then-not-any_unscheduled-clause-rows
@@ -24,6 +26,11 @@ overflow_add-first c =
     let drawn = c.requires.drawn in
     let here = c.loop-place-test.true in
     omega arith
+
+pub settle_at-drawn-requires-clause-placed : goal.settle_at-drawn-requires-clause-placed
+settle_at-drawn-requires-clause-placed c =
+    let all = c.args.rows.now in
+    placed-same (option_copied c.args.places) all c.loop-place.rows (ap ids_of c.loop-place.invariant.rows ∙ upto-ids (is_ready all) c.args.first c.args.at c.loop-place.place all) c.requires.placed
 
 pub overflow_add-drawn : goal.overflow_add-drawn
 overflow_add-drawn c =

@@ -1,11 +1,14 @@
-use Rattle.std.proofs.Common.{◌≡◌, ◌+◌, List, length, Some, ap, sym, ◌∙◌, arith}
+use Rattle.std.proofs.Common.{length, ap, sym, ◌∙◌, arith}
+use Rattle.std.specs.Prelude.{option_copied}
 use Rattle.std.specs.List.{list_all}
 use Rattle.farm_rows.specs.Contents.{Contents}
-use Rattle.farm_rows.specs.Due.{all_due_moments, first_due, resolved_at}
+use Rattle.farm_rows.specs.Due.{all_due_moments, resolved_at}
 use Rattle.farm_rows.specs.Sweep.{numbered, all_turns, runs_made, fits}
 use Rattle.farm_rows.proofs.FitLemmas.{made-few}
+use Rattle.farm_rows.proofs.PlacedLemmas.{ids_of, placed-same}
+use Rattle.farm_rows.proofs.ReadyLemmas.{settled-ids}
 use Rattle.farm_rows.proofs.StepLemmas.{settled-fits, settled-made, resolved-fits, resolved-made}
-use Rattle.farm_rows.proofs.TurnLemmas.{turn-fewer, all-step, all-idle}
+use Rattle.farm_rows.proofs.TurnLemmas.{turn-fewer, resolved-ids, all-step, all-idle}
 use Rattle.farm_rows.proofs.turns.take_turns.Goals as goal
 
 pub turn-next-requires-clause-drawn : goal.turn-next-requires-clause-drawn
@@ -37,6 +40,9 @@ turns-preserved c =
     let is = c.turn-next.ensures.turn in
     record {
       turns = ap (λ (k : Contents). all_turns k c.args.moment) (sym is) ∙ (sym (all-step before c.args.moment at (sym c.in-Some.ensures)) ∙ c.turns.invariant.turns);
+      placed =
+          placed-same (option_copied c.args.places) c.turns.rows c.turn-next.new.rows
+          (ap (λ (k : Contents). ids_of k.rows) (sym is) ∙ (settled-ids (resolved_at before at) at ∙ resolved-ids before at)) c.turns.invariant.placed;
       fit = ap (λ (k : Contents). list_all fits k.rows) (sym is) ∙ settled-fits (resolved_at before at) at (resolved-fits before at c.turns.invariant.fit);
       drawn =
           (let rows = ap (λ (k : Contents). runs_made k.rows) is in

@@ -1,13 +1,16 @@
 use Rattle.std.proofs.Common.{◌≡◌, ◌≤◌, true, length}
+use Rattle.std.specs.Prelude.{option_copied}
 use Rattle.std.specs.List.{list_all}
 use Rattle.farm_rows.specs.Due.{all_due_moments}
 use Rattle.farm_rows.specs.Sweep.{numbered, all_turns, runs_made, fits}
+use Rattle.farm_rows.specs.Placed.{ArePlaced}
 use Rattle.farm_rows.proofs.turns.take_turns.Given as goal
 
 -- what is left to be resolved makes the whole
 abbrev pub invariant-turns : goal.invariant-turns
 invariant-turns l = record {
   turns : all_turns (numbered l.rows l.next) l.moment ≡ all_turns (numbered l.fn.rows l.fn.first) l.moment;
+  placed : ArePlaced (option_copied l.places) l.rows;
   fit : list_all fits l.rows ≡ true;
   drawn : l.next ≤ runs_made l.rows;
 }

@@ -1,15 +1,19 @@
-use Rattle.std.proofs.Common.{◌≡◌, ◌+◌, false, List, [], length, ap, sym, subst, ◌∙◌, arith, rules, vec_len, vec_capacity}
+use Rattle.std.proofs.Common.{◌≡◌, ◌+◌, false, List, [], ◌∷◌, ◌++◌, length, ap, sym, subst, ◌∙◌, arith, rules, vec_len, vec_capacity}
 use Rattle.std.specs.List.{list_any}
+use Rattle.task_defs.specs.declared.task_def.TaskDef.{TaskDef}
+use Rattle.run_states.specs.Rows.{Row}
 use Rattle.run_states.specs.declared.run.Run.{Run}
-use Rattle.run_states.specs.Rows.{new_row}
 use Rattle.farm_record.specs.declared.change.Creation.{Creation}
 use Rattle.farm_rows.specs.Contents.{Contents}
 use Rattle.farm_rows.specs.Changes.{creating}
 use Rattle.farm_rows.specs.Ready.{is_ready, has_ready}
 use Rattle.farm_rows.specs.Sweep.{fits, IsKept}
+use Rattle.farm_rows.specs.Placed.{groups_of, MayBeFirst}
 use Rattle.farm_rows.proofs.CreateLemmas.{new-is}
 use Rattle.farm_rows.proofs.FitLemmas.{made-few}
+use Rattle.farm_rows.proofs.GroupLemmas.{grouped-more}
 use Rattle.farm_rows.proofs.IdLemmas.{applied-none}
+use Rattle.farm_rows.proofs.PlacedLemmas.{placed-more}
 use Rattle.farm_rows.proofs.TableLemmas.{Fits, contents_of, plan-fits, kept-more, named, planned-unknown, applied-made}
 use Rattle.farm_rows.proofs.tables.TaskTables.create.Goals as goal
 
@@ -17,16 +21,16 @@ pub add-requires-clause-room : goal.add-requires-clause-room
 add-requires-clause-room c =
     let rows = c.self.inside.rows in
     let fits : Fits rows.items c.args.at (vec_capacity rows) (vec_capacity c.args.grown) =
-    plan-fits c.args.self.now rows.items c.args.at (vec_capacity rows) (vec_capacity c.args.grown) c.args.row c.requires.plan (ap (λ (k : Contents). k.rows) c.self.view_is) c.self.invariant.room in
+    plan-fits c.args.self.now rows.items c.args.at (vec_capacity rows) (vec_capacity c.args.grown) c.args.row c.requires.plan (ap (λ (k : Contents). k.rows) c.self.view_is) c.self.invariant.kept.room in
     let len : vec_len rows ≡ length rows.items = search rules in
     let room = fits.room in
     omega arith
 
 pub overflow_add-self : goal.overflow_add-self
 overflow_add-self c =
-    let few = made-few c.self.inside.rows.items c.self.invariant.fit in
-    let stand = c.self.invariant.few in
-    let h = c.self.invariant.drawn in
+    let few = made-few c.self.inside.rows.items c.self.invariant.kept.fit in
+    let stand = c.self.invariant.kept.few in
+    let h = c.self.invariant.kept.drawn in
     let runs = c.runs.ensures.few in
     let same = ap length c.runs.ensures.value in
     omega arith
@@ -40,16 +44,27 @@ invariant_of-self c =
     let next = c.self.inside.next in
     let creation : Creation = record { id = row.id; definition = row.definition } in
     let room : Fits rows.items at (vec_capacity rows) (vec_capacity c.args.grown) =
-    plan-fits c.args.self.now rows.items at (vec_capacity rows) (vec_capacity c.args.grown) row c.requires.plan (ap (λ (k : Contents). k.rows) c.self.view_is) c.self.invariant.room in
-    let made = named c.args.self.now rows.items last next at (vec_capacity c.args.grown) row c.self.view_is c.self.invariant.none c.requires.plan in
+    plan-fits c.args.self.now rows.items at (vec_capacity rows) (vec_capacity c.args.grown) row c.requires.plan (ap (λ (k : Contents). k.rows) c.self.view_is) c.self.invariant.kept.room in
+    let made = named c.args.self.now rows.items last next at (vec_capacity c.args.grown) row c.self.view_is c.self.invariant.kept.none c.requires.plan in
     let unknown = planned-unknown c.args.self.now rows.items last next at (vec_capacity c.args.grown) row c.self.view_is c.requires.plan in
-    let after = applied-made c.args.self.now rows.items c.add.new.rows.items last next at row c.self.view_is c.self.invariant.none c.add.ensures.items made in
+    let after = applied-made c.args.self.now rows.items c.add.new.rows.items last next at row c.self.view_is c.self.invariant.kept.none c.add.ensures.items made in
     let unready : list_any (is_ready c.add.new.rows.items) c.add.new.rows.items ≡ false = ap has_ready after ∙ applied-none c.args.self.now (creating at creation) c.requires.plan.lawful in
     let fit = ap fits made ∙ (new-is (contents_of rows.items last next) at row.id row.definition).fit in
-    subst (λ n. IsKept c.add.new.rows.items at (next + n) c.soonest_with-soonest.result (vec_capacity c.add.new.rows)) (sym (ap length c.runs.ensures.value))
-    (kept-more rows.items c.add.new.rows.items row last at next c.self.inside.soonest c.soonest_with-soonest.result
-    (vec_capacity rows) (vec_capacity c.args.grown) (vec_capacity c.add.new.rows) c.self.invariant room c.add.ensures.items
-    fit unready unknown c.soonest_with-soonest.ensures c.add.ensures.capacity)
+    let long : c.len-place.result ≡ length rows.items = search rules in
+    record {
+      kept =
+          subst (λ n. IsKept c.add.new.rows.items at (next + n) c.soonest_with-soonest.result (vec_capacity c.add.new.rows)) (sym (ap length c.runs.ensures.value))
+          (kept-more rows.items c.add.new.rows.items row last at next c.self.inside.soonest c.soonest_with-soonest.result
+          (vec_capacity rows) (vec_capacity c.args.grown) (vec_capacity c.add.new.rows) c.self.invariant.kept room c.add.ensures.items
+          fit unready unknown c.soonest_with-soonest.ensures c.add.ensures.capacity);
+      placed =
+          placed-more c.self.inside.places c.keep_noted.new.places rows.items c.add.new.rows.items row c.id.result c.len-place.result c.keep_noted.ensures
+          c.add.ensures.items c.id.ensures long c.self.invariant.placed;
+      grouped =
+          grouped-more c.keep_first.new.groups rows.items c.add.new.rows.items row c.definition.result.now.task_group_id
+          (subst (λ (rs : List Row). MayBeFirst c.keep_first.new.groups (groups_of rs ++ c.definition.result.now.task_group_id ∷ [])) c.deref.ensures.value c.keep_first.ensures)
+          c.add.ensures.items (ap (λ (d : TaskDef). d.task_group_id) c.definition.ensures);
+    }
 
 pub returns : goal.returns
 returns c =
@@ -58,6 +73,6 @@ returns c =
     let new = c.add.new.rows.items in
     let at = c.args.at in
     let next = c.self.inside.next in
-    let made = named c.args.self.now rows c.self.inside.last next at (vec_capacity c.args.grown) row c.self.view_is c.self.invariant.none c.requires.plan in
+    let made = named c.args.self.now rows c.self.inside.last next at (vec_capacity c.args.grown) row c.self.view_is c.self.invariant.kept.none c.requires.plan in
     ap (λ (rs : List Run). contents_of new at (next + length rs)) c.runs.ensures.value
-    ∙ applied-made c.args.self.now rows new c.self.inside.last next at row c.self.view_is c.self.invariant.none c.add.ensures.items made
+    ∙ applied-made c.args.self.now rows new c.self.inside.last next at row c.self.view_is c.self.invariant.kept.none c.add.ensures.items made

@@ -9,6 +9,6 @@ pub returns-in-Some : goal.returns-in-Some
 returns-in-Some c =
     let rows = c.self.inside.rows.items in
     let reached = reached_is c.args.moment (all_due_moments rows) in
-    let soonest : is_reached (soonest_of rows) c.args.moment ≡ is_reached (Some c.in-Some.at) c.args.moment = ap (λ o. is_reached o c.args.moment) (sym c.self.invariant.soonest_is ∙ c.in-Some.is) in
+    let soonest : is_reached (soonest_of rows) c.args.moment ≡ is_reached (Some c.in-Some.at) c.args.moment = ap (λ o. is_reached o c.args.moment) (sym c.self.invariant.kept.soonest_is ∙ c.in-Some.is) in
     let test : c.le.result ≡ nat_le c.in-Some.at c.args.moment = search rules in
     test ∙ (sym soonest ∙ (sym reached ∙ ap (λ (contents : Contents). is_due contents c.args.moment) c.self.view_is))

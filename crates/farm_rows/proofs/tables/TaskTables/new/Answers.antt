@@ -11,12 +11,16 @@ none-own = IsDistinct-from_apart bytes_eq [] (λ i j d less within. absurd (omeg
 pub invariant_of-result-2 : goal.invariant_of-result-2
 invariant_of-result-2 c =
     rw c.new.ensures.items (record {
-      told = omega arith;
-      few = omega arith;
-      own = none-own;
-      none = refl;
-      fit = refl;
-      drawn = omega arith;
-      room = omega (arith, room-0);
-      soonest_is = refl;
+      kept = record {
+        told = omega arith;
+        few = omega arith;
+        own = none-own;
+        none = refl;
+        fit = refl;
+        drawn = omega arith;
+        room = omega (arith, room-0);
+        soonest_is = refl;
+      };
+      placed = record { at = λ place id here. cc };
+      grouped = record { at = λ place group first. cc };
     })

@@ -1,5 +1,4 @@
 use Rattle.std.proofs.Common.{◌≡◌, ℕ, ◌+◌, ◌≤◌, max, false, length, ap, sym, subst, ◌∙◌, rules, vec_capacity}
-use Rattle.run_states.specs.Rows.{Row}
 use Rattle.farm_rows.specs.Contents.{Contents}
 use Rattle.farm_rows.specs.Plans.{room_for}
 use Rattle.farm_rows.specs.Ready.{has_ready, settled_row}
@@ -14,7 +13,7 @@ returns-clause-plan c =
     let brought = vec_capacity c.in_ok-grown.grown in
     let stand : c.len.result ≡ length rows = search rules in
     let P : ℕ → Type 0 = λ n. room_for (n + 1) ≤ max (room_for n) brought in
-    let none : has_ready c.args.self.now ≡ false = sym (ap has_ready c.self.view_is) ∙ c.self.invariant.none in
+    let none : has_ready c.args.self.now ≡ false = sym (ap has_ready c.self.view_is) ∙ c.self.invariant.kept.none in
     IsPlanOn-created c.args.self.now at brought creation c.settle_in.new.row none c.requires
     (c.settle_in.ensures ∙ ap (settled_row c.args.self.now at) c.in_ok-row.ensures)
     (subst P (stand ∙ ap (λ (k : Contents). length k.rows) c.self.view_is) c.in_ok-grown.ensures.1)

@@ -1,0 +1,33 @@
+#!/usr/bin/env python3
+"""What templates cost that read a long text anew in each of many turns, or nest deep, by `farm render`.
+
+usage: python3 bench/turns.py        (in the repository's folder; FARM_PROGRAM, if it is set, is run in place of ./farm)
+"""
+import os
+import subprocess
+import time
+
+PROGRAM = os.environ.get("FARM_PROGRAM", "./farm")
+LIMIT = 120
+
+
+def render(name, template):
+    """Renders a template with no context, and prints how long that took, and how it ended."""
+    start = time.time()
+    try:
+        ran = subprocess.run([PROGRAM, "render"], input=('{"context":{},"template":' + template + "}").encode(), capture_output=True, timeout=LIMIT)
+        ended = f"status {ran.returncode}, {len(ran.stdout)} bytes"
+    except subprocess.TimeoutExpired:
+        ended = f"not ended after {LIMIT} s"
+    print(f"{time.time() - start:8.2f} s  {name}: {ended}", flush=True)
+
+
+subprocess.run([PROGRAM, "--help"], capture_output=True)
+for spaces in (1_000, 10_000, 100_000):
+    render(f"$map of 2,000 turns, {spaces} spaces", '{"$map":{"$eval":"range(0,2000)"},"each(x)":{"$eval":"0<' + " " * spaces + '1"}}')
+for items in (1_000, 10_000):
+    render(f"$map of 2,000 turns, true||[{items} items]", '{"$map":{"$eval":"range(0,2000)"},"each(x)":{"$eval":"true||[' + "0," * items + '0]"}}')
+for items in (10_000, 100_000):
+    render(f"$find of 2,000 turns, false&&[{items} items]", '{"$find":{"$eval":"range(0,2000)"},"each(x)":"false&&[' + "0," * items + '0]"}')
+for turns in (10, 60, 90):
+    render(f"$reduce of {turns} turns, 120 lists each", '{"$reduce":{"$eval":"range(0,' + str(turns) + ')"},"initial":0,"each(a,v)":' + "[" * 120 + '{"$eval":"a"}' + "]" * 120 + "}")

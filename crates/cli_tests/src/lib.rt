@@ -1,0 +1,23 @@
+//! Tests of the top call, over houses in memory: of `farm_cli`.
+//!
+//! They stand in a crate of their own since the gate proves a crate's tests together with the crate: here it proves the tests alone.
+#![tactic(auto)]
+
+#[cfg(test)]
+mod disks;
+#[cfg(test)]
+mod host;
+#[cfg(test)]
+mod houses;
+#[cfg(test)]
+mod limits;
+#[cfg(test)]
+mod lost;
+#[cfg(test)]
+mod renderings;
+#[cfg(test)]
+mod rows;
+#[cfg(test)]
+mod serving;
+#[cfg(test)]
+mod tables;

@@ -1,0 +1,136 @@
+//! Rows of tables: a run, and what comes of it.
+
+use crate::houses::{Case, Outcome, outcome_of};
+use std::alloc::{AllocError, Global};
+use std::sync::Wait;
+use std::test::Fail;
+use std::thread::Threads;
+
+/// The byte that stands for this one behind a backslash.
+fn escape_of(byte: u8) -> u8 {
+    match byte {
+        b'n' => b'\n',
+        b'r' => b'\r',
+        b't' => b'\t',
+        b'e' => 0x1b,
+        b'f' => 0xff,
+        other => other,
+    }
+}
+
+/// The bytes of a text, in which a backslash and the byte behind it stand for one.
+pub(crate) fn unescaped(alloc: Global, text: &str) -> Result<Vec<u8>, AllocError> {
+    let mut bytes = Vec::new(alloc);
+    let mut is_escaped = false;
+    for byte in text.bytes() {
+        if is_escaped {
+            bytes.push(escape_of(byte))?;
+            is_escaped = false;
+        } else if byte == b'\\' {
+            is_escaped = true;
+        } else {
+            bytes.push(byte)?;
+        }
+    }
+    Ok(bytes)
+}
+
+/// The calls that fail of an object of this name: the first, where the row says so.
+pub(crate) fn failing(fails: &str, name: &str) -> &'static [u64] {
+    if fails == name { &[0] } else { &[] }
+}
+
+/// Whether bytes are these, or some, where the row says `*`.
+fn is_as(alloc: Global, bytes: &[u8], expected: &str) -> Result<bool, AllocError> {
+    if expected == "*" {
+        return Ok(!bytes.is_empty());
+    }
+    Ok(bytes == unescaped(alloc, expected)?.as_slice())
+}
+
+/// Whether a run ended with this status, and with the output and notes that are told, cut by a bar.
+pub(crate) fn is_outcome(
+    alloc: Global,
+    done: &Outcome,
+    code: &str,
+    told: &str,
+) -> Result<bool, Fail> {
+    let (output, notes) = told.split_once('|').ok_or("the notes")?;
+    let code: u8 = code.parse().ok().ok_or("a status")?;
+    let is_written = is_as(alloc, done.output.as_slice(), output)?;
+    let is_noted = is_as(alloc, done.notes.as_slice(), notes)?;
+    Ok(done.status.code() == code && is_written && is_noted)
+}
+
+/// Whether a run comes to such an end.
+pub(crate) fn comes_to(
+    rt: &(impl Threads + Wait + Sync),
+    alloc: Global,
+    case: &Case,
+    code: &str,
+    told: &str,
+) -> Result<bool, Fail> {
+    let done = outcome_of(rt, alloc, case)?;
+    is_outcome(alloc, &done, code, told)
+}
+
+/// What a row says: the words, the farm file and the input of a run, what of it fails, and its status with what is told.
+#[derive(Clone, Copy)]
+struct Row<'a> {
+    words: &'a str,
+    farm: &'a str,
+    input: &'a str,
+    fails: &'a str,
+    code: &'a str,
+    told: &'a str,
+}
+
+/// The parts of a row, which bars cut.
+fn parts(row: &str) -> Result<Row<'_>, Fail> {
+    let (words, rest) = row.split_once('|').ok_or("the words")?;
+    let (farm, rest) = rest.split_once('|').ok_or("the farm file")?;
+    let (input, rest) = rest.split_once('|').ok_or("the input")?;
+    let (fails, rest) = rest.split_once('|').ok_or("what fails")?;
+    let (code, told) = rest.split_once('|').ok_or("the status")?;
+    Ok(Row {
+        words,
+        farm,
+        input,
+        fails,
+        code,
+        told,
+    })
+}
+
+/// The words of a line.
+fn words_of(alloc: Global, line: &str) -> Result<Vec<&str>, AllocError> {
+    let mut words = Vec::new(alloc);
+    for word in line.split(' ') {
+        if !word.is_empty() {
+            words.push(word)?;
+        }
+    }
+    Ok(words)
+}
+
+/// Whether a row holds: a run with its words, farm file and input, of which this fails, has this status, output and notes.
+pub(crate) fn holds(
+    rt: &(impl Threads + Wait + Sync),
+    alloc: Global,
+    row: &str,
+) -> Result<bool, Fail> {
+    let row = parts(row)?;
+    let line = unescaped(alloc, row.words)?;
+    let farm = unescaped(alloc, row.farm)?;
+    let input = unescaped(alloc, row.input)?;
+    let words = words_of(alloc, str::from_utf8(line.as_slice())?)?;
+    let case = Case {
+        words: words.as_slice(),
+        farm: farm.as_slice(),
+        failing_farm_reads: failing(row.fails, "farm"),
+        input: input.as_slice(),
+        failing_reads: failing(row.fails, "read"),
+        failing_writes: failing(row.fails, "write"),
+    };
+    comes_to(rt, alloc, &case, row.code, row.told)
+}

@@ -1,0 +1,366 @@
+//! Connections over links in memory, with what the queue service's reference and HTTP/1.1 say of them.
+ghost use Rattle.std.specs.Prelude.{◌≤◌, ◌^◌, Option, Some, None, if◌then◌else◌};
+ghost use Rattle.history.specs.Histories.{Leads};
+ghost use Rattle.farm_desk.specs.Home.{nowhere};
+ghost use Rattle.farm_machine.specs.Law.{opened};
+ghost use Rattle.farm_machine.specs.Step.{farm_rules};
+ghost use Rattle.farm_server.specs.declared.served.TheConstants.{REQUESTS};
+
+use farm_core::Bare;
+use farm_desk::{Desk, Object, Solo, Spare};
+use farm_machine::config::Config;
+use farm_machine::grants::Grants;
+use farm_machine::law::Farm;
+use farm_machine::question::{Call, Caller, Question};
+use farm_machine::reply::Asked;
+use farm_server::{Gate, NoGate, REQUESTS, Served, When, serve_connection};
+use farm_text::{ListClock, ListDraws, Moment, SlugId, Text};
+use hawk_auth::ClientBook;
+use hook_fire::HookBook;
+use http_wire::{Joined, MemorySink, MemorySource, Wire};
+use role_expand::RoleSet;
+use std::alloc::{AllocError, Global};
+use std::test::Fail;
+
+mod chains;
+mod clients;
+mod lists;
+mod rows;
+mod runs;
+mod tasks;
+mod waits;
+mod work;
+
+const PING: &[u8] = b"GET /api/queue/v1/ping HTTP/1.1\r\n\r\n";
+
+const STATUS: &[u8] = b"GET /api/queue/v1/task/AAAAAAAAQACAAAAAAAAAAA/status HTTP/1.1\r\n\r\n";
+
+const ALIVE: &[u8] =
+    b"HTTP/1.1 200 OK\r\nContent-Length: 14\r\nContent-Type: application/json\r\n\r\n{\"alive\":true}";
+
+const NO_TASK: &[u8] =
+    b"HTTP/1.1 404 Not Found\r\nContent-Length: 119\r\nContent-Type: application/json\r\n\r\n{\"code\":\"ResourceNotFound\",\"details\":{\"kind\":\"task\",\"name\":\"AAAAAAAAQACAAAAAAAAAAA\"},\"message\":\"nothing has that name\"}";
+
+/// What is served of an input, and which calls fail.
+#[derive(Clone, Copy)]
+struct Input<'a> {
+    bytes: &'a [u8],
+    failing_reads: &'a [u64],
+    failing_writes: &'a [u64],
+}
+
+impl<'a> Input<'a> {
+    fn of(bytes: &'a [u8]) -> Input<'a> {
+        Input {
+            bytes,
+            failing_reads: &[],
+            failing_writes: &[],
+        }
+    }
+}
+
+/// How a connection ended, and what was written.
+#[derive(Drop)]
+struct Output {
+    served: Served,
+    written: Vec<u8>,
+}
+
+/// Serves the input over this desk, and tells this gate.
+fn serve_over<K: Desk<Question = Question, Answer = Asked, Law = Farm>, G: Gate>(
+    alloc: Global,
+    input: &Input,
+    desk: &mut K,
+    gate: &mut G,
+) -> Result<Output, AllocError>
+    requires { REQUESTS ≤ K.spare desk.old }
+{
+    let source = MemorySource::new(
+        Vec::from_slice(alloc, input.bytes)?,
+        Vec::from_slice(alloc, input.failing_reads)?,
+        8_192,
+    );
+    let failing = Vec::from_slice(alloc, input.failing_writes)?;
+    let mut link = Joined {
+        source,
+        sink: MemorySink::new(alloc, 200_000, failing)?,
+    };
+    let mut clock = ListClock::new(Vec::new(alloc));
+    let mut draws = ListDraws::new(Vec::new(alloc));
+    let served = serve_connection(alloc, &mut link, desk, &mut clock, &mut draws, gate);
+    let written = Vec::from_slice(alloc, link.sink.written())?;
+    Ok(Output { served, written })
+}
+
+/// A configuration without roles.
+fn config(alloc: Global) -> Result<Config, Fail> {
+    let roles = RoleSet::build(alloc, Vec::new(alloc))
+        .ok()
+        .ok_or("no roles")?;
+    let clients = ClientBook::build(alloc, Vec::new(alloc))
+        .ok()
+        .ok_or("no clients")?;
+    Ok(Config {
+        host: Text::from_str(alloc, "localhost")?,
+        port: 8080,
+        claim_timeout: 1200,
+        max_tasks: 1_000_000,
+        roles: Grants::new(alloc, roles)?,
+        clients,
+        hooks: HookBook::new(alloc),
+    })
+}
+
+/// Serves the input over an empty farm.
+fn serve(alloc: Global, input: &Input) -> Result<Output, Fail> {
+    let mut desk = Solo::new(Bare::new(alloc, config(alloc)?));
+    Ok(serve_over(alloc, input, &mut desk, &mut NoGate)?)
+}
+
+fn both(alloc: Global, first: &[u8], second: &[u8]) -> Result<Vec<u8>, AllocError> {
+    let mut bytes = Vec::from_slice(alloc, first)?;
+    bytes.extend_from_slice(second)?;
+    Ok(bytes)
+}
+
+#[test]
+fn a_ping_and_a_status(rt: HostRuntime) -> Result<(), Fail> {
+    let alloc = rt.alloc();
+    let input = both(alloc, PING, STATUS)?;
+    let replies = both(alloc, ALIVE, NO_TASK)?;
+    let output = serve(alloc, &Input::of(&input))?;
+    assert_eq!(rt; output.served, Served::Closed);
+    assert_eq!(rt; output.written, replies);
+    Ok(())
+}
+
+#[test]
+fn a_failed_write_leaves_a_front(rt: HostRuntime) -> Result<(), Fail> {
+    let alloc = rt.alloc();
+    let bytes = both(alloc, PING, STATUS)?;
+    for (failing, wanted) in [(0, b"".as_slice()), (1, ALIVE)] {
+        let input = Input {
+            bytes: &bytes,
+            failing_reads: &[],
+            failing_writes: &[failing],
+        };
+        let output = serve(alloc, &input)?;
+        assert_eq!(rt; output.served, Served::WriteFault);
+        assert_eq!(rt; output.written.as_slice(), wanted);
+    }
+    Ok(())
+}
+
+#[test]
+fn a_failed_read_ends_what_was_answered(rt: HostRuntime) -> Result<(), Fail> {
+    let alloc = rt.alloc();
+    let bytes = both(alloc, PING, STATUS)?;
+    let replies = both(alloc, ALIVE, NO_TASK)?;
+    for (failing, wanted) in [(0, b"".as_slice()), (1, replies.as_slice())] {
+        let input = Input {
+            bytes: &bytes,
+            failing_reads: &[failing],
+            failing_writes: &[],
+        };
+        let output = serve(alloc, &input)?;
+        assert_eq!(rt; output.served, Served::ReadFault);
+        assert_eq!(rt; output.written.as_slice(), wanted);
+    }
+    Ok(())
+}
+
+#[test]
+fn a_stream_may_end_at_each_byte(rt: HostRuntime) -> Result<(), Fail> {
+    let alloc = rt.alloc();
+    let input = both(alloc, PING, STATUS)?;
+    for end in 0..input.len() {
+        let output = serve(alloc, &Input::of(&input[..end]))?;
+        let served = if end == 0 || end == PING.len() {
+            Served::Closed
+        } else {
+            Served::EndedInside
+        };
+        let replies = if end < PING.len() {
+            b"".as_slice()
+        } else {
+            ALIVE
+        };
+        assert_eq!(rt; output.served, served, "cut at {end}");
+        assert_eq!(rt; output.written.as_slice(), replies, "cut at {end}");
+    }
+    Ok(())
+}
+
+#[test]
+fn each_stream_ends_as_it_has_to(rt: HostRuntime) -> Result<(), Fail> {
+    let rows: [(&[u8], Served, &[u8]); 6] = [
+        (
+            b"POST /api/queue/v1/task/x/cancel HTTP/1.1\r\nContent-Length: 1048577\r\n\r\n",
+            Served::WireFault(Wire::BodyTooLarge),
+            b"HTTP/1.1 413 Payload Too Large\r\nConnection: close\r\nContent-Length: 72\r\nContent-Type: application/json\r\n\r\n{\"code\":\"PayloadTooLarge\",\"details\":{},\"message\":\"the body is too long\"}",
+        ),
+        (
+            b"POST /api/queue/v1/task/x/cancel HTTP/1.1\r\nTransfer-Encoding: chunked\r\n\r\n",
+            Served::WireFault(Wire::NoLength),
+            b"HTTP/1.1 411 Length Required\r\nConnection: close\r\nContent-Length: 69\r\nContent-Type: application/json\r\n\r\n{\"code\":\"LengthRequired\",\"details\":{},\"message\":\"a length is needed\"}",
+        ),
+        (
+            b"GET\r\n\r\n",
+            Served::WireFault(Wire::HeadFault),
+            b"HTTP/1.1 400 Bad Request\r\nConnection: close\r\nContent-Length: 57\r\nContent-Type: application/json\r\n\r\n{\"code\":\"BadHead\",\"details\":{},\"message\":\"not a request\"}",
+        ),
+        (b"\r\n", Served::Closed, b""),
+        (
+            b"GET /api/queue/v1/task/AAAAAAAAQACAAAAAAAAAAQ/status HTTP/1.1\r\nConnection: close\r\n\r\nGET /api/queue/v1/ping HTTP/1.1\r\n\r\n",
+            Served::Closed,
+            b"HTTP/1.1 404 Not Found\r\nConnection: close\r\nContent-Length: 119\r\nContent-Type: application/json\r\n\r\n{\"code\":\"ResourceNotFound\",\"details\":{\"kind\":\"task\",\"name\":\"AAAAAAAAQACAAAAAAAAAAQ\"},\"message\":\"nothing has that name\"}",
+        ),
+        (
+            b"GET /api/queue/v1/ping HTTP/1.1\r\nAuthorization: x\r\n\r\n",
+            Served::Closed,
+            b"HTTP/1.1 401 Unauthorized\r\nContent-Length: 106\r\nContent-Type: application/json\r\n\r\n{\"code\":\"AuthenticationFailed\",\"details\":{\"reason\":\"BadHeader\"},\"message\":\"the caller is not who it says\"}",
+        ),
+    ];
+    for (input, served, written) in rows {
+        let output = serve(rt.alloc(), &Input::of(input))?;
+        assert_eq!(rt; output.served, served);
+        assert_eq!(rt; output.written.as_slice(), written);
+    }
+    Ok(())
+}
+
+#[test]
+fn the_thousandth_reply_closes(rt: HostRuntime) -> Result<(), Fail> {
+    let alloc = rt.alloc();
+    let mut input = Vec::new(alloc);
+    let mut replies = Vec::new(alloc);
+    for place in 0..1_001 {
+        input.extend_from_slice(PING)?;
+        if place < 999 {
+            replies.extend_from_slice(ALIVE)?;
+        }
+    }
+    replies.extend_from_slice(
+        b"HTTP/1.1 200 OK\r\nConnection: close\r\nContent-Length: 14\r\nContent-Type: application/json\r\n\r\n{\"alive\":true}",
+    )?;
+    let output = serve(alloc, &Input::of(&input))?;
+    assert_eq!(rt; output.served, Served::Full);
+    assert_eq!(rt; output.written.len(), replies.len());
+    assert!(rt; output.written == replies);
+    Ok(())
+}
+
+/// A desk at which another caller asks first, each time.
+#[derive(Drop)]
+struct Busy {
+    farm: Bare,
+    others: SlugId,
+    left: u64,
+}
+
+impl Spare for Busy {
+    ghost spare = { λ busy. busy.left };
+
+    fn left(&self) -> u64 {
+        self.left
+    }
+}
+
+impl Desk for Busy {
+    type Question = Question;
+
+    type Answer = Asked;
+
+    type Law = Farm;
+
+    ghost stands = { λ busy opening seen mine. Leads farm_rules (opened opening) seen busy.farm };
+
+    ghost home = { λ busy. nowhere };
+
+    fn ask(&mut self, question: Question) -> Asked {
+        self.left -= 1;
+        let other = Question::new(Moment::FIRST, self.others, Caller::Anonymous, Call::Ping);
+        let _ = self.farm.ask(other);
+        self.farm.ask(question)
+    }
+
+    ghost legal = { λ busy opening seen mine stood. stood.0 };
+}
+
+#[test]
+fn others_may_ask_between(rt: HostRuntime) -> Result<(), Fail> {
+    let alloc = rt.alloc();
+    let Some(others) = SlugId::read(b"AAAAAAAAQACAAAAAAAAAAA") else {
+        return Err(Fail::from("no slugid"));
+    };
+    let mut desk = Busy {
+        farm: Bare::new(alloc, config(alloc)?),
+        others,
+        left: 1_000,
+    };
+    let output = serve_over(alloc, &Input::of(PING), &mut desk, &mut NoGate)?;
+    assert_eq!(rt; output.served, Served::Closed);
+    assert_eq!(rt; output.written.as_slice(), ALIVE);
+    assert_eq!(rt; desk.left(), 999);
+    Ok(())
+}
+
+/// A gate that keeps what it is told, until memory runs out.
+#[derive(Drop)]
+struct Notebook {
+    kept: Vec<When>,
+    is_lost: bool,
+}
+
+impl Gate for Notebook {
+    ghost told = { λ gate. (if gate.is_lost then None else Some gate.kept.items) };
+
+    fn at(&mut self, when: When) {
+        if self.kept.push(when).is_err() {
+            self.is_lost = true;
+        }
+    }
+}
+
+/// What the gate is told where this input is served.
+fn told_of(alloc: Global, input: &Input) -> Result<Vec<When>, Fail> {
+    let mut desk = Solo::new(Bare::new(alloc, config(alloc)?));
+    let mut gate = Notebook {
+        kept: Vec::new(alloc),
+        is_lost: false,
+    };
+    let _ = serve_over(alloc, input, &mut desk, &mut gate)?;
+    if gate.is_lost {
+        return Err(Fail::from("memory ran out"));
+    }
+    Ok(gate.kept)
+}
+
+#[test]
+fn the_gate_is_told_of_each_ask_and_reply(rt: HostRuntime) -> Result<(), Fail> {
+    let alloc = rt.alloc();
+    let pings = both(alloc, PING, PING)?;
+    let told = told_of(alloc, &Input::of(&pings))?;
+    let wanted = [
+        When::Asked(0),
+        When::Answered(0),
+        When::Asked(1),
+        When::Answered(1),
+    ];
+    assert_eq!(rt; told.as_slice(), wanted.as_slice());
+    Ok(())
+}
+
+#[test]
+fn the_gate_is_not_told_of_a_reply_that_failed(rt: HostRuntime) -> Result<(), Fail> {
+    let alloc = rt.alloc();
+    let pings = both(alloc, PING, PING)?;
+    let input = Input {
+        bytes: &pings,
+        failing_reads: &[],
+        failing_writes: &[0],
+    };
+    let told = told_of(alloc, &input)?;
+    assert_eq!(rt; told.as_slice(), [When::Asked(0)].as_slice());
+    Ok(())
+}

@@ -1,0 +1,235 @@
+//! Stops and failed calls of the disk, in each of its calls: what was acknowledged is there when the farm is opened again.
+use crate::disks::calls::{config, question};
+use disk_base::{Disk, MemoryDisk};
+use disk_journal::OpenFault;
+use farm_core::{Counts, Farm};
+use farm_desk::Object;
+use std::alloc::{AllocError, Global};
+use std::test::Fail;
+
+/// A disk of these bytes, of which the call of this number fails.
+fn memory(alloc: Global, file: &[u8], failing: u64) -> Result<MemoryDisk, AllocError> {
+    let mut calls = Vec::new(alloc);
+    calls.push(failing)?;
+    if file.len() > 8192 {
+        return Err(AllocError);
+    }
+    MemoryDisk::new(alloc, file, 8192, 64, calls)
+}
+
+/// No call has this number.
+const NONE: u64 = 1_000_000;
+
+/// When is asked, in milliseconds after midnight, and what. The third ask comes when the claim of the second ends.
+const SCRIPT: &str = "0|create
+10000|claim
+1210000|claim
+1210001|completed 1
+1210002|rerun
+1210003|cancel";
+
+/// The state of the task after so many records: those of the six asks, of which the third keeps a tick before its claim.
+fn state_after(records: u64) -> &'static str {
+    match records {
+        1 | 3 | 6 => "pending",
+        2 | 4 => "running",
+        5 => "completed",
+        7 => "exception",
+        _ => "",
+    }
+}
+
+/// How many asks of the script are acknowledged once so many records are kept.
+fn acknowledged_after(records: u64) -> u64 {
+    match records {
+        0 | 1 => records,
+        2 | 3 => 2,
+        _ => records.saturating_sub(1),
+    }
+}
+
+/// The status and the body of the reply to this question.
+fn ask<D: Disk>(
+    alloc: Global,
+    farm: &mut Farm<D>,
+    after: u64,
+    word: &str,
+) -> Result<(u16, String), Fail> {
+    let asked = farm.ask(question(alloc, after, word)?);
+    let body = String::from_str(alloc, asked.reply.body())?;
+    Ok((asked.reply.status().as_u16(), body))
+}
+
+/// The same of a row of the script.
+fn ask_row<D: Disk>(alloc: Global, farm: &mut Farm<D>, row: &str) -> Result<(u16, String), Fail> {
+    let (after, word) = row.split_once('|').ok_or("a moment")?;
+    let after = after.parse().ok().ok_or("a number")?;
+    ask(alloc, farm, after, word)
+}
+
+/// Asks the script, and says how many asks were answered with 200 before the first that was not; those after it are Halted.
+fn run_script<D: Disk>(alloc: Global, farm: &mut Farm<D>) -> Result<u64, Fail> {
+    let mut done = 0u64;
+    let mut halted = false;
+    for row in SCRIPT.split('\n') {
+        let (status, body) = ask_row(alloc, farm, row)?;
+        if halted && !body.as_str().contains("\"Halted\"") {
+            return Err(Fail::from("a farm went on after a disk fault"));
+        }
+        if status == 200 {
+            done = done.saturating_add(1);
+        } else {
+            halted = true;
+        }
+    }
+    Ok(done)
+}
+
+/// How many records a farm was opened with, and the body of the status at midnight, or why it was not opened.
+fn reopen<D: Disk + Drop>(
+    alloc: Global,
+    disk: D,
+) -> Result<(Result<Counts, OpenFault>, String), Fail> {
+    match Farm::open(alloc, disk, config(alloc)?) {
+        Ok(farm) => {
+            let mut farm = farm;
+            let counts = farm.counts();
+            let (_, body) = ask(alloc, &mut farm, 0, "status")?;
+            Ok((Ok(counts), body))
+        }
+        Err((fault, _)) => Ok((Err(fault), String::new(alloc))),
+    }
+}
+
+/// Whether a farm opens from an image with so many records, and the task is then in the state that they tell.
+fn opens_to(alloc: Global, image: &[u8], least: u64, most: u64) -> Result<bool, Fail> {
+    let (opened, body) = reopen(alloc, memory(alloc, image, NONE)?)?;
+    let Ok(counts) = opened else {
+        return Ok(false);
+    };
+    if counts.records < least || counts.records > most {
+        return Ok(false);
+    }
+    let state = state_after(counts.records);
+    if state.is_empty() {
+        return Ok(counts.tasks == 0 && body.as_str().contains("\"ResourceNotFound\""));
+    }
+    let told = format!(in alloc; "\"schedulerId\":\"-\",\"state\":\"{state}\"")?;
+    Ok(counts.tasks == 1 && body.as_str().contains(told.as_str()))
+}
+
+/// Whether each image of a disk opens so.
+fn all_open_to(
+    alloc: Global,
+    disk: &MemoryDisk,
+    choices: &[u8],
+    least: u64,
+    most: u64,
+) -> Result<bool, Fail> {
+    if !opens_to(alloc, disk.bytes(), least, most)? {
+        return Ok(false);
+    }
+    let images = disk.images(alloc, choices)?;
+    for image in &images {
+        if !opens_to(alloc, image, least, most)? {
+            return Ok(false);
+        }
+    }
+    Ok(true)
+}
+
+/// Runs the script over an empty disk whose call of this number fails: how many asks were acknowledged, and the disk.
+fn stopped(alloc: Global, call: u64) -> Result<(u64, MemoryDisk), Fail> {
+    match Farm::open(alloc, memory(alloc, &[], call)?, config(alloc)?) {
+        Ok(farm) => {
+            let mut farm = farm;
+            let done = run_script(alloc, &mut farm)?;
+            Ok((done, farm.into_disk()))
+        }
+        Err((_, disk)) => Ok((0, disk)),
+    }
+}
+
+// The opening of an empty disk is four calls: a sync, a read, and the write and sync of its gate. Each record is four: it is written and
+// synced, and then its gate is.
+#[test]
+fn nothing_acknowledged_is_lost_in_any_call(rt: HostRuntime) -> Result<(), Fail> {
+    let alloc = rt.alloc();
+    for call in 0..33u64 {
+        let (done, disk) = stopped(alloc, call)?;
+        let records = call.saturating_sub(4) / 4;
+        assert_eq!(rt; done, acknowledged_after(records));
+        let is_gate = call >= 4 && call % 4 > 1;
+        let choices: &[u8] = if is_gate { &[0, 0xa5, 0xa6, 0xff] } else { &[] };
+        let most = if is_gate {
+            records.saturating_add(1)
+        } else {
+            records
+        };
+        assert!(rt; all_open_to(alloc, &disk, choices, records, most)?);
+    }
+    Ok(())
+}
+
+/// The status after the task was claimed, kept for longer, and lost.
+const LOST: &str =
+    r#"{"status":{"deadline":"2024-01-02T00:00:00.000Z","expires":"2025-01-01T00:00:00.000Z","projectId":"none","provisionerId":"prov","retriesLeft":4,"runs":[{"reasonCreated":"scheduled","reasonResolved":"claim-expired","resolved":"2024-01-01T00:40:09.999Z","runId":0,"scheduled":"2024-01-01T00:00:00.000Z","started":"2024-01-01T00:00:10.000Z","state":"exception","takenUntil":"2024-01-01T00:40:09.999Z","workerGroup":"g","workerId":"w"},{"reasonCreated":"retry","runId":1,"scheduled":"2024-01-01T00:40:09.999Z","state":"pending"}],"schedulerId":"-","state":"pending","taskGroupId":"AAAAAAAAQACAAAAAAAAAAA","taskId":"AAAAAAAAQACAAAAAAAAAAA","taskQueueId":"prov/wt","workerType":"wt"}}"#;
+
+/// Asks up to the report that comes when the claim has ended: the statuses of the replies.
+fn lose<D: Disk>(alloc: Global, farm: &mut Farm<D>) -> Result<[u16; 4], Fail> {
+    let (create, _) = ask(alloc, farm, 0, "create")?;
+    let (claim, _) = ask(alloc, farm, 10_000, "claim")?;
+    let (reclaim, _) = ask(alloc, farm, 1_209_999, "reclaim 0")?;
+    let (report, _) = ask(alloc, farm, 2_409_999, "completed 0")?;
+    Ok([create, claim, reclaim, report])
+}
+
+#[test]
+fn a_lost_run_is_told_from_any_image(rt: HostRuntime) -> Result<(), Fail> {
+    let alloc = rt.alloc();
+    let Ok(farm) = Farm::open(alloc, memory(alloc, &[], NONE)?, config(alloc)?) else {
+        return Err(Fail::from("not opened"));
+    };
+    let mut farm = farm;
+    assert_eq!(rt; lose(alloc, &mut farm)?, [200, 200, 200, 409]);
+    let summary = farm.summary();
+    assert_eq!(rt; [summary.tasks, summary.completed, summary.runs], [1, 0, 2]);
+    let disk = farm.into_disk();
+    let images = disk.images(alloc, &[0, 0xa5])?;
+    assert!(rt; !images.is_empty());
+    for image in &images {
+        let (opened, body) = reopen(alloc, memory(alloc, image, NONE)?)?;
+        assert_eq!(rt;
+            opened,
+            Ok(Counts {
+                records: 4,
+                tasks: 1
+            })
+        );
+        assert_eq!(rt; body.as_str(), LOST);
+    }
+    Ok(())
+}
+
+// The fifth call is the first after the opening; the sixth is the first sync.
+#[test]
+fn a_farm_halts_where_its_disk_fails(rt: HostRuntime) -> Result<(), Fail> {
+    let alloc = rt.alloc();
+    let Ok(farm) = Farm::open(alloc, memory(alloc, &[], 5)?, config(alloc)?) else {
+        return Err(Fail::from("not opened"));
+    };
+    let mut farm = farm;
+    let (status, body) = ask(alloc, &mut farm, 0, "create")?;
+    assert_eq!(rt; status, 500);
+    assert_eq!(rt;
+        body.as_str(),
+        r#"{"code":"DiskFault","details":{},"message":"the disk failed"}"#
+    );
+    let (status, body) = ask(alloc, &mut farm, 0, "ping")?;
+    assert_eq!(rt; status, 500);
+    assert_eq!(rt;
+        body.as_str(),
+        r#"{"code":"Halted","details":{},"message":"the disk failed earlier"}"#
+    );
+    Ok(())
+}

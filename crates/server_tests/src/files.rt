@@ -1,0 +1,97 @@
+//! Tests: a disk in memory with each stop of a small write, and a file of the host.
+
+use causes::Failed;
+use disk_base::{Disk, FileDisk, MemoryDisk};
+use std::fs;
+use std::test::Fail;
+
+/// Writes, cuts and syncs, and reads what is there.
+fn work<D: Disk>(disk: &mut D, buf: &mut [u8]) -> Result<usize, Failed> {
+    match disk.write_at(0, b"abcd") {
+        Ok(()) => {}
+        Err(Failed) => return Err(Failed),
+    }
+    match disk.sync() {
+        Ok(()) => {}
+        Err(Failed) => return Err(Failed),
+    }
+    match disk.write_at(6, b"gh") {
+        Ok(()) => {}
+        Err(Failed) => return Err(Failed),
+    }
+    match disk.cut(7) {
+        Ok(()) => {}
+        Err(Failed) => return Err(Failed),
+    }
+    match disk.sync() {
+        Ok(()) => {}
+        Err(Failed) => return Err(Failed),
+    }
+    disk.read(1, buf)
+}
+
+const PATH: &str = "disk_base_test";
+
+#[test]
+fn a_file_is_made_and_kept(rt: HostRuntime) -> Result<(), Fail> {
+    let mut buf = [9; 8];
+    let mut disk = FileDisk::open(&rt, PATH)?;
+    assert_eq!(rt; disk.read(0, &mut buf), Ok(0));
+    assert_eq!(rt; work(&mut disk, &mut buf), Ok(6));
+    assert_eq!(rt; buf, [98, 99, 100, 0, 0, 103, 9, 9]);
+    assert_eq!(rt; disk.write_at(u64::MAX - 1, b"abcd"), Err(Failed));
+    assert_eq!(rt; disk.write_at((1 << 63) - 3, b"abcd"), Err(Failed));
+    assert_eq!(rt; disk.read(u64::MAX, &mut buf), Ok(0));
+    drop(disk);
+    let mut again = FileDisk::open(&rt, PATH)?;
+    assert_eq!(rt; again.read(5, &mut buf), Ok(2));
+    assert_eq!(rt; buf, [0, 103, 100, 0, 0, 103, 9, 9]);
+    drop(again);
+    fs::remove_file(&rt, PATH)?;
+    Ok(())
+}
+
+#[test]
+fn a_disk_in_memory_fails_as_told(rt: HostRuntime) -> Result<(), Fail> {
+    let alloc = rt.alloc();
+    let mut buf = [9; 8];
+    let mut disk = MemoryDisk::new(alloc, b"", 8, 5, Vec::new(alloc))?;
+    assert_eq!(rt; work(&mut disk, &mut buf), Ok(6));
+    assert_eq!(rt; disk.bytes(), b"abcd\0\0g".as_slice());
+    // There is room for no other call that changes anything.
+    assert_eq!(rt; disk.sync(), Err(Failed));
+    assert_eq!(rt; disk.faults(), 1);
+    for failing in 0..6 {
+        let mut chosen = Vec::new(alloc);
+        chosen.push(failing)?;
+        let mut disk = MemoryDisk::new(alloc, b"", 8, 5, chosen)?;
+        assert_eq!(rt; work(&mut disk, &mut buf), Err(Failed));
+        assert_eq!(rt; disk.faults(), 1);
+    }
+    Ok(())
+}
+
+#[test]
+fn images_are_listed(rt: HostRuntime) -> Result<(), Fail> {
+    let alloc = rt.alloc();
+    let mut disk = MemoryDisk::new(alloc, b"ab", 8, 8, Vec::new(alloc))?;
+    let nothing = disk.images(alloc, &[0, 255])?;
+    assert_eq!(rt; nothing.len(), 1);
+    assert_eq!(rt; nothing[0].as_slice(), b"ab".as_slice());
+    // The byte is as it was, or one of the choices.
+    assert_eq!(rt; disk.write_at(1, b"z"), Ok(()));
+    let over = disk.images(alloc, &[0, 255])?;
+    assert_eq!(rt; over.len(), 3);
+    assert_eq!(rt; over[1].as_slice(), [97, 0].as_slice());
+    assert_eq!(rt; disk.sync(), Ok(()));
+    // None, one or two bytes more, and then one, two, three or four in all.
+    assert_eq!(rt; disk.write_at(2, b"yy"), Ok(()));
+    assert_eq!(rt; disk.images(alloc, &[0, 255])?.len(), 7);
+    assert_eq!(rt; disk.cut(1), Ok(()));
+    assert_eq!(rt; disk.images(alloc, &[0, 255])?.len(), 2 + 2 * 3 + 4 * 4);
+    assert_eq!(rt; disk.sync(), Ok(()));
+    let cut = disk.images(alloc, &[0, 255])?;
+    assert_eq!(rt; cut.len(), 1);
+    assert_eq!(rt; cut[0].as_slice(), b"a".as_slice());
+    Ok(())
+}

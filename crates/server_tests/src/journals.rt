@@ -1,0 +1,150 @@
+//! Stops of appends and of openings, image by image.
+
+use disk_base::{Disk, MemoryDisk};
+use disk_journal::{DiskFault, Frame, Journal, OpenFault, frame, frame_tick};
+use std::alloc::{AllocError, Global};
+use std::test::Fail;
+
+/// How many bodies a disk opens to, or why to none.
+#[derive(Clone, Copy, Debug, PartialEq, Eq)]
+enum Outcome {
+    Bodies(usize),
+    Fault(OpenFault),
+}
+
+fn open<D: Disk>(alloc: Global, disk: D) -> (Outcome, D) {
+    match Journal::open(alloc, disk) {
+        Ok((journal, bodies)) => (Outcome::Bodies(bodies.len()), journal.into_disk()),
+        Err((fault, disk)) => (Outcome::Fault(fault), disk),
+    }
+}
+
+/// Opens a disk and appends to it.
+fn append<D: Disk, F: Frame>(alloc: Global, disk: D, frame: &F) -> (Option<DiskFault>, D) {
+    match Journal::open(alloc, disk) {
+        Ok((mut journal, _)) => {
+            let fault = journal.append(frame).err();
+            (fault, journal.into_disk())
+        }
+        Err((_, disk)) => (None, disk),
+    }
+}
+
+fn memory(alloc: Global, file: &[u8], failing: Option<u64>) -> Result<MemoryDisk, AllocError> {
+    let mut calls = Vec::new(alloc);
+    if let Some(call) = failing {
+        calls.push(call)?;
+    }
+    if file.len() > 64 {
+        return Err(AllocError);
+    }
+    MemoryDisk::new(alloc, file, 64, 64, calls)
+}
+
+/// What a file opens to.
+fn reopen(alloc: Global, file: &[u8]) -> Result<Outcome, AllocError> {
+    Ok(open(alloc, memory(alloc, file, None)?).0)
+}
+
+/// The byte of the first gate.
+fn first_byte(file: &[u8]) -> u8 {
+    if file.is_empty() { 0 } else { file[0] }
+}
+
+/// How many of these images open to no body, and how many to one.
+fn counts(alloc: Global, images: &[Vec<u8>]) -> Result<(u64, u64), AllocError> {
+    let mut none = 0u64;
+    let mut one = 0u64;
+    for image in images {
+        match reopen(alloc, image)? {
+            Outcome::Bodies(0) => none = none.saturating_add(1),
+            Outcome::Bodies(1) => one = one.saturating_add(1),
+            _ => {}
+        }
+    }
+    Ok((none, one))
+}
+
+/// The tick at the first moment of 2024.
+const TICK: [u8; 9] = [1, 0, 0, 1, 0x8c, 0xc2, 0x51, 0xf4, 0];
+
+const WHOLE: [u8; 15] = [0xa5, 0, 0, 0, 9, 1, 0, 0, 1, 0x8c, 0xc2, 0x51, 0xf4, 0, 0];
+
+fn every_byte(alloc: Global) -> Result<Vec<u8>, AllocError> {
+    let mut all = Vec::new(alloc);
+    for byte in 0..=255u8 {
+        all.push(byte)?;
+    }
+    Ok(all)
+}
+
+// The opening of a file of one closed gate is a sync and two reads, so the calls of the append are the third to the sixth.
+#[test]
+fn an_append_is_stopped_in_each_call(rt: HostRuntime) -> Result<(), Fail> {
+    let alloc = rt.alloc();
+    let all = every_byte(alloc)?;
+    let tick = frame_tick(TICK);
+    for call in 3..5 {
+        let (fault, stopped) = append(alloc, memory(alloc, &[0], Some(call))?, &tick);
+        assert_eq!(rt; fault, Some(DiskFault));
+        let images = stopped.images(alloc, &[0xa5])?;
+        assert_eq!(rt; counts(alloc, &images)?, (15, 0));
+    }
+    for call in 5..7 {
+        let (fault, stopped) = append(alloc, memory(alloc, &[0], Some(call))?, &tick);
+        assert_eq!(rt; fault, Some(DiskFault));
+        assert_eq!(rt; counts(alloc, &stopped.images(alloc, &all)?)?, (255, 1));
+    }
+    let (fault, done) = append(alloc, memory(alloc, &[0], None)?, &tick);
+    assert_eq!(rt; fault, None);
+    assert_eq!(rt; done.bytes(), WHOLE.as_slice());
+    assert_eq!(rt; counts(alloc, &done.images(alloc, &all)?)?, (0, 1));
+    assert_eq!(rt; reopen(alloc, &[0xa5])?, Outcome::Bodies(0));
+    assert_eq!(rt;
+        reopen(alloc, &WHOLE[..7])?,
+        Outcome::Fault(OpenFault::Damaged(0))
+    );
+    Ok(())
+}
+
+// A body of one byte on an empty disk, in every way that three values of a byte make.
+#[test]
+fn openings_are_stopped_in_each_call(rt: HostRuntime) -> Result<(), Fail> {
+    let alloc = rt.alloc();
+    let all = every_byte(alloc)?;
+    let body = frame(alloc, &[7])?;
+    // The opening of an empty disk: a sync, a read, and the closing of its gate.
+    for call in 0..4 {
+        let (outcome, stopped) = open(alloc, memory(alloc, &[], Some(call))?);
+        assert_eq!(rt; outcome, Outcome::Fault(OpenFault::Disk));
+        let images = stopped.images(alloc, &all)?;
+        let count = if call < 2 { 1 } else { 257 };
+        assert_eq!(rt; counts(alloc, &images)?, (count, 0));
+    }
+    for call in 4..6 {
+        let (_, stopped) = append(alloc, memory(alloc, &[], Some(call))?, &body);
+        assert_eq!(rt;
+            counts(alloc, &stopped.images(alloc, &[0, 1, 0xa5])?)?,
+            (1093, 0)
+        );
+    }
+    let (_, stopped) = append(alloc, memory(alloc, &[], Some(6))?, &body);
+    for image in &stopped.images(alloc, &all)? {
+        let gate = first_byte(image);
+        // A sync, two reads, and the closing of a gate that is neither open nor closed.
+        for call in 0..5 {
+            let (_, again) = open(alloc, memory(alloc, image, Some(call))?);
+            let (none, one) = counts(alloc, &again.images(alloc, &all)?)?;
+            let pending = call > 2 && gate != 0 && gate != 0xa5;
+            let wanted = if pending {
+                (255, 1)
+            } else if gate == 0xa5 {
+                (0, 1)
+            } else {
+                (1, 0)
+            };
+            assert_eq!(rt; (none, one), wanted);
+        }
+    }
+    Ok(())
+}

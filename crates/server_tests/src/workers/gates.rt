@@ -1,0 +1,99 @@
+//! Workers whose gates hold one until another has answered: this is so only where they run beside each other.
+ghost use Rattle.std.specs.Prelude.{None};
+
+use super::{PING, desk, link};
+use farm_core::bare_farms_cross_threads;
+use farm_server::{Gate, When};
+use farm_serving::{Ended, MemoryListener, Worker, serve};
+use farm_text::{ListClock, ListDraws};
+use std::alloc::{AllocError, Global};
+use std::hint;
+use std::sync::Wait;
+use std::sync::atomic::{AtomicBool, Ordering};
+use std::test::Fail;
+use std::thread::Threads;
+
+/// A gate that is held before the first ask until a sign is given, or that gives the sign once the first reply is written.
+#[derive(Drop)]
+struct Turnstile<'a> {
+    sign: &'a AtomicBool,
+    is_held: bool,
+    /// Whether the sign came while the gate was held.
+    came_in_time: bool,
+}
+
+impl Gate for Turnstile<'_> {
+    ghost told = { λ _. None };
+
+    fn at(&mut self, when: When) {
+        match when {
+            When::Asked(0) if self.is_held => self.came_in_time = await_sign(self.sign),
+            When::Answered(0) if !self.is_held => self.sign.store(true, Ordering::SeqCst),
+            _ => {}
+        }
+    }
+}
+
+/// Waits until the sign is given, for so many turns at most, and says whether it is.
+fn await_sign(sign: &AtomicBool) -> bool {
+    for _ in 0..100_000_000u32 {
+        if sign.load(Ordering::SeqCst) {
+            return true;
+        }
+        hint::spin_loop();
+    }
+    false
+}
+
+/// A worker at whose door one link comes, with one ping, and whose gate is held or gives the sign.
+fn turned<'a>(
+    alloc: Global,
+    sign: &'a AtomicBool,
+    is_held: bool,
+) -> Result<Worker<MemoryListener, ListClock, ListDraws, Turnstile<'a>>, AllocError> {
+    let mut coming = Vec::new(alloc);
+    coming.push(link(alloc, &[PING], &[], &[])?)?;
+    Ok(Worker {
+        door: MemoryListener::new(alloc, coming, Vec::new(alloc), Vec::new(alloc))?,
+        clock: ListClock::new(Vec::new(alloc)),
+        draws: ListDraws::new(Vec::new(alloc)),
+        gate: Turnstile {
+            sign,
+            is_held,
+            came_in_time: false,
+        },
+    })
+}
+
+/// Lets two workers serve a ping each, the first or the second of which is held until the other has answered: how many messages were
+/// asked, and whether the sign came in time.
+fn ask_through_gates<R: Threads + Wait + Sync>(
+    rt: &R,
+    alloc: Global,
+    is_first_held: bool,
+) -> Result<(u64, bool), Fail> {
+    let sign = AtomicBool::new(false);
+    let (shared, token) = desk(alloc)?;
+    let mut workers = [
+        turned(alloc, &sign, is_first_held)?,
+        turned(alloc, &sign, !is_first_held)?,
+    ];
+    bare_farms_cross_threads();
+    let (_, Ended { served, .. }) = serve(rt, alloc, &shared, token, &mut workers, 1);
+    Ok((
+        served,
+        workers.iter().any(|worker| worker.gate.came_in_time),
+    ))
+}
+
+#[test]
+fn the_first_of_two_workers_waits_for_the_second(rt: HostRuntime) -> Result<(), Fail> {
+    assert_eq!(rt; ask_through_gates(&rt, rt.alloc(), true)?, (2, true));
+    Ok(())
+}
+
+#[test]
+fn the_second_of_two_workers_waits_for_the_first(rt: HostRuntime) -> Result<(), Fail> {
+    assert_eq!(rt; ask_through_gates(&rt, rt.alloc(), false)?, (2, true));
+    Ok(())
+}

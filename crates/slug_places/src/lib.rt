@@ -1,0 +1,4 @@
+//! Where tasks stand, by their ids.
+#![tactic(auto)]
+
+pub mod places;
