@@ -74,33 +74,63 @@ pub(crate) fn comes_to(
     is_outcome(alloc, &done, code, told)
 }
 
+/// What a row says: the words, the farm file and the input of a run, what of it fails, and its status with what is told.
+#[derive(Clone, Copy)]
+struct Row<'a> {
+    words: &'a str,
+    farm: &'a str,
+    input: &'a str,
+    fails: &'a str,
+    code: &'a str,
+    told: &'a str,
+}
+
+/// The parts of a row, which bars cut.
+fn parts(row: &str) -> Result<Row<'_>, Fail> {
+    let (words, rest) = row.split_once('|').ok_or("the words")?;
+    let (farm, rest) = rest.split_once('|').ok_or("the farm file")?;
+    let (input, rest) = rest.split_once('|').ok_or("the input")?;
+    let (fails, rest) = rest.split_once('|').ok_or("what fails")?;
+    let (code, told) = rest.split_once('|').ok_or("the status")?;
+    Ok(Row {
+        words,
+        farm,
+        input,
+        fails,
+        code,
+        told,
+    })
+}
+
+/// The words of a line.
+fn words_of(alloc: Global, line: &str) -> Result<Vec<&str>, AllocError> {
+    let mut words = Vec::new(alloc);
+    for word in line.split(' ') {
+        if !word.is_empty() {
+            words.push(word)?;
+        }
+    }
+    Ok(words)
+}
+
 /// Whether a row holds: a run with its words, farm file and input, of which this fails, has this status, output and notes.
 pub(crate) fn holds(
     rt: &(impl Threads + Wait + Sync),
     alloc: Global,
     row: &str,
 ) -> Result<bool, Fail> {
-    let (words, rest) = row.split_once('|').ok_or("the words")?;
-    let (farm, rest) = rest.split_once('|').ok_or("the farm file")?;
-    let (input, rest) = rest.split_once('|').ok_or("the input")?;
-    let (fails, rest) = rest.split_once('|').ok_or("what fails")?;
-    let (code, told) = rest.split_once('|').ok_or("the status")?;
-    let line = unescaped(alloc, words)?;
-    let farm = unescaped(alloc, farm)?;
-    let input = unescaped(alloc, input)?;
-    let mut words = Vec::new(alloc);
-    for word in str::from_utf8(line.as_slice())?.split(' ') {
-        if !word.is_empty() {
-            words.push(word)?;
-        }
-    }
+    let row = parts(row)?;
+    let line = unescaped(alloc, row.words)?;
+    let farm = unescaped(alloc, row.farm)?;
+    let input = unescaped(alloc, row.input)?;
+    let words = words_of(alloc, str::from_utf8(line.as_slice())?)?;
     let case = Case {
         words: words.as_slice(),
         farm: farm.as_slice(),
-        failing_farm_reads: failing(fails, "farm"),
+        failing_farm_reads: failing(row.fails, "farm"),
         input: input.as_slice(),
-        failing_reads: failing(fails, "read"),
-        failing_writes: failing(fails, "write"),
+        failing_reads: failing(row.fails, "read"),
+        failing_writes: failing(row.fails, "write"),
     };
-    comes_to(rt, alloc, &case, code, told)
+    comes_to(rt, alloc, &case, row.code, row.told)
 }
