@@ -30,3 +30,7 @@ pub mod ListLemmas
 pub mod ServedLemmas
 pub mod SummaryLemmas
 pub mod CrossingLemmas
+pub mod QueueNameLemmas
+pub mod QueueLemmas
+pub mod QueueWalkLemmas
+pub mod QueueRoomLemmas

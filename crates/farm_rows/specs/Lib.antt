@@ -13,3 +13,4 @@ pub mod Deeds
 pub mod Sweep
 pub mod Settling
 pub mod Placed
+pub mod Queues

@@ -14,6 +14,7 @@ mod moves;
 mod picks;
 mod places;
 mod plan;
+mod queues;
 mod room;
 mod settle;
 mod shown;

@@ -1,0 +1,2 @@
+-- Room in the queues for all tasks.
+use Rattle.std.proofs.Common.{◌≡◌}
