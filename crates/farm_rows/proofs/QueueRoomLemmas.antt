@@ -1,2 +1,389 @@
--- Room in the queues for all tasks.
-use Rattle.std.proofs.Common.{◌≡◌}
+-- Room in the queues for all tasks: as a task begins or ceases to wait, as one is noted, and as one comes.
+use Rattle.std.proofs.Common.{◌≡◌, ◌≢◌, ℕ, zero, suc, ◌+◌, ◌-◌, ◌<◌, ◌≤◌, ◌==◌, ◌⊎◌, inl, inr, min, max, Bool, true, false, cond, List, [], ◌∷◌, ◌++◌, length, filter, map, find, replicate, ◌||◌, Option, Some, None, option_map, is_some, option_and_then, refl, sym, ap, ◌∙◌, subst, slice_get, slice_set, slice_index_or, count_by, bytes_eq, arith}
+use Rattle.std.specs.List.{AllByRecursion}
+use Rattle.std.specs.Option.{ForSome, option_map_or}
+use Rattle.std.proofs.lemmas.Bool.Decides.{nat_tests}
+use Rattle.std.proofs.lemmas.List.Sums.{length-filter, count_by-le-length}
+use Rattle.std.proofs.lemmas.List.Elements.{filter-append, map-append}
+use Rattle.std.proofs.lemmas.Slice.Eq.{bytes_eq-Decides}
+use Rattle.std.proofs.Math.ListN.{length-append}
+use Rattle.run_states.specs.Rows.{Row, is_pending}
+use Rattle.claim_queue.specs.declared.queues.Queue.{Queue}
+use Rattle.claim_queue.specs.Held.{up_to}
+use Rattle.claim_queue.specs.Waits.{Waiting, Waits, knows, raised, with_room, roomier, room_in, count_in, spare_in, waits_in as is_in}
+use Rattle.claim_queue.proofs.HeapLemmas.{same?}
+use Rattle.farm_rows.specs.declared.queues.Queues.{Queues}
+use Rattle.farm_rows.specs.Queues.{name_of, HasOneSlash, waiting_of, held_of, left_of, held_at, with_row, AreLeft, queue_names, times_named, HaveRoom, AreQueues, AreQueuesBut}
+use Rattle.farm_rows.proofs.QueueLemmas.{told-left}
+use Rattle.farm_rows.proofs.QueueWalkLemmas.{set-same, set-none, set-other}
+
+-- ---- rows that are written
+
+set-long : {A : Type 0} (xs : List A) (i : ℕ) (y : A) → length (slice_set xs i y) ≡ length xs
+set-long [] i y = refl
+set-long (x ∷ xs) zero y = refl
+set-long (x ∷ xs) (suc i) y = ap suc (set-long xs i y)
+
+set-twice : {A : Type 0} (xs : List A) (i : ℕ) (y z : A) → slice_set (slice_set xs i y) i z ≡ slice_set xs i z
+set-twice [] i y z = refl
+set-twice (x ∷ xs) zero y z = refl
+set-twice (x ∷ xs) (suc i) y z = ap (λ (l : List _). x ∷ l) (set-twice xs i y z)
+
+set-again : {A : Type 0} (xs : List A) (i : ℕ) (y : A) → slice_get xs i ≡ Some y → slice_set xs i y ≡ xs
+set-again [] i y is = absurd (cc)
+set-again (x ∷ xs) zero y is = let e : y ≡ x = cc in ap (λ z. z ∷ xs) e
+set-again (x ∷ xs) (suc i) y is = ap (λ (l : List _). x ∷ l) (set-again xs i y is)
+
+got-within : {A : Type 0} (xs : List A) (i : ℕ) (x : A) → slice_get xs i ≡ Some x → i < length xs
+got-within [] i x is = absurd (cc)
+got-within (y ∷ xs) zero x is = omega arith
+got-within (y ∷ xs) (suc i) x is = let more = got-within xs i x is in omega arith
+
+-- a row that is not held is released already
+pub released : (waits : Waits) (row : ℕ) → slice_get waits.rows row ≡ Some None → waits ≡ with_row row None waits
+released waits row is = sym (ap (λ (rs : List (Option Waiting)). let w : Waits = record { queues = waits.queues; rows = rs } in w) (set-again waits.rows row None is))
+
+pub may-hold : (waits : Waits) (row : ℕ) (name : List ℕ) → option_map is_some (slice_get waits.rows row) ≡ Some false → 1 ≤ spare_in name waits → (row < length waits.rows) × (1 ≤ spare_in name (with_row row None waits))
+may-hold waits row name is spare = by (slice_get waits.rows row) refl where
+  by : (x : Option (Option Waiting)) → slice_get waits.rows row ≡ x → (row < length waits.rows) × (1 ≤ spare_in name (with_row row None waits))
+  by None none = let both : None ≡ Some false = sym (ap (option_map is_some) none) ∙ is in absurd (cc)
+  by (Some (Some w)) some = let both : Some true ≡ Some false = sym (ap (option_map is_some) some) ∙ is in absurd (cc)
+  by (Some None) some = (got-within waits.rows row None some, subst (λ (w : Waits). 1 ≤ spare_in name w) (released waits row some) spare)
+
+-- a row that is not known to be held, of those for which room was made
+pub not-held : (waits : Waits) (row : ℕ) → row < length waits.rows → (option_map is_some (slice_get waits.rows row) ≡ Some true → ⊥) → slice_get waits.rows row ≡ Some None
+not-held waits row within not_ = by waits.rows row within not_ where
+  by : (rows : List (Option Waiting)) (row : ℕ) → row < length rows → (option_map is_some (slice_get rows row) ≡ Some true → ⊥) → slice_get rows row ≡ Some None
+  by [] row within not_ = absurd (omega arith)
+  by (None ∷ rows) zero within not_ = refl
+  by (Some w ∷ rows) zero within not_ = absurd (not_ refl)
+  by (x ∷ rows) (suc row) within not_ = by rows row (omega arith) not_
+
+pub is-held : (waits : Waits) (row : ℕ) (name : List ℕ) (task : Row) (waiting : Waiting) → is_pending task ≡ true → waiting ≡ waiting_of task
+    → (let w : Waits = record { queues = waits.queues; rows = slice_set (slice_set waits.rows row None) row (Some waiting) } in w) ≡ with_row row (held_of task) waits
+is-held waits row name task waiting pending is =
+    let held : held_of task ≡ Some (waiting_of task) = ap (λ t. let o : Option Waiting = cond t (Some (waiting_of task)) None in o) pending in
+    ap (λ (rs : List (Option Waiting)). let w : Waits = record { queues = waits.queues; rows = rs } in w)
+    (set-twice waits.rows row None (Some waiting) ∙ ap (slice_set waits.rows row) (ap (λ (w : Waiting). Some w) is ∙ sym held))
+
+-- ---- there is room for a task that begins to wait
+
+one-more : {A : Type 0} (p : A → Bool) (x : A) (xs : List A) → length (filter p (x ∷ xs)) ≡ cond (p x) 1 0 + length (filter p xs)
+one-more p x xs = by (p x) where
+  by : (t : Bool) → length (cond t (x ∷ filter p xs) (filter p xs)) ≡ cond t 1 0 + length (filter p xs)
+  by true = refl
+  by false = refl
+
+-- what is held of each row is how its task waits, or nothing
+abbrev Within : List (Option Waiting) → List Row → Type 0
+Within held rows = (place : ℕ) (waiting : Waiting) → slice_index_or held place None ≡ Some waiting → option_and_then held_of (slice_get rows place) ≡ Some waiting
+
+module _ (name : List ℕ) where
+  abbrev named : List ℕ → Bool
+  named other = bytes_eq other name
+
+  one-held : (x : Option Waiting) (row : Row) → ((waiting : Waiting) → x ≡ Some waiting → held_of row ≡ Some waiting) → cond (is_in name x) 1 0 ≤ cond (named (name_of row.definition.queue)) 1 0
+  one-held None row within = omega arith
+  one-held (Some waiting) row within =
+      let is : waiting ≡ waiting_of row = told-left [] row waiting (within waiting refl) in
+      let same : named waiting.queue ≡ named (name_of row.definition.queue) = ap (λ (w : Waiting). named w.queue) is in
+      subst (λ t. cond (named waiting.queue) 1 0 ≤ cond t 1 0) same (le (cond (named waiting.queue) 1 0))
+    where
+      le : (n : ℕ) → n ≤ n
+      le n = omega arith
+
+  few-held : (held : List (Option Waiting)) (rows : List Row) → Within held rows → length (filter (is_in name) held) ≤ length (filter named (queue_names rows))
+  few-held [] rows within = omega arith
+  few-held (None ∷ held) [] within = few-held held [] (λ k. within (suc k))
+  few-held (Some waiting ∷ held) [] within = let e : None ≡ Some waiting = within 0 waiting refl in absurd (cc)
+  few-held (x ∷ held) (row ∷ rows) within =
+      let rest = few-held held rows (λ k. within (suc k)) in
+      let one = one-held x row (within 0) in
+      let a = one-more (is_in name) x held in
+      let b = one-more named (name_of row.definition.queue) (queue_names rows) in
+      omega (arith, rest, one, a, b)
+
+  fewer-held : (place : ℕ) (held : List (Option Waiting)) (rows : List Row) (row : Row) → Within held rows → slice_index_or held place None ≡ None → slice_get rows place ≡ Some row → named (name_of row.definition.queue) ≡ true
+      → length (filter (is_in name) held) + 1 ≤ length (filter named (queue_names rows))
+  fewer-held place held [] row within none some here = absurd (cc)
+  fewer-held zero [] (first ∷ rows) row within none some here =
+      let is : first ≡ row = cc in
+      let yes_ : named (name_of first.definition.queue) ≡ true = ap (λ (r : Row). named (name_of r.definition.queue)) is ∙ here in
+      let b = one-more named (name_of first.definition.queue) (queue_names rows) in
+      let c : cond (named (name_of first.definition.queue)) 1 0 ≡ 1 = ap (λ t. cond t 1 0) yes_ in
+      omega (arith, b, c)
+  fewer-held zero (x ∷ held) (first ∷ rows) row within none some here =
+      let is : first ≡ row = cc in
+      let yes_ : named (name_of first.definition.queue) ≡ true = ap (λ (r : Row). named (name_of r.definition.queue)) is ∙ here in
+      let a = one-more (is_in name) x held in
+      let b = one-more named (name_of first.definition.queue) (queue_names rows) in
+      let c : cond (named (name_of first.definition.queue)) 1 0 ≡ 1 = ap (λ t. cond t 1 0) yes_ in
+      let d : cond (is_in name x) 1 0 ≡ 0 = ap (λ (o : Option Waiting). cond (is_in name o) 1 0) none in
+      let rest = few-held held rows (λ k. within (suc k)) in
+      omega (arith, a, b, c, d, rest)
+  fewer-held (suc place) [] (first ∷ rows) row within none some here =
+      let rest = fewer-held place [] rows row (λ k. within (suc k)) none some here in
+      let b = one-more named (name_of first.definition.queue) (queue_names rows) in
+      omega (arith, rest, b)
+  fewer-held (suc place) (x ∷ held) (first ∷ rows) row within none some here =
+      let rest = fewer-held place held rows row (λ k. within (suc k)) none some here in
+      let one = one-held x first (within 0) in
+      let a = one-more (is_in name) x held in
+      let b = one-more named (name_of first.definition.queue) (queue_names rows) in
+      omega (arith, rest, one, a, b)
+
+names-long : (rows : List Row) → length (queue_names rows) ≡ length rows
+names-long [] = refl
+names-long (row ∷ rows) = ap suc (names-long rows)
+
+not-same : (a b : ℕ) → a ≢ b → (a == b) ≡ false
+not-same a b ne = by (a == b) refl where
+  by : (t : Bool) → (a == b) ≡ t → (a == b) ≡ false
+  by false is = is
+  by true is = absurd (ne (grind (arith, nat_tests)))
+
+same-name : (a : List ℕ) → bytes_eq a a ≡ true
+same-name a = (bytes_eq-Decides a a).1 refl
+
+module _ (place : ℕ) (queues : Queues) (rows : List Row) (all : AreQueuesBut place queues rows) where
+  within-others : Within (slice_set queues.pending.rows place None) rows
+  within-others = λ k waiting is. by k waiting is (same? k place) where
+    by : (k : ℕ) (waiting : Waiting) → slice_index_or (slice_set queues.pending.rows place None) k None ≡ Some waiting → (k ≡ place) ⊎ (k ≢ place) → option_and_then held_of (slice_get rows k) ≡ Some waiting
+    by k waiting is (inl same) =
+        let none : slice_index_or (slice_set queues.pending.rows place None) k None ≡ None = ap (λ n. slice_index_or (slice_set queues.pending.rows place None) n None) same ∙ set-none queues.pending.rows place in
+        let both : None ≡ Some waiting = sym none ∙ is in
+        absurd (cc)
+    by k waiting is (inr ne) = sym (all.others k (not-same k place ne)) ∙ (sym (set-other queues.pending.rows place k None ne) ∙ is)
+
+  pub changed-room : (row : Row) (name : List ℕ) → slice_get rows place ≡ Some row → name ≡ name_of row.definition.queue → 1 ≤ spare_in name (with_row place None queues.pending)
+  changed-room row name here named_ =
+      let yes_ : bytes_eq (name_of row.definition.queue) name ≡ true = ap (λ (n : List ℕ). bytes_eq n name) (sym named_) ∙ same-name name in
+      let fewer = fewer-held name place (slice_set queues.pending.rows place None) rows row within-others (set-none queues.pending.rows place) here yes_ in
+      let a : length (filter (is_in name) (slice_set queues.pending.rows place None)) ≡ count_in name (with_row place None queues.pending) = length-filter (is_in name) (slice_set queues.pending.rows place None) in
+      let b : length (filter (λ other. bytes_eq other name) (queue_names rows)) ≡ times_named name (queue_names rows) = length-filter (λ other. bytes_eq other name) (queue_names rows) in
+      let c : times_named name (queue_names rows) ≤ room_in name queues.pending.queues = all.kept.room name in
+      omega (arith, fewer, a, b, c)
+
+  pub changed-all : (new : Queues) (row : Row) → slice_get rows place ≡ Some row → new.pending ≡ with_row place (held_of row) queues.pending → new.names.items ≡ queues.names.items → new.next ≡ queues.next → AreQueues new rows
+  changed-all new row here is names next = record {
+      kept = record {
+        named = names ∙ all.kept.named;
+        slashes = all.kept.slashes;
+        long = let l = all.kept.long in let m : length new.pending.rows ≡ length queues.pending.rows = ap (λ (w : Waits). length w.rows) is ∙ set-long queues.pending.rows place (held_of row) in omega (arith, l, m);
+        room = λ name. subst (λ (w : Waits). times_named name (queue_names rows) ≤ room_in name w.queues) (sym is) (all.kept.room name);
+        next = λ name some. subst (λ (w : Waits). HasOneSlash name × (times_named name (queue_names rows) + 1 ≤ room_in name w.queues)) (sym is) (all.kept.next name (sym next ∙ some));
+      };
+      held = λ k. ap (λ (w : Waits). held_at k w) is ∙ by k (same? k place);
+    }
+    where
+      long : length (queue_names rows) ≡ length rows
+      long = names-long rows
+
+      within : place < length queues.pending.rows
+      within = let a = got-within rows place row here in let l = all.kept.long in let m = long in omega (arith, a, l, m)
+
+      by : (k : ℕ) → (k ≡ place) ⊎ (k ≢ place) → held_at k (with_row place (held_of row) queues.pending) ≡ option_and_then (left_of []) (slice_get rows k)
+      by k (inl same) =
+          ap (λ n. held_at n (with_row place (held_of row) queues.pending)) same
+          ∙ (set-same queues.pending.rows place (held_of row) within ∙ sym (ap (λ n. option_and_then (left_of []) (slice_get rows n)) same ∙ ap (option_and_then (left_of [])) here))
+      by k (inr ne) = set-other queues.pending.rows place k (held_of row) ne ∙ all.others k (not-same k place ne)
+
+-- ---- a task is noted
+
+-- the room of the first queue of a name
+room-cons : (name : List ℕ) (queue : Queue) (queues : List Queue) → room_in name (queue ∷ queues) ≡ cond (bytes_eq queue.name name) queue.room (room_in name queues)
+room-cons name queue queues = by (bytes_eq queue.name name) where
+  by : (t : Bool) → option_map_or (λ (q : Queue). q.room) (cond t (Some queue) (find (λ (q : Queue). bytes_eq q.name name) queues)) 0 ≡ cond t queue.room (room_in name queues)
+  by true = refl
+  by false = refl
+
+cond-le : (t : Bool) (a b c d : ℕ) → a ≤ b → c ≤ d → cond t a c ≤ cond t b d
+cond-le true a b c d p q = p
+cond-le false a b c d p q = q
+
+module _ (name : List ℕ) (room : ℕ) where
+  abbrev higher : Queue → Bool → Queue
+  higher queue t = cond t (record { name = queue.name; room = max queue.room room }) queue
+
+  raised-name : (queue : Queue) → (raised name room queue).name ≡ queue.name
+  raised-name queue = by (bytes_eq queue.name name) where
+    by : (t : Bool) → (higher queue t).name ≡ queue.name
+    by true = refl
+    by false = refl
+
+  raised-more : (queue : Queue) → queue.room ≤ (raised name room queue).room
+  raised-more queue = by (bytes_eq queue.name name) where
+    by : (t : Bool) → queue.room ≤ (higher queue t).room
+    by true = omega arith
+    by false = omega arith
+
+  raised-enough : (queue : Queue) → bytes_eq queue.name name ≡ true → room ≤ (raised name room queue).room
+  raised-enough queue is =
+      let e : (raised name room queue).room ≡ max queue.room room = ap (λ t. (higher queue t).room) is in
+      omega (arith, e)
+
+  -- the room of a queue is no less
+  more-raised : (other : List ℕ) (queues : List Queue) → room_in other queues ≤ room_in other (map (raised name room) queues)
+  more-raised other [] = omega arith
+  more-raised other (queue ∷ queues) =
+      let a = room-cons other queue queues in
+      let b : room_in other (map (raised name room) (queue ∷ queues)) ≡ cond (bytes_eq queue.name other) (raised name room queue).room (room_in other (map (raised name room) queues)) =
+      room-cons other (raised name room queue) (map (raised name room) queues)
+      ∙ ap (λ (n : List ℕ). cond (bytes_eq n other) (raised name room queue).room (room_in other (map (raised name room) queues))) (raised-name queue) in
+      let c = cond-le (bytes_eq queue.name other) queue.room (raised name room queue).room (room_in other queues) (room_in other (map (raised name room) queues)) (raised-more queue) (more-raised other queues) in
+      omega (arith, a, b, c)
+
+  abbrev made : Queue
+  made = record { name = name; room = room }
+
+  more-behind : (other : List ℕ) (queues : List Queue) → room_in other queues ≤ room_in other (queues ++ made ∷ [])
+  more-behind other [] = omega arith
+  more-behind other (queue ∷ queues) =
+      let a = room-cons other queue queues in
+      let b = room-cons other queue (queues ++ made ∷ []) in
+      let c = cond-le (bytes_eq queue.name other) queue.room queue.room (room_in other queues) (room_in other (queues ++ made ∷ [])) (omega arith) (more-behind other queues) in
+      omega (arith, a, b, c)
+
+  pub more-room : (other : List ℕ) (queues : List Queue) → room_in other queues ≤ room_in other (with_room name room queues)
+  more-room other queues = by (knows name queues) where
+    by : (t : Bool) → room_in other queues ≤ room_in other (let qs : List Queue = cond t (map (raised name room) queues) (queues ++ made ∷ []) in qs)
+    by true = more-raised other queues
+    by false = more-behind other queues
+
+  -- and that of this one is enough
+  enough-raised : (queues : List Queue) → knows name queues ≡ true → room ≤ room_in name (map (raised name room) queues)
+  enough-raised [] known = absurd (cc)
+  enough-raised (queue ∷ queues) known =
+      let b : room_in name (map (raised name room) (queue ∷ queues)) ≡ cond (bytes_eq queue.name name) (raised name room queue).room (room_in name (map (raised name room) queues)) =
+      room-cons name (raised name room queue) (map (raised name room) queues)
+      ∙ ap (λ (n : List ℕ). cond (bytes_eq n name) (raised name room queue).room (room_in name (map (raised name room) queues))) (raised-name queue) in
+      subst (λ n. room ≤ n) (sym b) (by (enough-raised queues) (bytes_eq queue.name name) refl)
+    where
+      by : (knows name queues ≡ true → room ≤ room_in name (map (raised name room) queues)) → (t : Bool) → bytes_eq queue.name name ≡ t → room ≤ cond t (raised name room queue).room (room_in name (map (raised name room) queues))
+      by rest true is = raised-enough queue is
+      by rest false is = rest (sym (ap (λ t. t || knows name queues) is) ∙ known)
+
+  enough-behind : (queues : List Queue) → knows name queues ≡ false → room ≤ room_in name (queues ++ made ∷ [])
+  enough-behind [] known =
+      let b = room-cons name made [] in
+      let c : cond (bytes_eq name name) room (room_in name []) ≡ room = ap (λ t. cond t room (room_in name [])) (same-name name) in
+      omega (arith, b, c)
+  enough-behind (queue ∷ queues) known = subst (λ n. room ≤ n) (sym (room-cons name queue (queues ++ made ∷ []))) (by (enough-behind queues) (bytes_eq queue.name name) refl) where
+    by : (knows name queues ≡ false → room ≤ room_in name (queues ++ made ∷ [])) → (t : Bool) → bytes_eq queue.name name ≡ t → room ≤ cond t queue.room (room_in name (queues ++ made ∷ []))
+    by rest true is = let both : true ≡ false = sym (ap (λ t. t || knows name queues) is) ∙ known in absurd (cc)
+    by rest false is = rest (sym (ap (λ t. t || knows name queues) is) ∙ known)
+
+  pub enough-room : (queues : List Queue) → room ≤ room_in name (with_room name room queues)
+  enough-room queues = by (knows name queues) refl where
+    by : (t : Bool) → knows name queues ≡ t → room ≤ room_in name (let qs : List Queue = cond t (map (raised name room) queues) (queues ++ made ∷ []) in qs)
+    by true known = enough-raised queues known
+    by false known = enough-behind queues known
+
+none-behind : (n k : ℕ) → slice_index_or (replicate n (let o : Option Waiting = None in o)) k None ≡ None
+none-behind zero k = refl
+none-behind (suc n) zero = refl
+none-behind (suc n) (suc k) = none-behind n k
+
+same-behind : (held : List (Option Waiting)) (n k : ℕ) → slice_index_or (held ++ replicate n None) k None ≡ slice_index_or held k None
+same-behind [] n k = none-behind n k
+same-behind (x ∷ held) n zero = refl
+same-behind (x ∷ held) n (suc k) = same-behind held n k
+
+module _ (old new : Queues) (rows : List Row) (name : List ℕ) (more below : ℕ) (all : AreQueues old rows) (is : new.pending ≡ roomier name more below old.pending) where
+  pub noted-all : new.names.items ≡ old.names.items → ForSome new.next (λ n. HasOneSlash n × (times_named n (queue_names rows) + 1 ≤ room_in n new.pending.queues)) → AreQueues new rows
+  noted-all names next = record {
+      kept = record {
+        named = names ∙ all.kept.named;
+        slashes = all.kept.slashes;
+        long =
+        let l = all.kept.long in
+        let m : length new.pending.rows ≡ length old.pending.rows + length (behind (below - length old.pending.rows)) =
+        ap (λ (w : Waits). length w.rows) is ∙ length-append old.pending.rows (behind (below - length old.pending.rows)) in
+        omega (arith, l, m);
+        room = λ other.
+        let a = all.kept.room other in
+        let b = more-room name (count_in name old.pending + more) other old.pending.queues in
+        let c : room_in other new.pending.queues ≡ room_in other (roomier name more below old.pending).queues = ap (λ (w : Waits). room_in other w.queues) is in
+        omega (arith, a, b, c);
+        next = next;
+      };
+      held = λ k. ap (λ (w : Waits). held_at k w) is ∙ (same-behind old.pending.rows (below - length old.pending.rows) k ∙ all.held k);
+    }
+    where
+      behind : ℕ → List (Option Waiting)
+      behind n = replicate n None
+
+  -- there is room for one more of the queue
+  pub noted-room : more ≡ min (spare_in name old.pending) 1_000_000 + 1 → length rows ≤ 1_000_000 → times_named name (queue_names rows) + 1 ≤ room_in name new.pending.queues
+  noted-room more_is few =
+      let a : times_named name (queue_names rows) ≤ room_in name old.pending.queues = all.kept.room name in
+      let b : count_in name old.pending + more ≤ room_in name (roomier name more below old.pending).queues = enough-room name (count_in name old.pending + more) old.pending.queues in
+      let c : room_in name new.pending.queues ≡ room_in name (roomier name more below old.pending).queues = ap (λ (w : Waits). room_in name w.queues) is in
+      let d : times_named name (queue_names rows) ≤ length (queue_names rows) = count_by-le-length (λ other. bytes_eq other name) (queue_names rows) in
+      let e = names-long rows in
+      omega (arith, a, b, c, d, e, more_is, few)
+
+-- ---- a task comes
+
+get-front : (rows : List Row) (row : Row) (k : ℕ) → k ≢ length rows → slice_get (rows ++ row ∷ []) k ≡ slice_get rows k
+get-front [] row zero ne = absurd (ne refl)
+get-front [] row (suc k) ne = refl
+get-front (first ∷ rows) row zero ne = refl
+get-front (first ∷ rows) row (suc k) ne = get-front rows row k (λ e. ne (ap suc e))
+
+get-last : (rows : List Row) (row : Row) → slice_get (rows ++ row ∷ []) (length rows) ≡ Some row
+get-last [] row = refl
+get-last (first ∷ rows) row = get-last rows row
+
+all-more : {A : Type 0} (P : A → Type 0) (xs : List A) (x : A) → AllByRecursion P xs → P x → AllByRecursion P (xs ++ x ∷ [])
+all-more P [] x all is = (is, tt)
+all-more P (y ∷ xs) x all is = (all.0, all-more P xs x all.1 is)
+
+times-more : (other name : List ℕ) (names : List (List ℕ)) → times_named other (names ++ name ∷ []) ≡ times_named other names + cond (bytes_eq name other) 1 0
+times-more other name names =
+    let p : List ℕ → Bool = λ n. bytes_eq n other in
+    let a : times_named other (names ++ name ∷ []) ≡ length (filter p (names ++ name ∷ [])) = sym (length-filter p (names ++ name ∷ [])) in
+    let b : length (filter p (names ++ name ∷ [])) ≡ length (filter p names) + length (filter p (name ∷ [])) = ap length (filter-append p names (name ∷ [])) ∙ length-append (filter p names) (filter p (name ∷ [])) in
+    let c : length (filter p (name ∷ [])) ≡ cond (bytes_eq name other) 1 0 + 0 = one-more p name [] in
+    let d : length (filter p names) ≡ times_named other names = length-filter p names in
+    omega (arith, a, b, c, d)
+
+module _ (old new : Queues) (rows : List Row) (row : Row) (name : List ℕ) (all : AreQueues old rows) (next : old.next ≡ Some name) (named_ : name ≡ name_of row.definition.queue) where
+  abbrev names : List (List ℕ)
+  names = queue_names rows
+
+  names-more : queue_names (rows ++ row ∷ []) ≡ names ++ name ∷ []
+  names-more = map-append (λ (r : Row). name_of r.definition.queue) rows (row ∷ []) ∙ ap (λ (n : List ℕ). names ++ n ∷ []) (sym named_)
+
+  added-room : (other : List ℕ) → times_named other (names ++ name ∷ []) ≤ room_in other old.pending.queues
+  added-room other = let e = times-more other name names in subst (λ n. n ≤ room_in other old.pending.queues) (sym e) (by (bytes_eq name other) refl) where
+    by : (t : Bool) → bytes_eq name other ≡ t → times_named other names + cond t 1 0 ≤ room_in other old.pending.queues
+    by false is = let a = all.kept.room other in omega (arith, a)
+    by true is =
+        let same : name ≡ other = (bytes_eq-Decides name other).0 is in
+        subst (λ (n : List ℕ). times_named n names + 1 ≤ room_in n old.pending.queues) same (all.kept.next name next).1
+
+  pub added-all : (place : ℕ) → length rows ≡ place → place < length old.pending.rows → new.pending ≡ with_row place (held_of row) old.pending → new.names.items ≡ old.names.items ++ name ∷ [] → new.next ≡ None → AreQueues new (rows ++ row ∷ [])
+  added-all place last within is items none = record {
+      kept = subst (λ (ns : List (List ℕ)). HaveRoom new ns) (sym names-more) (record {
+        named = items ∙ ap (λ (ns : List (List ℕ)). ns ++ name ∷ []) all.kept.named;
+        slashes = all-more HasOneSlash names name all.kept.slashes (all.kept.next name next).0;
+        long =
+        let m : length new.pending.rows ≡ length old.pending.rows = ap (λ (w : Waits). length w.rows) is ∙ set-long old.pending.rows place (held_of row) in
+        let n : length (names ++ name ∷ []) ≡ length names + 1 = length-append names (name ∷ []) in
+        let e = names-long rows in
+        omega (arith, m, n, e, last, within);
+        room = λ other. subst (λ (w : Waits). times_named other (names ++ name ∷ []) ≤ room_in other w.queues) (sym is) (added-room other);
+        next = λ n some. let both : None ≡ Some n = sym none ∙ some in absurd (cc);
+      });
+      held = λ k. ap (λ (w : Waits). held_at k w) is ∙ by k (same? k place);
+    }
+    where
+      by : (k : ℕ) → (k ≡ place) ⊎ (k ≢ place) → held_at k (with_row place (held_of row) old.pending) ≡ option_and_then (left_of []) (slice_get (rows ++ row ∷ []) k)
+      by k (inl same) =
+          ap (λ n. held_at n (with_row place (held_of row) old.pending)) same
+          ∙ (set-same old.pending.rows place (held_of row) within
+          ∙ sym (ap (λ n. option_and_then (left_of []) (slice_get (rows ++ row ∷ []) n)) (same ∙ sym last) ∙ ap (option_and_then (left_of [])) (get-last rows row)))
+      by k (inr ne) =
+          set-other old.pending.rows place k (held_of row) ne
+          ∙ (all.held k ∙ sym (ap (option_and_then (left_of [])) (get-front rows row k (λ e. ne (e ∙ last)))))

@@ -1,12 +1,12 @@
 -- The tasks that wait for a worker, each by its place and in its queue. The contracts of private functions alone speak of these.
-use Rattle.std.specs.Prelude.{◌≡◌, ℕ, ◌+◌, ◌≤◌, ◌==◌, Bool, false, List, [], Option, Some, None, map, filter, length, count_by, option_and_then, slice_get, slice_set, slice_index_or, bytes_eq, if◌then◌else◌}
+use Rattle.std.specs.Prelude.{◌≡◌, ℕ, ◌+◌, ◌<◌, ◌≤◌, ◌==◌, Bool, false, List, [], Option, Some, None, map, filter, length, count_by, vec_len, vec_capacity, option_and_then, slice_get, slice_set, slice_index_or, bytes_eq, if◌then◌else◌}
 use Rattle.std.specs.List.{AllByRecursion}
 use Rattle.std.specs.Option.{ForSome}
 use Rattle.task_defs.specs.Forms.{queue_name}
 use Rattle.task_defs.specs.declared.names.TaskQueue.{TaskQueue}
 use Rattle.run_states.specs.Rows.{Row, is_pending}
 use Rattle.farm_record.specs.declared.change.RunName.{RunName}
-use Rattle.claim_queue.specs.Waits.{Waiting, Waits, room_in}
+use Rattle.claim_queue.specs.Waits.{Waiting, Waits, room_in, spare_in}
 use Rattle.farm_rows.specs.declared.queues.Queues.{Queues}
 use Rattle.farm_rows.specs.Picks.{number_of}
 use Rattle.farm_rows.specs.Left.{is_taken}
@@ -59,6 +59,13 @@ pub record HaveRoom (queues : Queues) (names : List (List ℕ)) : Type 0 where
   pub long : length names ≤ length queues.pending.rows
   pub room : (name : List ℕ) → times_named name names ≤ room_in name queues.pending.queues
   pub next : ForSome queues.next (λ name. HasOneSlash name × (times_named name names + 1 ≤ room_in name queues.pending.queues))
+
+-- a task is of the queue of a name, and there is room for it at a place
+pub record MayAdd (name : List ℕ) (row : Row) (place : ℕ) (queues : Queues) : Type 0 where
+  pub named : name ≡ name_of row.definition.queue
+  pub names : vec_len queues.names < vec_capacity queues.names
+  pub within : place < length queues.pending.rows
+  pub room : 1 ≤ spare_in name (with_row place None queues.pending)
 
 -- of each task it is held how it waits, where it does, and there is room for all to wait at once
 pub record AreQueues (queues : Queues) (rows : List Row) : Type 0 where

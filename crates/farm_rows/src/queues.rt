@@ -4,7 +4,7 @@ ghost use Rattle.std.specs.Prelude.{◌≡◌, ◌^◌, ◌≤◌, ◌<◌, ◌�
 ghost use Rattle.run_states.specs.Rows.{Row};
 ghost use Rattle.farm_rows.specs.Contents.{HaveOwnIds};
 ghost use Rattle.farm_rows.specs.Picks.{waits_in, picks, are_picks};
-ghost use Rattle.farm_rows.specs.Queues.{name_of, AreQueues, AreQueuesBut};
+ghost use Rattle.farm_rows.specs.Queues.{name_of, MayAdd, AreQueues, AreQueuesBut};
 
 mod held;
 mod names;
@@ -71,10 +71,7 @@ impl Queues {
         let Some(name) = self.next.take() else {
             return false;
         };
-        let may_add = self.names.len() < self.names.capacity()
-            && may_hold(&self.pending, place, &name)
-            && is_name_of(&name, &row.definition().queue);
-        if !may_add {
+        if !self.may_add(&name, row, place) {
             return false;
         }
         hold(&mut self.pending, place, &name, row);
@@ -82,6 +79,15 @@ impl Queues {
             unreachable!();
         }
         true
+    }
+
+    /// Whether a task is of the queue of a name, and there is room for it at a place.
+    fn may_add(&self, name: &Text, row: &TaskRow, place: u32) -> bool
+        ensures { IsTrue result → MayAdd name.now row.now place self.now }
+    {
+        self.names.len() < self.names.capacity()
+            && may_hold(&self.pending, place, name)
+            && is_name_of(name, &row.definition().queue)
     }
 
     /// Holds how the task at a place waits now, or that it waits no longer. It takes no memory.
