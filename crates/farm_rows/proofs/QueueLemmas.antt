@@ -164,7 +164,7 @@ module _ (f : Row → Option Waiting) (told : (row : Row) (waiting : Waiting) �
 
 -- ---- the tasks that wait in a queue, with those of which runs are taken left out
 
-told-left : (taken : List RunName) (row : Row) (waiting : Waiting) → left_of taken row ≡ Some waiting → waiting ≡ waiting_of row
+pub told-left : (taken : List RunName) (row : Row) (waiting : Waiting) → left_of taken row ≡ Some waiting → waiting ≡ waiting_of row
 told-left taken row waiting is = by (is_taken taken row) refl (is_pending row) refl where
   by : (t : Bool) → is_taken taken row ≡ t → (u : Bool) → is_pending row ≡ u → waiting ≡ waiting_of row
   by true out u here =

@@ -1,11 +1,14 @@
 -- Room in the queues for all tasks: as a task begins or ceases to wait, as one is noted, and as one comes.
-use Rattle.std.proofs.Common.{◌≡◌, ◌≢◌, ℕ, zero, suc, ◌+◌, ◌-◌, ◌<◌, ◌≤◌, ◌==◌, ◌⊎◌, inl, inr, min, max, Bool, true, false, cond, List, [], ◌∷◌, ◌++◌, length, filter, map, find, replicate, ◌||◌, Option, Some, None, option_map, is_some, option_and_then, refl, sym, ap, ◌∙◌, subst, slice_get, slice_set, slice_index_or, count_by, bytes_eq, arith}
+use Rattle.std.proofs.Common.{◌≡◌, ◌≢◌, ℕ, zero, suc, ◌+◌, ◌-◌, ◌<◌, ◌≤◌, ◌==◌, ◌⊎◌, inl, inr, min, max, Bool, true, false, cond, List, [], ◌∷◌, ◌++◌, length, filter, map, find, replicate, ◌||◌, Option, Some, None, option_map, is_some, option_and_then, refl, sym, ap, ◌∙◌, subst, slice_get, slice_set, slice_index_or, get_or, count_by, bytes_eq, arith}
 use Rattle.std.specs.List.{AllByRecursion}
-use Rattle.std.specs.Option.{ForSome, option_map_or}
+use Rattle.std.specs.Option.{ForSome, option_map_or, option_eq}
+use Rattle.std.specs.Cmp.{booleans_Decides}
 use Rattle.std.proofs.lemmas.Bool.Decides.{nat_tests}
 use Rattle.std.proofs.lemmas.List.Sums.{length-filter, count_by-le-length}
-use Rattle.std.proofs.lemmas.List.Elements.{filter-append, map-append}
+use Rattle.std.proofs.lemmas.List.{map-append}
+use Rattle.std.proofs.lemmas.List.Elements.{filter-append}
 use Rattle.std.proofs.lemmas.Slice.Eq.{bytes_eq-Decides}
+use Rattle.std.proofs.Math.Bool.{beq}
 use Rattle.std.proofs.Math.ListN.{length-append}
 use Rattle.run_states.specs.Rows.{Row, is_pending}
 use Rattle.claim_queue.specs.declared.queues.Queue.{Queue}
@@ -39,6 +42,15 @@ got-within [] i x is = absurd (cc)
 got-within (y ∷ xs) zero x is = omega arith
 got-within (y ∷ xs) (suc i) x is = let more = got-within xs i x is in omega arith
 
+-- what is known of a row, as it is compared
+pub known-held : (held : Option Bool) (x : Bool) → option_eq beq held (Some x) ≡ true → held ≡ Some x
+known-held None x is = absurd (cc)
+known-held (Some y) x is = ap (λ (b : Bool). Some b) ((booleans_Decides y x).0 is)
+
+pub held-known : (held : Option Bool) (x : Bool) → held ≡ Some x → option_eq beq held (Some x) ≡ true
+held-known None x is = absurd (cc)
+held-known (Some y) x is = let e : y ≡ x = cc in (booleans_Decides y x).1 e
+
 -- a row that is not held is released already
 pub released : (waits : Waits) (row : ℕ) → slice_get waits.rows row ≡ Some None → waits ≡ with_row row None waits
 released waits row is = sym (ap (λ (rs : List (Option Waiting)). let w : Waits = record { queues = waits.queues; rows = rs } in w) (set-again waits.rows row None is))
@@ -68,11 +80,14 @@ is-held waits row name task waiting pending is =
 
 -- ---- there is room for a task that begins to wait
 
+abbrev ones : Bool → ℕ
+ones t = cond t 1 0
+
 one-more : {A : Type 0} (p : A → Bool) (x : A) (xs : List A) → length (filter p (x ∷ xs)) ≡ cond (p x) 1 0 + length (filter p xs)
 one-more p x xs = by (p x) where
   by : (t : Bool) → length (cond t (x ∷ filter p xs) (filter p xs)) ≡ cond t 1 0 + length (filter p xs)
-  by true = refl
-  by false = refl
+  by true = omega arith
+  by false = omega arith
 
 -- what is held of each row is how its task waits, or nothing
 abbrev Within : List (Option Waiting) → List Row → Type 0
@@ -110,15 +125,15 @@ module _ (name : List ℕ) where
       let is : first ≡ row = cc in
       let yes_ : named (name_of first.definition.queue) ≡ true = ap (λ (r : Row). named (name_of r.definition.queue)) is ∙ here in
       let b = one-more named (name_of first.definition.queue) (queue_names rows) in
-      let c : cond (named (name_of first.definition.queue)) 1 0 ≡ 1 = ap (λ t. cond t 1 0) yes_ in
+      let c = ap ones yes_ in
       omega (arith, b, c)
   fewer-held zero (x ∷ held) (first ∷ rows) row within none some here =
       let is : first ≡ row = cc in
       let yes_ : named (name_of first.definition.queue) ≡ true = ap (λ (r : Row). named (name_of r.definition.queue)) is ∙ here in
       let a = one-more (is_in name) x held in
       let b = one-more named (name_of first.definition.queue) (queue_names rows) in
-      let c : cond (named (name_of first.definition.queue)) 1 0 ≡ 1 = ap (λ t. cond t 1 0) yes_ in
-      let d : cond (is_in name x) 1 0 ≡ 0 = ap (λ (o : Option Waiting). cond (is_in name o) 1 0) none in
+      let c = ap ones yes_ in
+      let d = ap (λ (o : Option Waiting). ones (is_in name o)) none in
       let rest = few-held held rows (λ k. within (suc k)) in
       omega (arith, a, b, c, d, rest)
   fewer-held (suc place) [] (first ∷ rows) row within none some here =
@@ -187,6 +202,12 @@ module _ (place : ℕ) (queues : Queues) (rows : List Row) (all : AreQueuesBut p
           ap (λ n. held_at n (with_row place (held_of row) queues.pending)) same
           ∙ (set-same queues.pending.rows place (held_of row) within ∙ sym (ap (λ n. option_and_then (left_of []) (slice_get rows n)) same ∙ ap (option_and_then (left_of [])) here))
       by k (inr ne) = set-other queues.pending.rows place k (held_of row) ne ∙ all.others k (not-same k place ne)
+
+-- the name that is kept of a task's queue
+pub name-at : (rows : List Row) (place : ℕ) (row : Row) (other : List ℕ) → slice_get rows place ≡ Some row → get_or (queue_names rows) place other ≡ name_of row.definition.queue
+name-at [] place row other is = absurd (cc)
+name-at (first ∷ rows) zero row other is = let e : first ≡ row = cc in ap (λ (r : Row). name_of r.definition.queue) e
+name-at (first ∷ rows) (suc place) row other is = name-at rows place row other is
 
 -- ---- a task is noted
 

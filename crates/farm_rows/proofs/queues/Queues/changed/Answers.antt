@@ -1,6 +1,7 @@
-use Rattle.std.proofs.Common.{◌≡◌, Some, refl, ap, sym, ◌∙◌}
+use Rattle.std.proofs.Common.{◌≡◌, List, Some, refl, ap, sym, ◌∙◌, get_or}
 use Rattle.std.proofs.lemmas.Option.{slice_get-get_or}
-use Rattle.farm_rows.proofs.QueueRoomLemmas.{changed-room, changed-all}
+use Rattle.farm_rows.specs.declared.queues.Queues.{Queues}
+use Rattle.farm_rows.proofs.QueueRoomLemmas.{changed-room, changed-all, name-at}
 use Rattle.farm_rows.proofs.queues.Queues.changed.Goals as goal
 
 pub hold-requires-clause-room : goal.hold-requires-clause-room
@@ -9,7 +10,8 @@ hold-requires-clause-room c =
     let place = c.args.place in
     let row = c.index-rows-place.result in
     let here = slice_get-get_or rows place row c.requires.within ∙ ap Some (sym c.index-rows-place.is) in
-    changed-room place c.args.self.now rows c.requires.others row c.index.result.now here ?
+    let named = c.index.ensures ∙ (ap (λ (names : List _). get_or names place c.index.result.now) c.requires.others.kept.named ∙ name-at rows place row c.index.result.now here) in
+    changed-room place c.args.self.now rows c.requires.others row c.index.result.now here named
 
 pub returns-clause-all : goal.returns-clause-all
 returns-clause-all c =
@@ -17,4 +19,5 @@ returns-clause-all c =
     let place = c.args.place in
     let row = c.index-rows-place.result in
     let here = slice_get-get_or rows place row c.requires.within ∙ ap Some (sym c.index-rows-place.is) in
-    changed-all place c.args.self.now rows c.requires.others _ row here c.hold.ensures refl refl
+    let new : Queues = record { pending = c.hold.new.pending; names = c.args.self.now.names; next = c.args.self.now.next } in
+    changed-all place c.args.self.now rows c.requires.others new row here c.hold.ensures refl refl

@@ -1,0 +1,20 @@
+use Rattle.std.proofs.Common.{◌≡◌, ◌+◌, ◌≤◌, List, Some, None, Option, sym, subst, arith}
+use Rattle.claim_queue.specs.Waits.{room_in}
+use Rattle.farm_rows.specs.declared.queues.Queues.{Queues}
+use Rattle.farm_rows.specs.Queues.{HasOneSlash, queue_names, times_named}
+use Rattle.farm_rows.proofs.QueueRoomLemmas.{noted-all, noted-room}
+use Rattle.farm_rows.proofs.queues.Queues.note.Goals as goal
+
+pub returns-in_err-reserve-2-clause-same : goal.returns-in_err-reserve-2-clause-same
+returns-in_err-reserve-2-clause-same c = λ rows long all.
+    let new : Queues = record { pending = c.reserve.new.self; names = c.reserve-2.new.self; next = None } in
+    noted-all c.args.self.now new rows c.in_ok-name.name (c.min-spare.result + 1) (c.args.place + 1) all c.in_ok-reserve.ensures c.reserve-2.ensures.items (λ n some. absurd (cc))
+
+pub returns-clause-same : goal.returns-clause-same
+returns-clause-same c = λ rows long all.
+    let name = c.in_ok-name.name in
+    let new : Queues = record { pending = c.reserve.new.self; names = c.reserve-2.new.self; next = Some name } in
+    let slash : HasOneSlash name = subst HasOneSlash (sym c.in_ok-name.ensures.name) c.in_ok-name.ensures.slash in
+    let room = noted-room c.args.self.now new rows name (c.min-spare.result + 1) (c.args.place + 1) all c.in_ok-reserve.ensures ? ? in
+    noted-all c.args.self.now new rows name (c.min-spare.result + 1) (c.args.place + 1) all c.in_ok-reserve.ensures c.reserve-2.ensures.items
+    (λ n some. let same : name ≡ n = cc in subst (λ (n : List _). HasOneSlash n × (times_named n (queue_names rows) + 1 ≤ room_in n c.reserve.new.self.queues)) same (slash, room))
