@@ -34,3 +34,4 @@ pub mod QueueNameLemmas
 pub mod QueueLemmas
 pub mod QueueWalkLemmas
 pub mod QueueRoomLemmas
+pub mod QueuePickLemmas

@@ -7,6 +7,7 @@ ghost use Rattle.farm_rows.specs.Picks.{waits_in, picks, are_picks};
 ghost use Rattle.farm_rows.specs.Queues.{name_of, MayAdd, AreQueues, AreQueuesBut};
 
 mod held;
+pub(crate) mod kept;
 mod names;
 mod walks;
 
@@ -55,6 +56,9 @@ impl Queues {
         ensures same { (rows : List Row) → length rows ≡ place → AreQueues self.old rows → AreQueues self.new rows }
         ensures noted { OnOk result (self.new.next ≡ Some (name_of queue.now)) }
     {
+        if self.is_noted(queue) {
+            return Ok(());
+        }
         self.next = None;
         let name = name_of(alloc, queue)?;
         let spare = self.pending.spare(&name).min(MOST_TASKS);
@@ -62,6 +66,16 @@ impl Queues {
         self.names.reserve(1)?;
         self.next = Some(name);
         Ok(())
+    }
+
+    /// Whether there is room for a task of a queue.
+    fn is_noted(&self, queue: &TaskQueue) -> bool
+        ensures { IsTrue result → self.now.next ≡ Some (name_of queue.now) }
+    {
+        match &self.next {
+            Some(name) => is_name_of(name, queue),
+            None => false,
+        }
     }
 
     /// Adds a task that comes behind the others, at a place, where there is room for it. Answers whether it did.

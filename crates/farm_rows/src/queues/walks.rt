@@ -1,10 +1,11 @@
 //! The runs that are claimed next in a queue, by a walk over the first tasks that wait there.
-ghost use Rattle.std.specs.Prelude.{◌≡◌, ◌<◌, [], IfOk, slice_get, option_and_then, option_copied};
+ghost use Rattle.std.specs.Prelude.{◌≡◌, ◌<◌, [], false, IfOk, slice_get, option_and_then, option_copied};
+ghost use Rattle.std.specs.Option.{option_map_or};
 ghost use Rattle.task_defs.specs.declared.names.TaskQueue.{TaskQueue};
 ghost use Rattle.claim_queue.specs.Waits.{best_of};
 ghost use Rattle.claim_queue.specs.Walks.{without};
 ghost use Rattle.farm_rows.specs.Contents.{HaveOwnIds};
-ghost use Rattle.farm_rows.specs.Picks.{picks, are_picks};
+ghost use Rattle.farm_rows.specs.Picks.{names_last, picks, are_picks};
 ghost use Rattle.farm_rows.specs.Queues.{name_of, HasOneSlash, AreLeft};
 
 use crate::picks::{last_name, names_last};
@@ -96,12 +97,28 @@ fn are_firsts_counted<L: Ledger>(
     let steps = &mut Steps::<L>::new(blank);
     let mut walk = pending.firsts(queue);
     for name in names {
-        match next_task(&mut walk, rows, steps) {
-            Some(row) if names_last(*name, row) => {}
-            _ => return false,
+        if !gives(&mut walk, rows, *name, steps) {
+            return false;
         }
     }
     true
+}
+
+/// Whether a name is that of the run that is claimed next of those that the walk did not give.
+fn gives<L: Ledger>(
+    walk: &mut Firsts<'_>,
+    rows: &[TaskRow],
+    name: RunName,
+    steps: &mut Steps<L>,
+) -> bool
+    ensures named { result
+        ≡ option_map_or (names_last name) (option_and_then (slice_get rows.now) (best_of walk.old.name walk.old.left)) false }
+    ensures left { walk.new ≡ record walk.old { left = without (best_of walk.old.name walk.old.left) walk.old.left } }
+{
+    match next_task(walk, rows, steps) {
+        Some(row) => names_last(name, row),
+        None => false,
+    }
 }
 
 /// The task that is claimed next of those that the walk did not give.

@@ -1,9 +1,12 @@
-use Rattle.std.proofs.Common.{◌≡◌, ◌+◌, ◌≤◌, List, Some, None, Option, sym, subst, arith}
+use Rattle.std.proofs.Common.{◌≡◌, ◌+◌, ◌≤◌, ℕ, List, Some, None, Option, sym, subst, arith}
 use Rattle.claim_queue.specs.Waits.{room_in}
 use Rattle.farm_rows.specs.declared.queues.Queues.{Queues}
 use Rattle.farm_rows.specs.Queues.{HasOneSlash, queue_names, times_named}
 use Rattle.farm_rows.proofs.QueueRoomLemmas.{noted-all, noted-room}
 use Rattle.farm_rows.proofs.queues.Queues.note.Goals as goal
+
+same-some : (a b : List ℕ) → Some a ≡ Some b → a ≡ b
+same-some a b is = cc
 
 pub returns-in_err-reserve-2-clause-same : goal.returns-in_err-reserve-2-clause-same
 returns-in_err-reserve-2-clause-same c = λ rows long all.
@@ -15,6 +18,6 @@ returns-clause-same c = λ rows long all.
     let name = c.in_ok-name.name in
     let new : Queues = record { pending = c.reserve.new.self; names = c.reserve-2.new.self; next = Some name } in
     let slash : HasOneSlash name = subst HasOneSlash (sym c.in_ok-name.ensures.name) c.in_ok-name.ensures.slash in
-    let room = noted-room c.args.self.now new rows name (c.min-spare.result + 1) (c.args.place + 1) all c.in_ok-reserve.ensures ? ? in
+    let room = noted-room c.args.self.now new rows name (c.min-spare.result + 1) (c.args.place + 1) all c.in_ok-reserve.ensures (omega (arith, c.spare.ensures, c.min-spare.ensures)) (omega (arith, long, c.requires.few)) in
     noted-all c.args.self.now new rows name (c.min-spare.result + 1) (c.args.place + 1) all c.in_ok-reserve.ensures c.reserve-2.ensures.items
-    (λ n some. let same : name ≡ n = cc in subst (λ (n : List _). HasOneSlash n × (times_named n (queue_names rows) + 1 ≤ room_in n c.reserve.new.self.queues)) same (slash, room))
+    (λ n some. let same : name ≡ n = same-some name n some in subst (λ (n : List _). HasOneSlash n × (times_named n (queue_names rows) + 1 ≤ room_in n c.reserve.new.self.queues)) same (slash, room))
