@@ -34,4 +34,7 @@ pub mod QueueNameLemmas
 pub mod QueueLemmas
 pub mod QueueWalkLemmas
 pub mod QueueRoomLemmas
+pub mod QueueNoteLemmas
 pub mod QueuePickLemmas
+pub mod QueueChangeLemmas
+pub mod QueueCrossing

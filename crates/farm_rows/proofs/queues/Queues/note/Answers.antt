@@ -2,7 +2,7 @@ use Rattle.std.proofs.Common.{◌≡◌, ◌+◌, ◌≤◌, ℕ, List, Some, No
 use Rattle.claim_queue.specs.Waits.{room_in}
 use Rattle.farm_rows.specs.declared.queues.Queues.{Queues}
 use Rattle.farm_rows.specs.Queues.{HasOneSlash, queue_names, times_named}
-use Rattle.farm_rows.proofs.QueueRoomLemmas.{noted-all, noted-room}
+use Rattle.farm_rows.proofs.QueueNoteLemmas.{noted-all, noted-room}
 use Rattle.farm_rows.proofs.queues.Queues.note.Goals as goal
 
 same-some : (a b : List ℕ) → Some a ≡ Some b → a ≡ b
