@@ -1,12 +1,12 @@
 -- What is held of tasks that wait, of which one changes in its state, and what the places of their ids say of them.
-use Rattle.std.proofs.Common.{◌≡◌, ◌≢◌, ℕ, zero, suc, ◌==◌, Bool, true, false, List, [], ◌∷◌, length, map, Option, Some, None, option_and_then, refl, sym, ap, ◌∙◌, subst, slice_get, bytes_eq, arith}
+use Rattle.std.proofs.Common.{◌≡◌, ◌≢◌, ℕ, suc, ◌==◌, Bool, true, false, List, [], ◌∷◌, length, map, Option, Some, None, option_and_then, refl, sym, ap, ◌∙◌, subst, slice_get, bytes_eq, arith}
 use Rattle.std.specs.List.{AllByRecursion, IsDistinct}
 use Rattle.std.proofs.lemmas.Slice.Eq.{bytes_eq-Decides}
 use Rattle.run_states.specs.Rows.{Row}
 use Rattle.run_states.specs.Later.{RowsLater}
 use Rattle.farm_rows.specs.declared.queues.Queues.{Queues}
 use Rattle.farm_rows.specs.Contents.{HaveOwnIds}
-use Rattle.farm_rows.specs.Placed.{PlaceMap, kept_of, AreKept, ArePlaced}
+use Rattle.farm_rows.specs.Placed.{PlaceMap, kept_of, ArePlaced}
 use Rattle.farm_rows.specs.Queues.{name_of, held_of, queue_names, HaveRoom, MayBeQueues, MayBeQueuesBut}
 
 -- ---- a task that changed

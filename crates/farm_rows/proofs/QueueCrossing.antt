@@ -4,8 +4,6 @@ use denote.Param.SendFields.{declared_send}
 use Rattle.std.proofs.Crossing.{crosses}
 use Rattle.farm_text.specs.contracts.text.Text as texts
 use Rattle.farm_text.specs.contracts.text.Text.TheInside.{the_type as text_type}
-use Rattle.claim_queue.specs.contracts.entries.Entry as entries
-use Rattle.claim_queue.specs.contracts.turns.Turn as turns
 use Rattle.claim_queue.specs.contracts.queues.Queue as rooms
 use Rattle.claim_queue.specs.contracts.pending.Pending as pending
 use Rattle.claim_queue.specs.contracts.pending.Pending.TheInside.{the_type as pending_type}

@@ -1,5 +1,5 @@
 -- What is held of the tasks that wait, and the first and the number of those of a queue.
-use Rattle.std.proofs.Common.{◌≡◌, ℕ, zero, suc, ◌+◌, Bool, true, false, not, ◌&&◌, cond, List, [], ◌∷◌, length, filter, map, fold, Option, Some, None, option_map, option_and_then, refl, sym, ap, ◌∙◌, subst, slice_get, slice_index_or, count_by, bytes_eq, arith}
+use Rattle.std.proofs.Common.{◌≡◌, ℕ, suc, ◌+◌, Bool, true, false, not, ◌&&◌, cond, List, [], ◌∷◌, length, filter, fold, Option, Some, None, option_map, option_and_then, refl, sym, ap, ◌∙◌, subst, slice_get, slice_index_or, count_by, bytes_eq, arith}
 use Rattle.std.specs.List.{reduce}
 use Rattle.std.proofs.lemmas.List.Sums.{length-filter}
 use Rattle.task_defs.specs.declared.names.TaskQueue.{TaskQueue}
@@ -9,7 +9,7 @@ use Rattle.claim_queue.specs.Held.{held_from}
 use Rattle.claim_queue.specs.Waits.{Waiting, Waits, better, best_of, waits_in as is_in, goes_before as waits_before}
 use Rattle.farm_rows.specs.Picks.{is_same_queue, waits_in, goes_before, better as better_row, pick}
 use Rattle.farm_rows.specs.Left.{is_taken, left}
-use Rattle.farm_rows.specs.Queues.{name_of, HasOneSlash, waiting_of, held_of, left_of, held_at, AreLeft}
+use Rattle.farm_rows.specs.Queues.{name_of, HasOneSlash, waiting_of, held_of, left_of, AreLeft}
 use Rattle.farm_rows.proofs.PickLemmas.{left-nil}
 use Rattle.farm_rows.proofs.QueueNameLemmas.{one-queue}
 
@@ -113,20 +113,20 @@ module _ (f : Row → Option Waiting) (told : (row : Row) (waiting : Waiting) �
   fold-same base (Some waiting ∷ held) (row ∷ rows) best first holds at so =
       by (λ b f_ s. fold-same (base + 1) held rows b f_ (λ k. holds (suc k)) (from-next base row rows at) s) (bytes_eq waiting.queue name) refl
     where
-    same : bytes_eq waiting.queue name ≡ test f name row
-    same = ap (is_in name) (holds 0)
+      same : bytes_eq waiting.queue name ≡ test f name row
+      same = ap (is_in name) (holds 0)
 
-    by : ((b : Waiting × ℕ) (r : Row) → Told b r → Told (fold better b (here_in (base + 1) held)) (fold better_row r (filter (test f name) rows))) → (t : Bool) → bytes_eq waiting.queue name ≡ t
-        → Told (fold better best (here_in base (Some waiting ∷ held))) (fold better_row first (filter (test f name) (row ∷ rows)))
-    by rest true is =
-        let next = better-same best (waiting, base) first row so (sym (holds 0), from-first base row rows at) in
-        subst (λ (hs : List (Waiting × ℕ)). Told (fold better best hs) (fold better_row first (filter (test f name) (row ∷ rows)))) (sym (taken-in is_here (waiting, base) (held_from (base + 1) held) is))
-        (subst (λ (rs : List Row). Told (fold better (better best (waiting, base)) (here_in (base + 1) held)) (fold better_row first rs)) (sym (taken-in (test f name) row rows (sym same ∙ is)))
-        (rest (better best (waiting, base)) (better_row first row) next))
-    by rest false is =
-        subst (λ (hs : List (Waiting × ℕ)). Told (fold better best hs) (fold better_row first (filter (test f name) (row ∷ rows)))) (sym (passed-by is_here (waiting, base) (held_from (base + 1) held) is))
-        (subst (λ (rs : List Row). Told (fold better best (here_in (base + 1) held)) (fold better_row first rs)) (sym (passed-by (test f name) row rows (sym same ∙ is)))
-        (rest best first so))
+      by : ((b : Waiting × ℕ) (r : Row) → Told b r → Told (fold better b (here_in (base + 1) held)) (fold better_row r (filter (test f name) rows))) → (t : Bool) → bytes_eq waiting.queue name ≡ t
+          → Told (fold better best (here_in base (Some waiting ∷ held))) (fold better_row first (filter (test f name) (row ∷ rows)))
+      by rest true is =
+          let next = better-same best (waiting, base) first row so (sym (holds 0), from-first base row rows at) in
+          subst (λ (hs : List (Waiting × ℕ)). Told (fold better best hs) (fold better_row first (filter (test f name) (row ∷ rows)))) (sym (taken-in is_here (waiting, base) (held_from (base + 1) held) is))
+          (subst (λ (rs : List Row). Told (fold better (better best (waiting, base)) (here_in (base + 1) held)) (fold better_row first rs)) (sym (taken-in (test f name) row rows (sym same ∙ is)))
+          (rest (better best (waiting, base)) (better_row first row) next))
+      by rest false is =
+          subst (λ (hs : List (Waiting × ℕ)). Told (fold better best hs) (fold better_row first (filter (test f name) (row ∷ rows)))) (sym (passed-by is_here (waiting, base) (held_from (base + 1) held) is))
+          (subst (λ (rs : List Row). Told (fold better best (here_in (base + 1) held)) (fold better_row first rs)) (sym (passed-by (test f name) row rows (sym same ∙ is)))
+          (rest best first so))
 
   best-same : (base : ℕ) (held : List (Option Waiting)) (rows : List Row) → Holds f held rows → From base rows → Same (reduce better (here_in base held)) (reduce better_row (filter (test f name) rows))
   best-same base [] [] holds at = tt

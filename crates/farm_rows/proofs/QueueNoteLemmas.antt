@@ -1,23 +1,19 @@
 -- Room in the queues for a task that is noted, and for one that comes.
-use Rattle.std.proofs.Common.{◌≡◌, ◌≢◌, ℕ, zero, suc, ◌+◌, ◌-◌, ◌<◌, ◌≤◌, ◌==◌, ◌⊎◌, inl, inr, min, max, Bool, true, false, cond, List, [], ◌∷◌, ◌++◌, length, filter, map, find, replicate, ◌||◌, Option, Some, None, option_map, is_some, option_and_then, refl, sym, ap, ◌∙◌, subst, slice_get, slice_set, slice_index_or, get_or, count_by, bytes_eq, arith}
+use Rattle.std.proofs.Common.{◌≡◌, ◌≢◌, ℕ, zero, suc, ◌+◌, ◌-◌, ◌<◌, ◌≤◌, ◌⊎◌, inl, inr, min, max, Bool, true, false, cond, List, [], ◌∷◌, ◌++◌, length, filter, map, find, replicate, ◌||◌, Option, Some, None, option_and_then, refl, sym, ap, ◌∙◌, subst, slice_get, slice_index_or, bytes_eq, arith}
 use Rattle.std.specs.List.{AllByRecursion}
-use Rattle.std.specs.Option.{ForSome, option_map_or, option_eq}
-use Rattle.std.specs.Cmp.{booleans_Decides}
-use Rattle.std.proofs.lemmas.Bool.Decides.{nat_tests}
+use Rattle.std.specs.Option.{ForSome, option_map_or}
 use Rattle.std.proofs.lemmas.List.Sums.{length-filter, count_by-le-length}
 use Rattle.std.proofs.lemmas.List.{map-append}
 use Rattle.std.proofs.lemmas.List.Elements.{filter-append}
 use Rattle.std.proofs.lemmas.Slice.Eq.{bytes_eq-Decides}
-use Rattle.std.proofs.Math.Bool.{beq}
 use Rattle.std.proofs.Math.ListN.{length-append}
-use Rattle.run_states.specs.Rows.{Row, is_pending}
+use Rattle.run_states.specs.Rows.{Row}
 use Rattle.claim_queue.specs.declared.queues.Queue.{Queue}
-use Rattle.claim_queue.specs.Held.{up_to}
-use Rattle.claim_queue.specs.Waits.{Waiting, Waits, knows, raised, with_room, roomier, room_in, count_in, spare_in, waits_in as is_in}
+use Rattle.claim_queue.specs.Waits.{Waiting, Waits, knows, raised, with_room, roomier, room_in, count_in, spare_in}
 use Rattle.claim_queue.proofs.HeapLemmas.{same?}
 use Rattle.farm_rows.specs.declared.queues.Queues.{Queues}
-use Rattle.farm_rows.specs.Queues.{name_of, HasOneSlash, waiting_of, held_of, left_of, held_at, with_row, AreLeft, queue_names, times_named, HaveRoom, AreQueues, AreQueuesBut}
-use Rattle.farm_rows.proofs.QueueRoomLemmas.{set-long, ones, one-more, names-long, same-name}
+use Rattle.farm_rows.specs.Queues.{name_of, HasOneSlash, held_of, left_of, held_at, with_row, queue_names, times_named, HaveRoom, AreQueues}
+use Rattle.farm_rows.proofs.QueueRoomLemmas.{set-long, one-more, names-long, same-name}
 use Rattle.farm_rows.proofs.QueueWalkLemmas.{set-same, set-other}
 
 -- ---- a task is noted
@@ -124,23 +120,23 @@ same-behind (x ∷ held) n (suc k) = same-behind held n k
 module _ (old new : Queues) (rows : List Row) (name : List ℕ) (more below : ℕ) (all : AreQueues old rows) (is : new.pending ≡ roomier name more below old.pending) where
   pub noted-all : new.names.items ≡ old.names.items → ForSome new.next (λ n. HasOneSlash n × (times_named n (queue_names rows) + 1 ≤ room_in n new.pending.queues)) → AreQueues new rows
   noted-all names next = record {
-      kept = record {
-        named = names ∙ all.kept.named;
-        slashes = all.kept.slashes;
-        long =
-        let l = all.kept.long in
-        let m : length new.pending.rows ≡ length old.pending.rows + length (behind (below - length old.pending.rows)) =
-        ap (λ (w : Waits). length w.rows) is ∙ length-append old.pending.rows (behind (below - length old.pending.rows)) in
-        omega (arith, l, m);
-        room = λ other.
-        let a = all.kept.room other in
-        let b = more-room name (count_in name old.pending + more) other old.pending.queues in
-        let c : room_in other new.pending.queues ≡ room_in other (roomier name more below old.pending).queues = ap (λ (w : Waits). room_in other w.queues) is in
-        omega (arith, a, b, c);
-        next = next;
-      };
-      held = λ k. ap (λ (w : Waits). held_at k w) is ∙ (same-behind old.pending.rows (below - length old.pending.rows) k ∙ all.held k);
-    }
+    kept = record {
+      named = names ∙ all.kept.named;
+      slashes = all.kept.slashes;
+      long =
+          let l = all.kept.long in
+          let m : length new.pending.rows ≡ length old.pending.rows + length (behind (below - length old.pending.rows)) =
+          ap (λ (w : Waits). length w.rows) is ∙ length-append old.pending.rows (behind (below - length old.pending.rows)) in
+          omega (arith, l, m);
+      room = λ other.
+          let a = all.kept.room other in
+          let b = more-room name (count_in name old.pending + more) other old.pending.queues in
+          let c : room_in other new.pending.queues ≡ room_in other (roomier name more below old.pending).queues = ap (λ (w : Waits). room_in other w.queues) is in
+          omega (arith, a, b, c);
+      next = next;
+    };
+    held = λ k. ap (λ (w : Waits). held_at k w) is ∙ (same-behind old.pending.rows (below - length old.pending.rows) k ∙ all.held k);
+  }
     where
       behind : ℕ → List (Option Waiting)
       behind n = replicate n None
@@ -197,19 +193,19 @@ module _ (old new : Queues) (rows : List Row) (row : Row) (name : List ℕ) (all
 
   pub added-all : (place : ℕ) → length rows ≡ place → place < length old.pending.rows → new.pending ≡ with_row place (held_of row) old.pending → new.names.items ≡ old.names.items ++ name ∷ [] → new.next ≡ None → AreQueues new (rows ++ row ∷ [])
   added-all place last within is items none = record {
-      kept = subst (λ (ns : List (List ℕ)). HaveRoom new ns) (sym names-more) (record {
-        named = items ∙ ap (λ (ns : List (List ℕ)). ns ++ name ∷ []) all.kept.named;
-        slashes = all-more HasOneSlash names name all.kept.slashes (all.kept.next name next).0;
-        long =
-        let m : length new.pending.rows ≡ length old.pending.rows = ap (λ (w : Waits). length w.rows) is ∙ set-long old.pending.rows place (held_of row) in
-        let n : length (names ++ name ∷ []) ≡ length names + 1 = length-append names (name ∷ []) in
-        let e = names-long rows in
-        omega (arith, m, n, e, last, within);
-        room = λ other. subst (λ (w : Waits). times_named other (names ++ name ∷ []) ≤ room_in other w.queues) (sym is) (added-room other);
-        next = λ n some. let both : None ≡ Some n = sym none ∙ some in absurd (cc);
-      });
-      held = λ k. ap (λ (w : Waits). held_at k w) is ∙ by k (same? k place);
-    }
+    kept = subst (λ (ns : List (List ℕ)). HaveRoom new ns) (sym names-more) (record {
+      named = items ∙ ap (λ (ns : List (List ℕ)). ns ++ name ∷ []) all.kept.named;
+      slashes = all-more HasOneSlash names name all.kept.slashes (all.kept.next name next).0;
+      long =
+          let m : length new.pending.rows ≡ length old.pending.rows = ap (λ (w : Waits). length w.rows) is ∙ set-long old.pending.rows place (held_of row) in
+          let n : length (names ++ name ∷ []) ≡ length names + 1 = length-append names (name ∷ []) in
+          let e = names-long rows in
+          omega (arith, m, n, e, last, within);
+      room = λ other. subst (λ (w : Waits). times_named other (names ++ name ∷ []) ≤ room_in other w.queues) (sym is) (added-room other);
+      next = λ n some. let both : None ≡ Some n = sym none ∙ some in absurd (cc);
+    });
+    held = λ k. ap (λ (w : Waits). held_at k w) is ∙ by k (same? k place);
+  }
     where
       by : (k : ℕ) → (k ≡ place) ⊎ (k ≢ place) → held_at k (with_row place (held_of row) old.pending) ≡ option_and_then (left_of []) (slice_get (rows ++ row ∷ []) k)
       by k (inl same) =

@@ -1,22 +1,16 @@
 -- Room in the queues for all tasks, as a task begins to wait or waits no longer.
-use Rattle.std.proofs.Common.{◌≡◌, ◌≢◌, ℕ, zero, suc, ◌+◌, ◌-◌, ◌<◌, ◌≤◌, ◌==◌, ◌⊎◌, inl, inr, min, max, Bool, true, false, cond, List, [], ◌∷◌, ◌++◌, length, filter, map, find, replicate, ◌||◌, Option, Some, None, option_map, is_some, option_and_then, refl, sym, ap, ◌∙◌, subst, slice_get, slice_set, slice_index_or, get_or, count_by, bytes_eq, arith}
-use Rattle.std.specs.List.{AllByRecursion}
-use Rattle.std.specs.Option.{ForSome, option_map_or, option_eq}
+use Rattle.std.proofs.Common.{◌≡◌, ◌≢◌, ℕ, zero, suc, ◌+◌, ◌<◌, ◌≤◌, ◌==◌, ◌⊎◌, inl, inr, Bool, true, false, cond, List, [], ◌∷◌, length, filter, Option, Some, None, option_map, is_some, option_and_then, refl, sym, ap, ◌∙◌, subst, slice_get, slice_set, slice_index_or, get_or, bytes_eq, arith}
+use Rattle.std.specs.Option.{option_eq}
 use Rattle.std.specs.Cmp.{booleans_Decides}
 use Rattle.std.proofs.lemmas.Bool.Decides.{nat_tests}
-use Rattle.std.proofs.lemmas.List.Sums.{length-filter, count_by-le-length}
-use Rattle.std.proofs.lemmas.List.{map-append}
-use Rattle.std.proofs.lemmas.List.Elements.{filter-append}
+use Rattle.std.proofs.lemmas.List.Sums.{length-filter}
 use Rattle.std.proofs.lemmas.Slice.Eq.{bytes_eq-Decides}
 use Rattle.std.proofs.Math.Bool.{beq}
-use Rattle.std.proofs.Math.ListN.{length-append}
 use Rattle.run_states.specs.Rows.{Row, is_pending}
-use Rattle.claim_queue.specs.declared.queues.Queue.{Queue}
-use Rattle.claim_queue.specs.Held.{up_to}
-use Rattle.claim_queue.specs.Waits.{Waiting, Waits, knows, raised, with_room, roomier, room_in, count_in, spare_in, waits_in as is_in}
+use Rattle.claim_queue.specs.Waits.{Waiting, Waits, room_in, count_in, spare_in, waits_in as is_in}
 use Rattle.claim_queue.proofs.HeapLemmas.{same?}
 use Rattle.farm_rows.specs.declared.queues.Queues.{Queues}
-use Rattle.farm_rows.specs.Queues.{name_of, HasOneSlash, waiting_of, held_of, left_of, held_at, with_row, AreLeft, queue_names, times_named, HaveRoom, AreQueues, AreQueuesBut}
+use Rattle.farm_rows.specs.Queues.{name_of, HasOneSlash, waiting_of, held_of, left_of, held_at, with_row, queue_names, times_named, AreQueues, AreQueuesBut}
 use Rattle.farm_rows.proofs.QueueLemmas.{told-left}
 use Rattle.farm_rows.proofs.QueueWalkLemmas.{set-same, set-none, set-other}
 
@@ -181,15 +175,15 @@ module _ (place : ℕ) (queues : Queues) (rows : List Row) (all : AreQueuesBut p
 
   pub changed-all : (new : Queues) (row : Row) → slice_get rows place ≡ Some row → new.pending ≡ with_row place (held_of row) queues.pending → new.names.items ≡ queues.names.items → new.next ≡ queues.next → AreQueues new rows
   changed-all new row here is names next = record {
-      kept = record {
-        named = names ∙ all.kept.named;
-        slashes = all.kept.slashes;
-        long = let l = all.kept.long in let m : length new.pending.rows ≡ length queues.pending.rows = ap (λ (w : Waits). length w.rows) is ∙ set-long queues.pending.rows place (held_of row) in omega (arith, l, m);
-        room = λ name. subst (λ (w : Waits). times_named name (queue_names rows) ≤ room_in name w.queues) (sym is) (all.kept.room name);
-        next = λ name some. subst (λ (w : Waits). HasOneSlash name × (times_named name (queue_names rows) + 1 ≤ room_in name w.queues)) (sym is) (all.kept.next name (sym next ∙ some));
-      };
-      held = λ k. ap (λ (w : Waits). held_at k w) is ∙ by k (same? k place);
-    }
+    kept = record {
+      named = names ∙ all.kept.named;
+      slashes = all.kept.slashes;
+      long = let l = all.kept.long in let m : length new.pending.rows ≡ length queues.pending.rows = ap (λ (w : Waits). length w.rows) is ∙ set-long queues.pending.rows place (held_of row) in omega (arith, l, m);
+      room = λ name. subst (λ (w : Waits). times_named name (queue_names rows) ≤ room_in name w.queues) (sym is) (all.kept.room name);
+      next = λ name some. subst (λ (w : Waits). HasOneSlash name × (times_named name (queue_names rows) + 1 ≤ room_in name w.queues)) (sym is) (all.kept.next name (sym next ∙ some));
+    };
+    held = λ k. ap (λ (w : Waits). held_at k w) is ∙ by k (same? k place);
+  }
     where
       long : length (queue_names rows) ≡ length rows
       long = names-long rows

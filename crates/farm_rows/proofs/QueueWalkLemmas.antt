@@ -11,7 +11,7 @@ use Rattle.claim_queue.specs.Walks.{without}
 use Rattle.claim_queue.proofs.HeapLemmas.{same?}
 use Rattle.farm_rows.specs.Contents.{HaveOwnIds}
 use Rattle.farm_rows.specs.Left.{is_taken}
-use Rattle.farm_rows.specs.Queues.{held_of, left_of, held_at, AreLeft}
+use Rattle.farm_rows.specs.Queues.{held_of, left_of, AreLeft}
 
 -- ---- what is held once a row is written
 

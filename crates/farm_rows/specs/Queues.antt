@@ -1,5 +1,5 @@
 -- The tasks that wait for a worker, each by its place and in its queue. The contracts of private functions alone speak of these.
-use Rattle.std.specs.Prelude.{◌≡◌, ℕ, ◌+◌, ◌<◌, ◌≤◌, ◌==◌, Bool, false, List, [], Option, Some, None, map, filter, length, count_by, vec_len, vec_capacity, option_and_then, slice_get, slice_set, slice_index_or, bytes_eq, if◌then◌else◌}
+use Rattle.std.specs.Prelude.{◌≡◌, ℕ, ◌+◌, ◌<◌, ◌≤◌, ◌==◌, false, List, [], Option, Some, None, map, filter, length, count_by, vec_len, vec_capacity, option_and_then, slice_get, slice_set, slice_index_or, bytes_eq, if◌then◌else◌}
 use Rattle.std.specs.List.{AllByRecursion}
 use Rattle.std.specs.Option.{ForSome}
 use Rattle.task_defs.specs.Forms.{queue_name}

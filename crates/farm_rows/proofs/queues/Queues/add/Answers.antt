@@ -1,4 +1,4 @@
-use Rattle.std.proofs.Common.{◌≡◌, ◌++◌, ◌∷◌, [], Some, None, not, cond, ap, sym, ◌∙◌}
+use Rattle.std.proofs.Common.{◌++◌, ◌∷◌, [], not, cond, ap, sym, ◌∙◌}
 use Rattle.farm_rows.specs.declared.queues.Queues.{Queues}
 use Rattle.farm_rows.proofs.QueueNoteLemmas.{added-all}
 use Rattle.farm_rows.proofs.queues.Queues.add.Goals as goal

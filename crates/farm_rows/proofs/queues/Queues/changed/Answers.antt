@@ -1,4 +1,4 @@
-use Rattle.std.proofs.Common.{◌≡◌, List, Some, refl, ap, sym, ◌∙◌, get_or}
+use Rattle.std.proofs.Common.{List, Some, refl, ap, sym, ◌∙◌, get_or}
 use Rattle.std.proofs.lemmas.Option.{slice_get-get_or}
 use Rattle.farm_rows.specs.declared.queues.Queues.{Queues}
 use Rattle.farm_rows.proofs.QueueRoomLemmas.{changed-room, changed-all, name-at}

@@ -1,4 +1,4 @@
-use Rattle.std.proofs.Common.{◌≡◌, ◌+◌, ◌≤◌, ℕ, List, Some, None, Option, sym, subst, arith}
+use Rattle.std.proofs.Common.{◌≡◌, ◌+◌, ◌≤◌, ℕ, List, Some, None, sym, subst, arith}
 use Rattle.claim_queue.specs.Waits.{room_in}
 use Rattle.farm_rows.specs.declared.queues.Queues.{Queues}
 use Rattle.farm_rows.specs.Queues.{HasOneSlash, queue_names, times_named}

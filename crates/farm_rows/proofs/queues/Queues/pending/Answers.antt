@@ -1,8 +1,6 @@
-use Rattle.std.proofs.Common.{◌≡◌, List, ap, ◌∙◌}
+use Rattle.std.proofs.Common.{List, ap, ◌∙◌}
 use Rattle.claim_queue.specs.Waits.{count_in}
 use Rattle.farm_rows.proofs.QueueLemmas.{count-is}
-use Rattle.farm_rows.proofs.QueueCrossing.{queues_send}
-use Rattle.farm_rows.proofs.QueueChangeLemmas.{later-queues}
 use Rattle.farm_rows.proofs.queues.Queues.pending.Goals as goal
 
 pub returns-in-Ok : goal.returns-in-Ok

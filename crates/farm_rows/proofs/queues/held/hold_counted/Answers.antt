@@ -1,8 +1,8 @@
-use Rattle.std.proofs.Common.{◌≡◌, ℕ, List, Some, Option, ap, sym, ◌∙◌, slice_set}
+use Rattle.std.proofs.Common.{◌≡◌, ℕ, List, Some, ap, sym, ◌∙◌, slice_set}
 use Rattle.task_defs.specs.declared.choices.Priority.{Priority}
 use Rattle.task_defs.specs.declared.task_def.TaskDef.{TaskDef}
 use Rattle.claim_queue.specs.Waits.{Waiting, Waits}
-use Rattle.farm_rows.specs.Queues.{name_of, waiting_of, with_row}
+use Rattle.farm_rows.specs.Queues.{name_of, waiting_of}
 use Rattle.farm_rows.proofs.QueueRoomLemmas.{is-held}
 use Rattle.farm_rows.proofs.queues.held.hold_counted.Goals as goal
 

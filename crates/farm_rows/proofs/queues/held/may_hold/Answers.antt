@@ -1,4 +1,4 @@
-use Rattle.std.proofs.Common.{◌≡◌, ◌≤◌, true, sym, ◌∙◌, arith}
+use Rattle.std.proofs.Common.{sym, ◌∙◌, arith}
 use Rattle.std.proofs.lemmas.Bool.{leb-true}
 use Rattle.farm_rows.proofs.QueueRoomLemmas.{may-hold, known-held}
 use Rattle.farm_rows.proofs.queues.held.may_hold.Goals as goal

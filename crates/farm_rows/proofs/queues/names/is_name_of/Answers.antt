@@ -1,8 +1,7 @@
-use Rattle.std.proofs.Common.{◌≡◌, List, ap, sym, ◌∙◌, ◌++◌, ◌∷◌, bytes_eq}
+use Rattle.std.proofs.Common.{◌≡◌, ap, sym, ◌∙◌, bytes_eq}
 use Rattle.std.proofs.lemmas.Slice.Eq.{bytes_eq-Decides}
 use Rattle.task_defs.specs.Forms.{queue_name}
 use Rattle.task_defs.proofs.QueueLemmas.{cut_by}
-use Rattle.farm_rows.specs.Queues.{name_of}
 use Rattle.farm_rows.proofs.queues.names.is_name_of.Goals as goal
 
 pub returns-then-eq : goal.returns-then-eq

@@ -1,4 +1,4 @@
-use Rattle.std.proofs.Common.{◌≡◌, sym, ◌∙◌}
+use Rattle.std.proofs.Common.{sym, ◌∙◌}
 use Rattle.farm_rows.proofs.QueuePickLemmas.{are-first, are-next, are-no}
 use Rattle.farm_rows.proofs.queues.walks.are_firsts_counted.Goals as goal
 

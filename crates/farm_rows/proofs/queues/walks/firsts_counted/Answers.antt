@@ -1,4 +1,4 @@
-use Rattle.std.proofs.Common.{◌≡◌, ◌<◌, length, sym, ◌∙◌, rules, arith}
+use Rattle.std.proofs.Common.{◌<◌, length, rules, arith}
 use Rattle.farm_rows.proofs.QueuePickLemmas.{is-first, is-next, is-none}
 use Rattle.farm_rows.proofs.queues.walks.firsts_counted.Goals as goal
 
