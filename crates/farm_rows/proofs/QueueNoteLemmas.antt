@@ -1,5 +1,5 @@
 -- Room in the queues for a task that is noted, and for one that comes.
-use Rattle.std.proofs.Common.{◌≡◌, ◌≢◌, ℕ, zero, suc, ◌+◌, ◌-◌, ◌<◌, ◌≤◌, ◌⊎◌, inl, inr, min, max, Bool, true, false, cond, List, [], ◌∷◌, ◌++◌, length, filter, map, find, replicate, ◌||◌, Option, Some, None, option_and_then, refl, sym, ap, ◌∙◌, subst, slice_get, slice_index_or, bytes_eq, arith}
+use Rattle.std.proofs.Common.{vec_len, vec_capacity, ◌≡◌, ◌≢◌, ℕ, zero, suc, ◌+◌, ◌-◌, ◌<◌, ◌≤◌, ◌⊎◌, inl, inr, min, max, Bool, true, false, cond, List, [], ◌∷◌, ◌++◌, length, filter, map, find, replicate, ◌||◌, Option, Some, None, option_and_then, refl, sym, ap, ◌∙◌, subst, slice_get, slice_index_or, bytes_eq, arith}
 use Rattle.std.specs.List.{AllByRecursion}
 use Rattle.std.specs.Option.{ForSome, option_map_or}
 use Rattle.std.proofs.lemmas.List.Sums.{length-filter, count_by-le-length}
@@ -9,11 +9,11 @@ use Rattle.std.proofs.lemmas.Slice.Eq.{bytes_eq-Decides}
 use Rattle.std.proofs.Math.ListN.{length-append}
 use Rattle.run_states.specs.Rows.{Row}
 use Rattle.claim_queue.specs.declared.queues.Queue.{Queue}
-use Rattle.claim_queue.specs.Waits.{Waiting, Waits, knows, raised, with_room, roomier, room_in, count_in, spare_in}
+use Rattle.claim_queue.specs.Waits.{Waiting, Waits, knows, raised, with_room, roomier, room_in, count_in, spare_in, waits_in as is_in}
 use Rattle.claim_queue.proofs.HeapLemmas.{same?}
 use Rattle.farm_rows.specs.declared.queues.Queues.{Queues}
-use Rattle.farm_rows.specs.Queues.{name_of, HasOneSlash, held_of, left_of, held_at, with_row, queue_names, times_named, HaveRoom, AreQueues}
-use Rattle.farm_rows.proofs.QueueRoomLemmas.{set-long, one-more, names-long, same-name}
+use Rattle.farm_rows.specs.Queues.{name_of, HasOneSlash, held_of, left_of, held_at, with_row, HasRoomFor, queue_names, times_named, HaveRoom, AreQueues}
+use Rattle.farm_rows.proofs.QueueRoomLemmas.{few-held, set-long, one-more, names-long, same-name}
 use Rattle.farm_rows.proofs.QueueWalkLemmas.{set-same, set-other}
 
 -- ---- a task is noted
@@ -112,21 +112,33 @@ none-behind zero k = refl
 none-behind (suc n) zero = refl
 none-behind (suc n) (suc k) = none-behind n k
 
+none-long : (n : ℕ) → length (replicate n (let o : Option Waiting = None in o)) ≡ n
+none-long zero = refl
+none-long (suc n) = ap suc (none-long n)
+
 same-behind : (held : List (Option Waiting)) (n k : ℕ) → slice_index_or (held ++ replicate n None) k None ≡ slice_index_or held k None
 same-behind [] n k = none-behind n k
 same-behind (x ∷ held) n zero = refl
 same-behind (x ∷ held) n (suc k) = same-behind held n k
 
 module _ (old new : Queues) (rows : List Row) (name : List ℕ) (more below : ℕ) (all : AreQueues old rows) (is : new.pending ≡ roomier name more below old.pending) where
-  pub noted-all : new.names.items ≡ old.names.items → ForSome new.next (λ n. HasOneSlash n × (times_named n (queue_names rows) + 1 ≤ room_in n new.pending.queues)) → AreQueues new rows
+  wider : length new.pending.rows ≡ length old.pending.rows + (below - length old.pending.rows)
+  wider =
+      ap (λ (w : Waits). length w.rows) is
+      ∙ (length-append old.pending.rows (replicate (below - length old.pending.rows) None) ∙ ap (λ n. length old.pending.rows + n) (none-long (below - length old.pending.rows)))
+
+  -- there is a row for one task more
+  pub noted-row : below ≡ length rows + 1 → length (queue_names rows) < length new.pending.rows
+  noted-row is_ = let a = names-long rows in let m = wider in omega (arith, a, m, is_)
+
+  pub noted-all : new.names.items ≡ old.names.items → ForSome new.next (λ n. HasRoomFor n (queue_names rows) new) → AreQueues new rows
   noted-all names next = record {
     kept = record {
       named = names ∙ all.kept.named;
       slashes = all.kept.slashes;
       long =
           let l = all.kept.long in
-          let m : length new.pending.rows ≡ length old.pending.rows + length (behind (below - length old.pending.rows)) =
-          ap (λ (w : Waits). length w.rows) is ∙ length-append old.pending.rows (behind (below - length old.pending.rows)) in
+          let m = wider in
           omega (arith, l, m);
       room = λ other.
           let a = all.kept.room other in
@@ -137,9 +149,6 @@ module _ (old new : Queues) (rows : List Row) (name : List ℕ) (more below : �
     };
     held = λ k. ap (λ (w : Waits). held_at k w) is ∙ (same-behind old.pending.rows (below - length old.pending.rows) k ∙ all.held k);
   }
-    where
-      behind : ℕ → List (Option Waiting)
-      behind n = replicate n None
 
   -- there is room for one more of the queue
   pub noted-room : more ≡ min (spare_in name old.pending) 1_000_000 + 1 → length rows ≤ 1_000_000 → times_named name (queue_names rows) + 1 ≤ room_in name new.pending.queues
@@ -176,6 +185,29 @@ times-more other name names =
     let d : length (filter p names) ≡ times_named other names = length-filter p names in
     omega (arith, a, b, c, d)
 
+beyond : (rows : List Row) → slice_get rows (length rows) ≡ None
+beyond [] = refl
+beyond (row ∷ rows) = beyond rows
+
+index-free : (held : List (Option Waiting)) (k : ℕ) → k < length held → slice_index_or held k None ≡ None → slice_get held k ≡ Some None
+index-free [] k lt none = absurd (omega arith)
+index-free (x ∷ held) zero lt none = ap (λ (o : Option Waiting). Some o) none
+index-free (x ∷ held) (suc k) lt none = index-free held k (omega arith) none
+
+-- where room was noted, there is room
+pub has-room : (queues : Queues) (rows : List Row) (name : List ℕ) (place : ℕ) → AreQueues queues rows → queues.next ≡ Some name → length rows ≡ place
+    → (slice_get queues.pending.rows place ≡ Some None) × (1 ≤ spare_in name queues.pending) × (vec_len queues.names < vec_capacity queues.names)
+has-room queues rows name place all next last =
+    let has : HasRoomFor name (queue_names rows) queues = all.kept.next name next in
+    let row = has.row in
+    let long = names-long rows in
+    let none : slice_index_or queues.pending.rows place None ≡ None = all.held place ∙ ap (option_and_then (left_of [])) (ap (slice_get rows) (sym last) ∙ beyond rows) in
+    let few = few-held name queues.pending.rows rows (λ k waiting is. sym (all.held k) ∙ is) in
+    let a : length (filter (is_in name) queues.pending.rows) ≡ count_in name queues.pending = length-filter (is_in name) queues.pending.rows in
+    let b : length (filter (λ other. bytes_eq other name) (queue_names rows)) ≡ times_named name (queue_names rows) = length-filter (λ other. bytes_eq other name) (queue_names rows) in
+    let c = has.queue in
+    (index-free queues.pending.rows place (omega (arith, row, long, last)) none, omega (arith, few, a, b, c), has.memory)
+
 module _ (old new : Queues) (rows : List Row) (row : Row) (name : List ℕ) (all : AreQueues old rows) (next : old.next ≡ Some name) (named_ : name ≡ name_of row.definition.queue) where
   abbrev names : List (List ℕ)
   names = queue_names rows
@@ -189,13 +221,13 @@ module _ (old new : Queues) (rows : List Row) (row : Row) (name : List ℕ) (all
     by false is = let a = all.kept.room other in omega (arith, a)
     by true is =
         let same : name ≡ other = (bytes_eq-Decides name other).0 is in
-        subst (λ (n : List ℕ). times_named n names + 1 ≤ room_in n old.pending.queues) same (all.kept.next name next).1
+        subst (λ (n : List ℕ). times_named n names + 1 ≤ room_in n old.pending.queues) same (all.kept.next name next).queue
 
   pub added-all : (place : ℕ) → length rows ≡ place → place < length old.pending.rows → new.pending ≡ with_row place (held_of row) old.pending → new.names.items ≡ old.names.items ++ name ∷ [] → new.next ≡ None → AreQueues new (rows ++ row ∷ [])
   added-all place last within is items none = record {
     kept = subst (λ (ns : List (List ℕ)). HaveRoom new ns) (sym names-more) (record {
       named = items ∙ ap (λ (ns : List (List ℕ)). ns ++ name ∷ []) all.kept.named;
-      slashes = all-more HasOneSlash names name all.kept.slashes (all.kept.next name next).0;
+      slashes = all-more HasOneSlash names name all.kept.slashes (all.kept.next name next).slash;
       long =
           let m : length new.pending.rows ≡ length old.pending.rows = ap (λ (w : Waits). length w.rows) is ∙ set-long old.pending.rows place (held_of row) in
           let n : length (names ++ name ∷ []) ≡ length names + 1 = length-append names (name ∷ []) in

@@ -1,5 +1,6 @@
 -- Room in the queues for all tasks, as a task begins to wait or waits no longer.
-use Rattle.std.proofs.Common.{◌≡◌, ◌≢◌, ℕ, zero, suc, ◌+◌, ◌<◌, ◌≤◌, ◌==◌, ◌⊎◌, inl, inr, Bool, true, false, cond, List, [], ◌∷◌, length, filter, Option, Some, None, option_map, is_some, option_and_then, refl, sym, ap, ◌∙◌, subst, slice_get, slice_set, slice_index_or, get_or, bytes_eq, arith}
+use Rattle.std.specs.Global.{Global}
+use Rattle.std.proofs.Common.{Vec, vec_len, vec_capacity, ◌≡◌, ◌≢◌, ℕ, zero, suc, ◌+◌, ◌<◌, ◌≤◌, ◌==◌, ◌⊎◌, inl, inr, Bool, true, false, cond, List, [], ◌∷◌, length, filter, Option, Some, None, option_map, is_some, option_and_then, refl, sym, ap, ◌∙◌, subst, slice_get, slice_set, slice_index_or, get_or, bytes_eq, arith}
 use Rattle.std.specs.Option.{option_eq}
 use Rattle.std.specs.Cmp.{booleans_Decides}
 use Rattle.std.proofs.lemmas.Bool.Decides.{nat_tests}
@@ -10,7 +11,7 @@ use Rattle.run_states.specs.Rows.{Row, is_pending}
 use Rattle.claim_queue.specs.Waits.{Waiting, Waits, room_in, count_in, spare_in, waits_in as is_in}
 use Rattle.claim_queue.proofs.HeapLemmas.{same?}
 use Rattle.farm_rows.specs.declared.queues.Queues.{Queues}
-use Rattle.farm_rows.specs.Queues.{name_of, HasOneSlash, waiting_of, held_of, left_of, held_at, with_row, queue_names, times_named, AreQueues, AreQueuesBut}
+use Rattle.farm_rows.specs.Queues.{name_of, HasOneSlash, waiting_of, held_of, left_of, held_at, with_row, HasRoomFor, queue_names, times_named, AreQueues, AreQueuesBut}
 use Rattle.farm_rows.proofs.QueueLemmas.{told-left}
 use Rattle.farm_rows.proofs.QueueWalkLemmas.{set-same, set-none, set-other}
 
@@ -49,12 +50,15 @@ held-known (Some y) x is = let e : y ≡ x = cc in (booleans_Decides y x).1 e
 pub released : (waits : Waits) (row : ℕ) → slice_get waits.rows row ≡ Some None → waits ≡ with_row row None waits
 released waits row is = sym (ap (λ (rs : List (Option Waiting)). let w : Waits = record { queues = waits.queues; rows = rs } in w) (set-again waits.rows row None is))
 
-pub may-hold : (waits : Waits) (row : ℕ) (name : List ℕ) → option_map is_some (slice_get waits.rows row) ≡ Some false → 1 ≤ spare_in name waits → (row < length waits.rows) × (1 ≤ spare_in name (with_row row None waits))
-may-hold waits row name is spare = by (slice_get waits.rows row) refl where
-  by : (x : Option (Option Waiting)) → slice_get waits.rows row ≡ x → (row < length waits.rows) × (1 ≤ spare_in name (with_row row None waits))
+pub may-hold : (waits : Waits) (row : ℕ) (name : List ℕ) → slice_get waits.rows row ≡ Some None → 1 ≤ spare_in name waits → (row < length waits.rows) × (1 ≤ spare_in name (with_row row None waits))
+may-hold waits row name free spare = (got-within waits.rows row None free, subst (λ (w : Waits). 1 ≤ spare_in name w) (released waits row free) spare)
+
+pub held-free : (waits : Waits) (row : ℕ) → option_map is_some (slice_get waits.rows row) ≡ Some false → slice_get waits.rows row ≡ Some None
+held-free waits row is = by (slice_get waits.rows row) refl where
+  by : (x : Option (Option Waiting)) → slice_get waits.rows row ≡ x → slice_get waits.rows row ≡ Some None
   by None none = let both : None ≡ Some false = sym (ap (option_map is_some) none) ∙ is in absurd (cc)
   by (Some (Some w)) some = let both : Some true ≡ Some false = sym (ap (option_map is_some) some) ∙ is in absurd (cc)
-  by (Some None) some = (got-within waits.rows row None some, subst (λ (w : Waits). 1 ≤ spare_in name w) (released waits row some) spare)
+  by (Some None) some = some
 
 -- a row that is not known to be held, of those for which room was made
 pub not-held : (waits : Waits) (row : ℕ) → row < length waits.rows → (option_map is_some (slice_get waits.rows row) ≡ Some true → ⊥) → slice_get waits.rows row ≡ Some None
@@ -84,7 +88,7 @@ one-more p x xs = by (p x) where
   by false = omega arith
 
 -- what is held of each row is how its task waits, or nothing
-abbrev Within : List (Option Waiting) → List Row → Type 0
+abbrev pub Within : List (Option Waiting) → List Row → Type 0
 Within held rows = (place : ℕ) (waiting : Waiting) → slice_index_or held place None ≡ Some waiting → option_and_then held_of (slice_get rows place) ≡ Some waiting
 
 module _ (name : List ℕ) where
@@ -101,7 +105,7 @@ module _ (name : List ℕ) where
       le : (n : ℕ) → n ≤ n
       le n = omega arith
 
-  few-held : (held : List (Option Waiting)) (rows : List Row) → Within held rows → length (filter (is_in name) held) ≤ length (filter named (queue_names rows))
+  pub few-held : (held : List (Option Waiting)) (rows : List Row) → Within held rows → length (filter (is_in name) held) ≤ length (filter named (queue_names rows))
   few-held [] rows within = omega arith
   few-held (None ∷ held) [] within = few-held held [] (λ k. within (suc k))
   few-held (Some waiting ∷ held) [] within = let e : None ≡ Some waiting = within 0 waiting refl in absurd (cc)
@@ -173,14 +177,22 @@ module _ (place : ℕ) (queues : Queues) (rows : List Row) (all : AreQueuesBut p
       let c : times_named name (queue_names rows) ≤ room_in name queues.pending.queues = all.kept.room name in
       omega (arith, fewer, a, b, c)
 
-  pub changed-all : (new : Queues) (row : Row) → slice_get rows place ≡ Some row → new.pending ≡ with_row place (held_of row) queues.pending → new.names.items ≡ queues.names.items → new.next ≡ queues.next → AreQueues new rows
+  room-same : (new : Queues) (name : List ℕ) (row : Row) → new.pending ≡ with_row place (held_of row) queues.pending → new.names ≡ queues.names → HasRoomFor name (queue_names rows) queues → HasRoomFor name (queue_names rows) new
+  room-same new name row is names has = record {
+    slash = has.slash;
+    queue = subst (λ (w : Waits). times_named name (queue_names rows) + 1 ≤ room_in name w.queues) (sym is) has.queue;
+    row = let l = has.row in let m : length new.pending.rows ≡ length queues.pending.rows = ap (λ (w : Waits). length w.rows) is ∙ set-long queues.pending.rows place (held_of row) in omega (arith, l, m);
+    memory = subst (λ (v : Vec (List ℕ) Global). vec_len v < vec_capacity v) (sym names) has.memory;
+  }
+
+  pub changed-all : (new : Queues) (row : Row) → slice_get rows place ≡ Some row → new.pending ≡ with_row place (held_of row) queues.pending → new.names ≡ queues.names → new.next ≡ queues.next → AreQueues new rows
   changed-all new row here is names next = record {
     kept = record {
-      named = names ∙ all.kept.named;
+      named = ap (λ (v : Vec (List ℕ) Global). v.items) names ∙ all.kept.named;
       slashes = all.kept.slashes;
       long = let l = all.kept.long in let m : length new.pending.rows ≡ length queues.pending.rows = ap (λ (w : Waits). length w.rows) is ∙ set-long queues.pending.rows place (held_of row) in omega (arith, l, m);
       room = λ name. subst (λ (w : Waits). times_named name (queue_names rows) ≤ room_in name w.queues) (sym is) (all.kept.room name);
-      next = λ name some. subst (λ (w : Waits). HasOneSlash name × (times_named name (queue_names rows) + 1 ≤ room_in name w.queues)) (sym is) (all.kept.next name (sym next ∙ some));
+      next = λ name some. room-same new name row is names (all.kept.next name (sym next ∙ some));
     };
     held = λ k. ap (λ (w : Waits). held_at k w) is ∙ by k (same? k place);
   }

@@ -51,6 +51,13 @@ queue_names rows = map (λ row. name_of row.definition.queue) rows
 abbrev pub times_named : List ℕ → List (List ℕ) → ℕ
 times_named name names = count_by (λ other. bytes_eq other name) names
 
+-- there is room for one task more of the queue of a name, behind tasks whose queues have these names: in its queue, and for its row and name
+pub record HasRoomFor (name : List ℕ) (names : List (List ℕ)) (queues : Queues) : Type 0 where
+  pub slash : HasOneSlash name
+  pub queue : times_named name names + 1 ≤ room_in name queues.pending.queues
+  pub row : length names < length queues.pending.rows
+  pub memory : vec_len queues.names < vec_capacity queues.names
+
 -- there is room for tasks whose queues have these names: each has its name, and a row of its own; and in each queue there is room for all its
 -- tasks, and for one more in that of the task that is to come
 pub record HaveRoom (queues : Queues) (names : List (List ℕ)) : Type 0 where
@@ -58,14 +65,14 @@ pub record HaveRoom (queues : Queues) (names : List (List ℕ)) : Type 0 where
   pub slashes : AllByRecursion HasOneSlash names
   pub long : length names ≤ length queues.pending.rows
   pub room : (name : List ℕ) → times_named name names ≤ room_in name queues.pending.queues
-  pub next : ForSome queues.next (λ name. HasOneSlash name × (times_named name names + 1 ≤ room_in name queues.pending.queues))
+  pub next : ForSome queues.next (λ name. HasRoomFor name names queues)
 
--- a task is of the queue of a name, and there is room for it at a place
+-- a task is of the queue of a name, and there is room for it there and at a place
 pub record MayAdd (name : List ℕ) (row : Row) (place : ℕ) (queues : Queues) : Type 0 where
   pub named : name ≡ name_of row.definition.queue
-  pub names : vec_len queues.names < vec_capacity queues.names
-  pub within : place < length queues.pending.rows
-  pub room : 1 ≤ spare_in name (with_row place None queues.pending)
+  pub memory : vec_len queues.names < vec_capacity queues.names
+  pub free : slice_get queues.pending.rows place ≡ Some None
+  pub room : 1 ≤ spare_in name queues.pending
 
 -- of each task it is held how it waits, where it does, and there is room for all to wait at once
 pub record AreQueues (queues : Queues) (rows : List Row) : Type 0 where
@@ -82,7 +89,12 @@ abbrev pub MayBeQueues : Option Queues → List Row → Type 0
 MayBeQueues None rows = Unit {0}
 MayBeQueues (Some queues) rows = AreQueues queues rows
 
--- and but for what is held of the task at a place
+-- there is room for a task of the queue of a name, where queues are kept
+abbrev pub MayBeNoted : List ℕ → Option Queues → Type 0
+MayBeNoted name None = Unit {0}
+MayBeNoted name (Some queues) = queues.next ≡ Some name
+
+-- queues are right, where they are kept, but for what is held of the task at a place
 abbrev pub MayBeQueuesBut : ℕ → Option Queues → List Row → Type 0
 MayBeQueuesBut place None rows = Unit {0}
 MayBeQueuesBut place (Some queues) rows = AreQueuesBut place queues rows

@@ -1,6 +1,6 @@
 //! The tasks that wait for a worker, by their places, each in its queue: so that the first of them are found, and counted, without a walk
-//! over all tasks. Only `note` takes memory.
-ghost use Rattle.std.specs.Prelude.{◌≡◌, ◌^◌, ◌≤◌, ◌<◌, ◌∷◌, [], ◌++◌, List, Some, IsTrue, IfSome, IfOk, OnOk, length, count_by, slice_get};
+//! over all tasks. What holds a task takes memory in `note` alone.
+ghost use Rattle.std.specs.Prelude.{◌≡◌, ◌^◌, ◌≤◌, ◌<◌, ◌↔◌, ◌∷◌, [], ◌++◌, List, Some, IsTrue, IfSome, IfOk, OnOk, length, count_by, slice_get};
 ghost use Rattle.run_states.specs.Rows.{Row};
 ghost use Rattle.farm_rows.specs.Contents.{HaveOwnIds};
 ghost use Rattle.farm_rows.specs.Picks.{waits_in, picks, are_picks};
@@ -45,7 +45,7 @@ impl Queues {
         }
     }
 
-    /// Takes the memory for a task of a queue that is to come at a place. Room for one that did not come is given up.
+    /// Takes the memory for a task of a queue that is to come behind the others, at a place. There is such room for one task at a time.
     pub(crate) fn note(
         &mut self,
         alloc: Global,
@@ -78,9 +78,12 @@ impl Queues {
         }
     }
 
-    /// Adds a task that comes behind the others, at a place, where there is room for it. Answers whether it did.
+    /// Adds a task that comes behind the others, at a place, where room for one of its queue was noted. Answers whether it did. It takes no
+    /// memory.
     pub(crate) fn add(&mut self, row: &TaskRow, place: u32) -> bool
-        ensures { (rows : List Row) → length rows ≡ place → AreQueues self.old rows → IsTrue result → AreQueues self.new (rows ++ row.now ∷ []) }
+        ensures added { (rows : List Row) → length rows ≡ place → AreQueues self.old rows → IsTrue result → AreQueues self.new (rows ++ row.now ∷ []) }
+        ensures noted { (rows : List Row) → length rows ≡ place → AreQueues self.old rows
+            → self.old.next ≡ Some (name_of row.now.definition.queue) → IsTrue result }
     {
         let Some(name) = self.next.take() else {
             return false;
@@ -97,7 +100,7 @@ impl Queues {
 
     /// Whether a task is of the queue of a name, and there is room for it at a place.
     fn may_add(&self, name: &Text, row: &TaskRow, place: u32) -> bool
-        ensures { IsTrue result → MayAdd name.now row.now place self.now }
+        ensures { IsTrue result ↔ MayAdd name.now row.now place self.now }
     {
         self.names.len() < self.names.capacity()
             && may_hold(&self.pending, place, name)

@@ -1,5 +1,5 @@
 //! How a task waits, which is held by its place.
-ghost use Rattle.std.specs.Prelude.{◌≡◌, ℕ, ◌≤◌, ◌<◌, List, None, IsTrue, IsSome, length};
+ghost use Rattle.std.specs.Prelude.{◌≡◌, ◌↔◌, ℕ, ◌≤◌, ◌<◌, List, Some, None, IsTrue, length, slice_get};
 ghost use Rattle.claim_queue.specs.Waits.{Waits, spare_in};
 ghost use Rattle.farm_rows.specs.Queues.{name_of, held_of, with_row};
 
@@ -10,9 +10,9 @@ use run_states::TaskRow;
 use std::marker::Brand;
 use std::sync::ledger::{Blank, Ledger};
 
-/// Whether there is room for a row, and for one more that waits in a queue.
+/// Whether there is room for a row, of which nothing is held, and for one more that waits in a queue.
 pub(crate) fn may_hold(pending: &Pending, row: u32, name: &Text) -> bool
-    ensures { IsTrue result → (row < length pending.now.rows) × (1 ≤ spare_in name.now (with_row row None pending.now)) }
+    ensures { IsTrue result ↔ ((slice_get pending.now.rows row ≡ Some None) × (1 ≤ spare_in name.now pending.now)) }
 {
     pending.holds(row) == Some(false) && pending.spare(name) >= 1
 }

@@ -1,10 +1,10 @@
 //! The tasks that wait for a worker, where these are kept by their queues: what there is no room for makes them be given up, and then all
 //! tasks are walked over.
-ghost use Rattle.std.specs.Prelude.{◌≡◌, ◌≤◌, ◌<◌, ◌∷◌, [], ◌++◌, true, List, IfSome, IfOk, length, count_by, slice_get};
+ghost use Rattle.std.specs.Prelude.{◌≡◌, ◌≤◌, ◌<◌, ◌^◌, ◌∷◌, [], ◌++◌, true, List, IfSome, IfOk, OnOk, is_some, length, count_by, slice_get};
 ghost use Rattle.run_states.specs.Rows.{Row};
 ghost use Rattle.farm_rows.specs.Contents.{HaveOwnIds};
 ghost use Rattle.farm_rows.specs.Picks.{waits_in, picks, are_picks};
-ghost use Rattle.farm_rows.specs.Queues.{MayBeQueues, MayBeQueuesBut};
+ghost use Rattle.farm_rows.specs.Queues.{name_of, MayBeNoted, MayBeQueues, MayBeQueuesBut};
 
 use crate::picks::{are_picks, pending, picks};
 use crate::queues::Queues;
@@ -13,7 +13,7 @@ use run_states::TaskRow;
 use std::alloc::{AllocError, Global};
 use task_defs::TaskQueue;
 
-/// Takes the memory for a task of a queue that is to come at a place. Where memory is wanting, all that is held stays.
+/// Takes the memory for a task of a queue that is to come behind the others, at a place. Where memory is wanting, all that is held stays.
 pub(crate) fn note_queued(
     queues: &mut Option<Queues>,
     alloc: Global,
@@ -21,7 +21,9 @@ pub(crate) fn note_queued(
     place: u32,
 ) -> Result<(), AllocError>
     requires { place ≤ 1_000_000 }
-    ensures { (rows : List Row) → length rows ≡ place → MayBeQueues queues.old rows → MayBeQueues queues.new rows }
+    ensures kept { is_some queues.new ≡ is_some queues.old }
+    ensures noted { OnOk result (MayBeNoted (name_of queue.now) queues.new) }
+    ensures same { (rows : List Row) → length rows ≡ place → MayBeQueues queues.old rows → MayBeQueues queues.new rows }
 {
     match queues {
         Some(queues) => queues.note(alloc, queue, place),
@@ -29,9 +31,11 @@ pub(crate) fn note_queued(
     }
 }
 
-/// Adds a task that comes behind the others, at a place, or gives all up, where there is no room for it. It takes no memory.
+/// Adds a task that comes behind the others, at a place, or gives all up, where no room for one of its queue was noted. It takes no memory.
 pub(crate) fn keep_queued(queues: &mut Option<Queues>, row: &TaskRow, place: usize)
-    ensures { (rows : List Row) → length rows ≡ place → MayBeQueues queues.old rows → MayBeQueues queues.new (rows ++ row.now ∷ []) }
+    ensures all { (rows : List Row) → length rows ≡ place → MayBeQueues queues.old rows → MayBeQueues queues.new (rows ++ row.now ∷ []) }
+    ensures kept { (rows : List Row) → length rows ≡ place → place < 2 ^ 32 → MayBeQueues queues.old rows
+        → MayBeNoted (name_of row.now.definition.queue) queues.old → is_some queues.new ≡ is_some queues.old }
 {
     if !is_queued(queues, row, place) {
         *queues = None;
@@ -40,7 +44,10 @@ pub(crate) fn keep_queued(queues: &mut Option<Queues>, row: &TaskRow, place: usi
 
 /// Adds a task that comes behind the others, at a place. Answers whether there was room for it.
 fn is_queued(queues: &mut Option<Queues>, row: &TaskRow, place: usize) -> bool
-    ensures { result ≡ true → (rows : List Row) → length rows ≡ place → MayBeQueues queues.old rows → MayBeQueues queues.new (rows ++ row.now ∷ []) }
+    ensures all { result ≡ true → (rows : List Row) → length rows ≡ place → MayBeQueues queues.old rows → MayBeQueues queues.new (rows ++ row.now ∷ []) }
+    ensures noted { (rows : List Row) → length rows ≡ place → place < 2 ^ 32 → MayBeQueues queues.old rows
+        → MayBeNoted (name_of row.now.definition.queue) queues.old → result ≡ true }
+    ensures same { is_some queues.new ≡ is_some queues.old }
 {
     if place > u32::MAX as usize {
         return false;
@@ -55,7 +62,8 @@ fn is_queued(queues: &mut Option<Queues>, row: &TaskRow, place: usize) -> bool
 pub(crate) fn keep_waiting(queues: &mut Option<Queues>, rows: &[TaskRow], place: usize)
     requires within { place < length rows.now }
     requires others { MayBeQueuesBut place queues.old rows.now }
-    ensures { MayBeQueues queues.new rows.now }
+    ensures all { MayBeQueues queues.new rows.now }
+    ensures kept { place < 2 ^ 32 → is_some queues.new ≡ is_some queues.old }
 {
     match queues {
         Some(kept) if place <= u32::MAX as usize => kept.changed(rows, place),

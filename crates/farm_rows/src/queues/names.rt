@@ -1,5 +1,5 @@
 //! The names of queues.
-ghost use Rattle.std.specs.Prelude.{◌≡◌, ◌++◌, ◌∷◌, IsTrue, IfOk, string_bytes};
+ghost use Rattle.std.specs.Prelude.{◌≡◌, ◌↔◌, ◌++◌, ◌∷◌, IsTrue, IfOk, string_bytes};
 ghost use Rattle.task_defs.specs.Forms.{queue_name};
 ghost use Rattle.farm_rows.specs.Queues.{name_of, HasOneSlash};
 
@@ -28,12 +28,11 @@ fn joined(alloc: Global, first: &str, second: &str) -> Result<String, AllocError
 
 /// Whether a name is that of a queue.
 pub(crate) fn is_name_of(name: &Text, queue: &TaskQueue) -> bool
-    ensures { IsTrue result → name.now ≡ name_of queue.now }
+    ensures { IsTrue result ↔ (name.now ≡ name_of queue.now) }
 {
+    let (first, second) = (queue.provisioner_id.as_str(), queue.worker_type.as_str());
     match name.as_str().split_once('/') {
-        Some((provisioner, worker)) => {
-            provisioner == queue.provisioner_id.as_str() && worker == queue.worker_type.as_str()
-        }
+        Some((provisioner, worker)) => provisioner == first && worker == second,
         None => false,
     }
 }

@@ -1,8 +1,8 @@
 use Rattle.std.proofs.Common.{◌≡◌, ◌+◌, ◌≤◌, ℕ, List, Some, None, sym, subst, arith}
 use Rattle.claim_queue.specs.Waits.{room_in}
 use Rattle.farm_rows.specs.declared.queues.Queues.{Queues}
-use Rattle.farm_rows.specs.Queues.{HasOneSlash, queue_names, times_named}
-use Rattle.farm_rows.proofs.QueueNoteLemmas.{noted-all, noted-room}
+use Rattle.farm_rows.specs.Queues.{HasOneSlash, HasRoomFor, queue_names}
+use Rattle.farm_rows.proofs.QueueNoteLemmas.{noted-all, noted-room, noted-row}
 use Rattle.farm_rows.proofs.queues.Queues.note.Goals as goal
 
 same-some : (a b : List ℕ) → Some a ≡ Some b → a ≡ b
@@ -19,5 +19,12 @@ returns-clause-same c = λ rows long all.
     let new : Queues = record { pending = c.reserve.new.self; names = c.reserve-2.new.self; next = Some name } in
     let slash : HasOneSlash name = subst HasOneSlash (sym c.in_ok-name.ensures.name) c.in_ok-name.ensures.slash in
     let room = noted-room c.args.self.now new rows name (c.min-spare.result + 1) (c.args.place + 1) all c.in_ok-reserve.ensures (omega (arith, c.spare.ensures, c.min-spare.ensures)) (omega (arith, long, c.requires.few)) in
+    let memory = c.in_ok-reserve-2.ensures.ok in
+    let has : HasRoomFor name (queue_names rows) new = record {
+      slash = slash;
+      queue = room;
+      row = noted-row c.args.self.now new rows name (c.min-spare.result + 1) (c.args.place + 1) all c.in_ok-reserve.ensures (omega (arith, long));
+      memory = omega (arith, memory);
+    } in
     noted-all c.args.self.now new rows name (c.min-spare.result + 1) (c.args.place + 1) all c.in_ok-reserve.ensures c.reserve-2.ensures.items
-    (λ n some. let same : name ≡ n = same-some name n some in subst (λ (n : List _). HasOneSlash n × (times_named n (queue_names rows) + 1 ≤ room_in n c.reserve.new.self.queues)) same (slash, room))
+    (λ n some. subst (λ (n : List ℕ). HasRoomFor n (queue_names rows) new) (same-some name n some) has)
