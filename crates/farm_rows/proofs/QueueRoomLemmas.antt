@@ -11,7 +11,7 @@ use Rattle.run_states.specs.Rows.{Row, is_pending}
 use Rattle.claim_queue.specs.Waits.{Waiting, Waits, room_in, count_in, spare_in, waits_in as is_in}
 use Rattle.claim_queue.proofs.HeapLemmas.{same?}
 use Rattle.farm_rows.specs.declared.queues.Queues.{Queues}
-use Rattle.farm_rows.specs.Queues.{name_of, HasOneSlash, waiting_of, held_of, left_of, held_at, with_row, HasRoomFor, queue_names, times_named, AreQueues, AreQueuesBut}
+use Rattle.farm_rows.specs.Queues.{name_of, waiting_of, held_of, left_of, held_at, with_row, HasRoomFor, queue_names, times_named, AreQueues, AreQueuesBut}
 use Rattle.farm_rows.proofs.QueueLemmas.{told-left}
 use Rattle.farm_rows.proofs.QueueWalkLemmas.{set-same, set-none, set-other}
 

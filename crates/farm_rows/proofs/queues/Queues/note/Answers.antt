@@ -1,5 +1,4 @@
-use Rattle.std.proofs.Common.{◌≡◌, ◌+◌, ◌≤◌, ℕ, List, Some, None, sym, subst, arith}
-use Rattle.claim_queue.specs.Waits.{room_in}
+use Rattle.std.proofs.Common.{◌≡◌, ◌+◌, ℕ, List, Some, None, sym, subst, arith}
 use Rattle.farm_rows.specs.declared.queues.Queues.{Queues}
 use Rattle.farm_rows.specs.Queues.{HasOneSlash, HasRoomFor, queue_names}
 use Rattle.farm_rows.proofs.QueueNoteLemmas.{noted-all, noted-room, noted-row}
