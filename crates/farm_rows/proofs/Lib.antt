@@ -4,13 +4,12 @@ pub mod DueLemmas
 pub mod ReadyLemmas
 pub mod TurnLemmas
 pub mod AdvanceLemmas
-pub mod SweepLemmas
-pub mod ClaimLemmas
 pub mod FitLemmas
 pub mod PlaceLemmas
 pub mod PlacedLemmas
 pub mod GroupLemmas
-pub mod KeptLemmas
+pub mod FirstLemmas
+pub mod IndexLemmas
 pub mod TableLemmas
 pub mod IdLemmas
 pub mod ChangeLemmas
@@ -18,7 +17,6 @@ pub mod PickLemmas
 pub mod EndLemmas
 pub mod ShownLemmas
 pub mod StartLemmas
-pub mod SettleLemmas
 pub mod StepLemmas
 pub mod SharedLemmas
 pub mod CreateLemmas
@@ -29,6 +27,7 @@ pub mod PageLemmas
 pub mod ListLemmas
 pub mod ServedLemmas
 pub mod SummaryLemmas
+pub mod GraphCrossing
 pub mod CrossingLemmas
 pub mod QueueNameLemmas
 pub mod QueueLemmas
@@ -38,3 +37,7 @@ pub mod QueueNoteLemmas
 pub mod QueuePickLemmas
 pub mod QueueChangeLemmas
 pub mod QueueCrossing
+pub mod DependencyLemmas
+pub mod FirstReadyLemmas
+pub mod BehindLemmas
+pub mod AddedLemmas

@@ -14,3 +14,6 @@ pub mod Sweep
 pub mod Settling
 pub mod Placed
 pub mod Queues
+pub mod Dated
+pub mod Dependencies
+pub mod Indexed

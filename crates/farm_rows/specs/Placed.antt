@@ -4,7 +4,6 @@ use Rattle.std.specs.Ordering.{nat_cmp}
 use Rattle.std.specs.Cmp.Lexicographic.{slice_cmp}
 use Rattle.std.specs.BTreeMap.{BTreeMap, get}
 use Rattle.run_states.specs.Rows.{Row}
-use Rattle.farm_rows.specs.Sweep.{IsKept}
 
 -- a place for each of some ids
 abbrev pub PlaceMap : Type 0
@@ -67,9 +66,3 @@ MayBeFirst (Some places) groups = AreFirst places groups
 -- of each group of tasks the place of its first task is kept, where there are places
 abbrev pub AreGrouped : Option PlaceMap → List Row → Type 0
 AreGrouped places rows = MayBeFirst places (groups_of rows)
-
--- what tables keep, the places of their tasks, and those of the first tasks of groups
-pub record AreTables (rows : List Row) (last next : ℕ) (soonest : Option ℕ) (capacity : ℕ) (places groups : Option PlaceMap) : Type 0 where
-  pub kept : IsKept rows last next soonest capacity
-  pub placed : ArePlaced places rows
-  pub grouped : AreGrouped groups rows

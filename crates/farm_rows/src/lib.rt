@@ -7,7 +7,10 @@
 mod checks;
 mod copies;
 mod counts;
+mod dependencies;
+mod dues;
 mod groups;
+mod index;
 mod laws;
 mod lists;
 mod moves;
@@ -16,13 +19,14 @@ mod places;
 mod plan;
 mod queues;
 mod room;
+mod rows;
 mod settle;
 mod shown;
 mod summary;
-mod sweep;
 mod tables;
 mod turns;
 mod waits;
+mod walks;
 mod work;
 
 pub use counts::RowCounts;

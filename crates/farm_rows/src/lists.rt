@@ -4,7 +4,7 @@ ghost use Rattle.std.specs.List.{list_any};
 ghost use Rattle.farm_rows.specs.Changes.{on_row};
 ghost use Rattle.farm_rows.specs.Lists.{is_listed, listed, names_listed, behind_id, behind, page_rows, has_more};
 
-use crate::places::Rows;
+use crate::rows::Rows;
 use farm_text::SlugId;
 use run_states::TaskRow;
 use std::alloc::{AllocError, Global};

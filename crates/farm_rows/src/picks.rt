@@ -7,7 +7,7 @@ ghost use Rattle.farm_rows.specs.Picks.{is_same_queue, waits_in, goes_before, be
 ghost use Rattle.farm_rows.specs.Left.{left};
 
 use crate::checks::may_keep;
-use crate::places::Rows;
+use crate::rows::Rows;
 use claim_queue::rank;
 use farm_record::{Claim, RunName};
 use farm_text::{Moment, SlugId};

@@ -1,0 +1,27 @@
+use Rattle.farm_rows.proofs.IdLemmas.{other-ids}
+use Rattle.farm_rows.proofs.PlacedLemmas.{ids_of}
+use Rattle.farm_rows.proofs.index.Index.note.Goals as goal
+
+pub returns-in_err-note_new : goal.returns-in_err-note_new
+returns-in_err-note_new c = record {
+  placed = c.note_new.ensures (ids_of c.args.rows.now) (other-ids c.args.creation.now.id c.args.rows.now c.requires.unknown) c.requires.index.placed;
+  grouped = c.requires.index.grouped;
+  due = c.requires.index.due;
+  waiting = c.note_added.ensures c.args.rows.now c.requires.index.waiting;
+}
+
+pub returns-in_err-note_first : goal.returns-in_err-note_first
+returns-in_err-note_first c = record {
+  placed = c.note_new.ensures (ids_of c.args.rows.now) (other-ids c.args.creation.now.id c.args.rows.now c.requires.unknown) c.requires.index.placed;
+  grouped = c.note_first.ensures;
+  due = c.requires.index.due;
+  waiting = c.note_added.ensures c.args.rows.now c.requires.index.waiting;
+}
+
+pub returns : goal.returns
+returns c = record {
+  placed = c.note_new.ensures (ids_of c.args.rows.now) (other-ids c.args.creation.now.id c.args.rows.now c.requires.unknown) c.requires.index.placed;
+  grouped = c.note_first.ensures;
+  due = c.reserve.ensures c.args.rows.now c.requires.index.due;
+  waiting = c.note_added.ensures c.args.rows.now c.requires.index.waiting;
+}

@@ -1,0 +1,176 @@
+//! What is kept beside the tasks, so that they are found without a walk over all: where each stands, which is the first of each group, what
+//! falls due first, and which is ready first.
+//!
+//! Each part of it may be given up, and then all tasks are walked over. Functions take the tasks beside it.
+ghost use Rattle.std.specs.Prelude.{◌≡◌, ◌≤◌, ◌<◌, ◌++◌, ◌∷◌, [], List, None, find, filter, min, nat_le, length, option_copied};
+ghost use Rattle.std.specs.List.{position, reduce};
+ghost use Rattle.run_states.specs.Rows.{Row, loses_claim};
+ghost use Rattle.farm_rows.specs.Contents.{row_with};
+ghost use Rattle.farm_rows.specs.Changes.{has_id};
+ghost use Rattle.farm_rows.specs.Due.{all_due_moments, meets_deadline};
+ghost use Rattle.farm_rows.specs.Ready.{is_ready};
+ghost use Rattle.farm_rows.specs.Placed.{in_group};
+ghost use Rattle.farm_rows.specs.Indexed.{IsIndexOf, IsIndexBut};
+
+use crate::dependencies::DependencyGraph;
+use crate::dependencies::kept::{keep_added, keep_changed, known_ready, note_added};
+use crate::dues::{Dues, keep_dues, known_deadline, known_lease, reserve};
+use crate::groups::{first_of, keep_first, note_first};
+use crate::places::{keep_noted, note_new, place_of, row_with};
+use crate::rows::Rows;
+use crate::settle::ready_place;
+use crate::walks::{deadline_place, first_due, lost_place};
+use farm_record::Creation;
+use farm_text::{Moment, SlugId};
+use run_states::TaskRow;
+use slug_places::places::Places;
+use std::alloc::{AllocError, Global};
+use std::collections::BTreeMap;
+
+/// What is kept beside the tasks.
+#[derive(Debug, Drop)]
+pub(crate) struct Index {
+    /// The place of each task by its id.
+    places: Option<Places>,
+    /// The place of the first task of each group.
+    groups: Option<Places>,
+    /// When each task falls due.
+    dues: Option<Dues>,
+    /// Which tasks wait for which, and which of them are ready.
+    graph: Option<DependencyGraph>,
+}
+
+impl Index {
+    /// The index of no tasks. It takes no memory.
+    pub(crate) fn new(alloc: Global) -> Index
+        ensures { IsIndexOf result [] }
+    {
+        Index {
+            places: Some(BTreeMap::new(alloc)),
+            groups: Some(BTreeMap::new(alloc)),
+            dues: Some(Dues::new(alloc)),
+            graph: Some(DependencyGraph::new(alloc)),
+        }
+    }
+
+    /// An index of which all is given up, which is right for any tasks.
+    pub(crate) fn given_up() -> Index
+        ensures { (rows : List Row) → IsIndexOf result rows }
+    {
+        Index {
+            places: None,
+            groups: None,
+            dues: None,
+            graph: None,
+        }
+    }
+
+    /// The place of the task with this id.
+    pub(crate) fn place_of(&self, rows: &[TaskRow], id: SlugId) -> Option<usize>
+        requires { IsIndexOf self.now rows.now }
+        ensures { result ≡ position (has_id id) rows.now }
+    {
+        place_of(rows, self.places.as_ref(), id)
+    }
+
+    /// The task with this id.
+    pub(crate) fn row_with<'a>(&self, rows: &'a [TaskRow], id: SlugId) -> Option<&'a TaskRow>
+        requires { IsIndexOf self.now rows.now }
+        ensures { option_copied result ≡ row_with id rows.now }
+    {
+        row_with(rows, self.places.as_ref(), id)
+    }
+
+    /// The first task of a group.
+    pub(crate) fn first_of<'a>(&self, rows: &'a [TaskRow], group: SlugId) -> Option<&'a TaskRow>
+        requires { IsIndexOf self.now rows.now }
+        ensures { option_copied result ≡ find (in_group group) rows.now }
+    {
+        first_of(rows, self.groups.as_ref(), group)
+    }
+
+    /// The first moment at which something falls due, of those up to this one.
+    pub(crate) fn first_due(&self, rows: &[TaskRow], moment: Moment) -> Option<Moment>
+        requires { IsIndexOf self.now rows.now }
+        ensures { result ≡ reduce min (filter (λ due. nat_le due moment) (all_due_moments rows.now)) }
+    {
+        match &self.dues {
+            Some(dues) => dues.first(moment),
+            None => first_due(rows, moment),
+        }
+    }
+
+    /// The place of the first task whose deadline is at this very moment.
+    pub(crate) fn deadline_place(&self, rows: &[TaskRow], at: Moment) -> Option<usize>
+        requires { IsIndexOf self.now rows.now }
+        ensures { result ≡ position (meets_deadline at) rows.now }
+    {
+        match known_deadline(&self.dues, at) {
+            Some(place) => place,
+            None => deadline_place(rows, at),
+        }
+    }
+
+    /// The place of the first task whose claim ends at this moment or before.
+    pub(crate) fn lost_place(&self, rows: &[TaskRow], at: Moment) -> Option<usize>
+        requires { IsIndexOf self.now rows.now }
+        ensures { result ≡ position (loses_claim at) rows.now }
+    {
+        match known_lease(&self.dues, at) {
+            Some(place) => place,
+            None => lost_place(rows, at),
+        }
+    }
+
+    /// The place of the first task that is ready.
+    pub(crate) fn first_ready(&self, rows: &[TaskRow]) -> Option<usize>
+        requires { IsIndexOf self.now rows.now }
+        ensures { result ≡ position (is_ready rows.now) rows.now }
+    {
+        match known_ready(&self.graph) {
+            Some(place) => place,
+            None => ready_place(&Rows::new(rows, self)),
+        }
+    }
+
+    /// Makes room for a task that is to be created behind these. All that is kept stays right, also where memory is wanting.
+    pub(crate) fn note(
+        &mut self,
+        alloc: Global,
+        rows: &[TaskRow],
+        creation: &Creation,
+    ) -> Result<(), AllocError>
+        requires index { IsIndexOf self.old rows.now }
+        requires few { length rows.now ≤ 1_000_000 }
+        requires unknown { row_with creation.now.id rows.now ≡ None }
+        ensures { IsIndexOf self.new rows.now }
+    {
+        note_added(&mut self.graph, alloc, rows, self.places.as_ref(), creation)?;
+        let place = rows.len() as u32;
+        note_new(&mut self.places, creation.id, place)?;
+        note_first(&mut self.groups, rows, creation.definition.task_group_id)?;
+        reserve(&mut self.dues, place)
+    }
+
+    /// A task comes behind these. What has no room for it is given up. It takes no memory.
+    pub(crate) fn added(&mut self, rows: &[TaskRow], row: &TaskRow)
+        requires { IsIndexOf self.old rows.now }
+        ensures { IsIndexOf self.new (rows.now ++ row.now ∷ []) }
+    {
+        keep_added(&mut self.graph, rows, self.places.as_ref(), row);
+        let place = rows.len();
+        keep_noted(&mut self.places, row.id(), place);
+        keep_first(&mut self.groups, rows, row.definition().task_group_id);
+        keep_dues(&mut self.dues, place, row);
+    }
+
+    /// Brings the index up to date for the task at a place, which changed in its state. It takes no memory.
+    pub(crate) fn changed(&mut self, rows: &[TaskRow], place: usize)
+        requires within { place < length rows.now }
+        requires index { IsIndexBut place self.old rows.now }
+        ensures { IsIndexOf self.new rows.now }
+    {
+        keep_dues(&mut self.dues, place, &rows[place]);
+        keep_changed(&mut self.graph, rows, place);
+    }
+}
