@@ -29,8 +29,8 @@ fn are_first(rows: &Rows<'_>, names: &[RunName]) -> bool
     let Some(first) = names.first() else {
         return false;
     };
-    match rows.with(first.id) {
-        Some(row) => are_picks(rows.list(), &row.definition().queue, names),
+    match rows.place(first.id) {
+        Some(place) => rows.are_picks(place, names),
         None => false,
     }
 }

@@ -15,4 +15,5 @@ returns c =
       grouped = grouped-more c.keep_first.new.groups rows (rows ++ row ∷ []) row c.definition.result.now.task_group_id c.keep_first.ensures refl (ap (λ (d : TaskDef). d.task_group_id) c.definition.ensures);
       due = c.keep_dues.ensures rows (rows ++ row ∷ []) (put-behind rows row (length rows) refl) c.requires.due;
       waiting = c.keep_added.ensures;
+      queued = c.keep_queued.ensures.all rows refl c.requires.queued;
     }
