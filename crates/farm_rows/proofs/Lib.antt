@@ -37,6 +37,7 @@ pub mod QueueNoteLemmas
 pub mod QueuePickLemmas
 pub mod QueueChangeLemmas
 pub mod QueueCrossing
+pub mod QueueFirstLemmas
 pub mod DependencyLemmas
 pub mod FirstReadyLemmas
 pub mod BehindLemmas
