@@ -1,5 +1,5 @@
 -- Whether runs are the first of their queue, by the place of the first one's task.
-use Rattle.std.proofs.Common.{◌≡◌, ℕ, Bool, false, List, [], ◌∷◌, Option, Some, None, find, refl, sym, ap, ◌∙◌, subst, slice_get, get_or}
+use Rattle.std.proofs.Common.{◌≡◌, ℕ, Bool, false, List, [], ◌∷◌, Option, Some, None, sym, ap, ◌∙◌, subst, slice_get, get_or}
 use Rattle.std.specs.Option.{IfSome, option_map_or}
 use Rattle.std.specs.List.{position}
 use Rattle.std.proofs.lemmas.Option.{slice_get-get_or}
