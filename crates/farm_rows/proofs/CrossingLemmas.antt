@@ -12,6 +12,7 @@ use Rattle.farm_rows.specs.contracts.tables.TaskTables.{the_row}
 use Rattle.farm_rows.specs.contracts.tables.TaskTables.TheInside.{the_type as inside_type}
 use Rattle.farm_rows.proofs.GraphCrossing.{dependencies_send}
 use Rattle.farm_rows.proofs.MemberCrossing.{members_send}
+use Rattle.farm_rows.proofs.QueueCrossing.{queues_send}
 
 held_send : IsSend held.the_row
 held_send = view_send _ _ _ _ _ (declared_send held_type (
@@ -32,7 +33,7 @@ index_send = declared_send indexes.the_type (
     search (members_send, crosses, sendable) depth 40 fits 50000,
     (
       search (dues_send, crosses, sendable) depth 40 fits 50000,
-      (search (dependencies_send, crosses, sendable) depth 40 fits 50000, tt),
+      (search (dependencies_send, crosses, sendable) depth 40 fits 50000, (search (queues_send, crosses, sendable) depth 40 fits 50000, tt)),
     ),
   ),
 )

@@ -10,9 +10,12 @@ use Rattle.run_states.proofs.LaterLemmas.{RowLater-refl, RowsLater-refl}
 use Rattle.dep_graph.specs.Nodes.{TaskGraph}
 use Rattle.farm_rows.specs.declared.dues.Dues.{Dues}
 use Rattle.farm_rows.specs.declared.index.Index.{Index}
+use Rattle.farm_rows.specs.declared.queues.Queues.{Queues}
 use Rattle.farm_rows.specs.Dated.{MayBeDue, IsPutAt}
 use Rattle.farm_rows.specs.Dependencies.{MayBeDependencies, MayBeDependenciesBut}
+use Rattle.farm_rows.specs.Queues.{MayBeQueues, MayBeQueuesBut}
 use Rattle.farm_rows.specs.Indexed.{IsIndexOf, IsIndexBut}
+use Rattle.farm_rows.proofs.QueueChangeLemmas.{later-queues}
 use Rattle.farm_rows.proofs.DependencyLemmas.{may-change}
 use Rattle.farm_rows.proofs.MemberLemmas.{members-later}
 use Rattle.farm_rows.proofs.PlaceLemmas.{place-within}
@@ -56,10 +59,15 @@ pub graph-but : (index : Index) (rows : List Row) (place : ℕ) → IsIndexBut p
 graph-but index rows place but =
     may-change index.graph place but.before rows (record { stay = but.later.stay; long = but.later.long; others = but.later.others }) but.right.waiting
 
--- once what falls due of that task is held, and the graph has it as it is, all is right
-pub index-changed : (index : Index) (dues : Option Dues) (graph : Option TaskGraph) (rows : List Row) (place : ℕ) (row : Row) → IsIndexBut place index rows → slice_get rows place ≡ Some row
-    → ((before rs : List Row) → IsPutAt place row before rs → MayBeDue index.dues before → MayBeDue dues rs) → MayBeDependencies graph rows → IsIndexOf (record index { dues = dues; graph = graph }) rows
-index-changed index dues graph rows place row but here put waiting =
+-- and so are queues
+pub queues-but : (index : Index) (rows : List Row) (place : ℕ) → IsIndexBut place index rows → MayBeQueuesBut place index.queues rows
+queues-but index rows place but = later-queues place index.queues but.before rows but.later.stay but.later.long but.later.others but.right.queued
+
+-- once what falls due of that task is held, the graph has it as it is, and its queue how it waits, all is right
+pub index-changed : (index : Index) (dues : Option Dues) (graph : Option TaskGraph) (queues : Option Queues) (rows : List Row) (place : ℕ) (row : Row) → IsIndexBut place index rows → slice_get rows place ≡ Some row
+    → ((before rs : List Row) → IsPutAt place row before rs → MayBeDue index.dues before → MayBeDue dues rs) → MayBeDependencies graph rows → MayBeQueues queues rows
+    → IsIndexOf (record index { dues = dues; graph = graph; queues = queues }) rows
+index-changed index dues graph queues rows place row but here put waiting queued =
     let later = but.later in
     let right = but.right in
     let ids = ids-later but.before rows later.stay later.long in
@@ -68,6 +76,7 @@ index-changed index dues graph rows place row but here put waiting =
       members = members-later index.members but.before rows later.stay later.long right.members;
       due = put but.before rows (record { here = here; others = later.others }) right.due;
       waiting = waiting;
+      queued = queued;
     }
 
 -- ---- one task comes

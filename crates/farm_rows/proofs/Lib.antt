@@ -32,6 +32,15 @@ pub mod SummaryLemmas
 pub mod GraphCrossing
 pub mod MemberCrossing
 pub mod CrossingLemmas
+pub mod QueueNameLemmas
+pub mod QueueLemmas
+pub mod QueueWalkLemmas
+pub mod QueueRoomLemmas
+pub mod QueueNoteLemmas
+pub mod QueuePickLemmas
+pub mod QueueChangeLemmas
+pub mod QueueCrossing
+pub mod QueueFirstLemmas
 pub mod DependencyLemmas
 pub mod FirstReadyLemmas
 pub mod BehindLemmas

@@ -8,6 +8,7 @@ use Rattle.farm_rows.specs.Placed.{ArePlaced}
 use Rattle.farm_rows.specs.Members.{MayBeMembers}
 use Rattle.farm_rows.specs.Dated.{MayBeDue}
 use Rattle.farm_rows.specs.Dependencies.{MayBeDependencies}
+use Rattle.farm_rows.specs.Queues.{MayBeQueues}
 
 -- all that is kept beside these tasks is right, as far as it is kept
 pub record IsIndexOf (index : Index) (rows : List Row) : Type 0 where
@@ -15,6 +16,7 @@ pub record IsIndexOf (index : Index) (rows : List Row) : Type 0 where
   pub members : MayBeMembers index.members rows
   pub due : MayBeDue index.dues rows
   pub waiting : MayBeDependencies index.graph rows
+  pub queued : MayBeQueues index.queues rows
 
 -- the task at a place may have changed in its state, and the others are as they were
 pub record IsLaterAt (place : ℕ) (before rows : List Row) : Type 0 where

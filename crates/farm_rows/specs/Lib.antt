@@ -15,6 +15,7 @@ pub mod Deeds
 pub mod Sweep
 pub mod Settling
 pub mod Placed
+pub mod Queues
 pub mod Dated
 pub mod Dependencies
 pub mod Indexed

@@ -1,8 +1,8 @@
 //! What is kept beside the tasks, so that they are found without a walk over all: where each stands, which are of each group, what falls
-//! due first, and which wait for which.
+//! due first, which wait for which, and which wait in each queue.
 //!
 //! Each part of it may be given up, and then all tasks are walked over. Functions take the tasks beside it.
-ghost use Rattle.std.specs.Prelude.{◌≡◌, ◌≤◌, ◌<◌, ◌++◌, ◌∷◌, [], List, None, IfSome, find, filter, min, nat_le, nat_lt, length, take, option_copied};
+ghost use Rattle.std.specs.Prelude.{◌≡◌, ◌≤◌, ◌<◌, ◌++◌, ◌∷◌, [], List, None, IfSome, IfOk, find, filter, min, nat_le, nat_lt, length, take, count_by, slice_get, option_copied};
 ghost use Rattle.std.specs.List.{position, reduce};
 ghost use Rattle.run_states.specs.Rows.{Row, loses_claim};
 ghost use Rattle.farm_rows.specs.Contents.{row_with};
@@ -11,6 +11,7 @@ ghost use Rattle.farm_rows.specs.Due.{all_due_moments, meets_deadline};
 ghost use Rattle.farm_rows.specs.Ready.{is_ready};
 ghost use Rattle.farm_rows.specs.Members.{in_group};
 ghost use Rattle.farm_rows.specs.Listing.{places_of, starting_at};
+ghost use Rattle.farm_rows.specs.Picks.{waits_in, picks, are_picks};
 ghost use Rattle.farm_rows.specs.Indexed.{IsIndexOf, IsIndexBut};
 
 use crate::dependencies::DependencyGraph;
@@ -22,16 +23,22 @@ use crate::listing::{PlacePage, page_from};
 use crate::lists::TaskList;
 use crate::members::Members;
 use crate::members::kept::{first_of, keep_member, known_members, note_member};
+use crate::picks::{are_picks, picks};
 use crate::places::{keep_noted, note_new, place_of, row_with};
+use crate::queues::Queues;
+use crate::queues::kept::{
+    are_picks_at, keep_queued, keep_waiting, note_queued, pending_in, picks_in,
+};
 use crate::rows::Rows;
 use crate::settle::ready_place;
 use crate::walks::{deadline_place, first_due, lost_place};
-use farm_record::Creation;
+use farm_record::{Creation, RunName};
 use farm_text::{Moment, SlugId};
 use run_states::TaskRow;
 use slug_places::places::Places;
 use std::alloc::{AllocError, Global};
 use std::collections::BTreeMap;
+use task_defs::TaskQueue;
 
 /// What is kept beside the tasks.
 #[derive(Debug, Drop)]
@@ -44,6 +51,8 @@ pub(crate) struct Index {
     dues: Option<Dues>,
     /// Which tasks wait for which, and which of them are ready.
     graph: Option<DependencyGraph>,
+    /// Which tasks wait for a worker, each in its queue.
+    queues: Option<Queues>,
 }
 
 impl Index {
@@ -56,6 +65,7 @@ impl Index {
             members: Some(Members::new(alloc)),
             dues: Some(Dues::new(alloc)),
             graph: Some(DependencyGraph::new(alloc)),
+            queues: Some(Queues::new(alloc)),
         }
     }
 
@@ -68,6 +78,7 @@ impl Index {
             members: None,
             dues: None,
             graph: None,
+            queues: None,
         }
     }
 
@@ -162,6 +173,43 @@ impl Index {
         }
     }
 
+    /// How many tasks wait in a queue.
+    pub(crate) fn pending(&self, rows: &[TaskRow], queue: &TaskQueue) -> usize
+        requires { IsIndexOf self.now rows.now }
+        ensures { result ≡ count_by (waits_in queue.now) rows.now }
+    {
+        pending_in(&self.queues, rows, queue)
+    }
+
+    /// The runs that are claimed next in a queue, so many, or all that wait. The places of ids tell that no two tasks have one.
+    pub(crate) fn picks(
+        &self,
+        alloc: Global,
+        rows: &[TaskRow],
+        queue: &TaskQueue,
+        most: u8,
+    ) -> Result<Vec<RunName>, AllocError>
+        requires { IsIndexOf self.now rows.now }
+        ensures { IfOk result (λ names. names.items ≡ picks most queue.now rows.now) }
+    {
+        match &self.places {
+            Some(_) => picks_in(alloc, &self.queues, rows, queue, most),
+            None => picks(alloc, rows, queue, most),
+        }
+    }
+
+    /// Whether the runs of these names are, each in its turn, the pick of the queue of the task at a place.
+    pub(crate) fn are_picks(&self, rows: &[TaskRow], place: usize, names: &[RunName]) -> bool
+        requires within { place < length rows.now }
+        requires index { IsIndexOf self.now rows.now }
+        ensures { IfSome (slice_get rows.now place) (λ row. result ≡ are_picks row.definition.queue names.now rows.now) }
+    {
+        match &self.places {
+            Some(_) => are_picks_at(&self.queues, rows, place, names),
+            None => are_picks(rows, &rows[place].definition().queue, names),
+        }
+    }
+
     /// Makes room for a task that is to be created behind these. All that is kept stays right, also where memory is wanting.
     pub(crate) fn note(
         &mut self,
@@ -178,6 +226,7 @@ impl Index {
         let place = rows.len() as u32;
         note_new(&mut self.places, creation.id, place)?;
         note_member(&mut self.members, alloc, creation)?;
+        note_queued(&mut self.queues, alloc, &creation.definition.queue, place)?;
         reserve(&mut self.dues, place)
     }
 
@@ -191,6 +240,7 @@ impl Index {
         keep_noted(&mut self.places, row.id(), place);
         keep_member(&mut self.members, rows, row);
         keep_dues(&mut self.dues, place, row);
+        keep_queued(&mut self.queues, row, place);
     }
 
     /// Brings the index up to date for the task at a place, which changed in its state. It takes no memory.
@@ -201,5 +251,6 @@ impl Index {
     {
         keep_dues(&mut self.dues, place, &rows[place]);
         keep_changed(&mut self.graph, rows, place);
+        keep_waiting(&mut self.queues, rows, place);
     }
 }

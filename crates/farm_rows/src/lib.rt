@@ -18,6 +18,7 @@ mod moves;
 mod picks;
 mod places;
 mod plan;
+mod queues;
 mod room;
 mod rows;
 mod settle;

@@ -1,15 +1,17 @@
 //! The tasks, with what is kept beside them.
-ghost use Rattle.std.specs.Prelude.{◌≡◌, IfSome, find, length, nat_lt, option_copied, take};
+ghost use Rattle.std.specs.Prelude.{◌≡◌, ◌<◌, IfSome, find, length, nat_lt, slice_get, option_copied, take};
 ghost use Rattle.std.specs.List.{position};
 ghost use Rattle.farm_rows.specs.Changes.{has_id};
 ghost use Rattle.farm_rows.specs.Contents.{row_with};
 ghost use Rattle.farm_rows.specs.Members.{in_group};
 ghost use Rattle.farm_rows.specs.Listing.{places_of, starting_at};
+ghost use Rattle.farm_rows.specs.Picks.{are_picks};
 ghost use Rattle.farm_rows.specs.Indexed.{IsIndexOf};
 
 use crate::index::Index;
 use crate::listing::PlacePage;
 use crate::lists::TaskList;
+use farm_record::RunName;
 use farm_text::SlugId;
 use run_states::TaskRow;
 use std::marker::Model;
@@ -65,6 +67,14 @@ impl<'a> Rows<'a> {
         ensures { result ≡ position (has_id id) self.now }
     {
         self.index.place_of(self.list, id)
+    }
+
+    /// Whether the runs of these names are, each in its turn, the pick of the queue of the task at a place.
+    pub(crate) fn are_picks(&self, place: usize, names: &[RunName]) -> bool
+        requires { place < length self.now }
+        ensures { IfSome (slice_get self.now place) (λ row. result ≡ are_picks row.definition.queue names.now self.now) }
+    {
+        self.index.are_picks(self.list, place, names)
     }
 
     /// The first task of a group.

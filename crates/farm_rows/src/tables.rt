@@ -20,7 +20,7 @@ use crate::checks::{
 use crate::counts::RowCounts;
 use crate::index::Index;
 use crate::lists::{Page, TaskList, lists, page_behind};
-use crate::picks::{may_claim, pending, picks};
+use crate::picks::may_claim;
 use crate::plan::{Deed, TaskPlan};
 use crate::room::add;
 use crate::rows::Rows;
@@ -144,7 +144,7 @@ impl TaskTables {
     pub fn pending(&self, queue: &TaskQueue) -> u32
         ensures { result ≡ count_by (waits_in queue.now) self.now.rows }
     {
-        pending(&self.rows, queue) as u32
+        self.index.pending(&self.rows, queue) as u32
     }
 
     /// How the tasks stand, counted.
@@ -164,7 +164,7 @@ impl TaskTables {
         ensures names { IfOk result (λ names. names.items ≡ picks most queue.now self.now.rows) }
         ensures own { HaveOwnIds self.now.rows }
     {
-        picks(alloc, &self.rows, queue, most)
+        self.index.picks(alloc, &self.rows, queue, most)
     }
 
     /// The scheduler that the tasks of a group have, as the first of them has it; none where the group has no task.

@@ -13,4 +13,5 @@ returns c =
       members = c.keep_member.ensures;
       due = c.keep_dues.ensures rows (rows ++ row ∷ []) (put-behind rows row (length rows) refl) c.requires.due;
       waiting = c.keep_added.ensures;
+      queued = c.keep_queued.ensures.all rows refl c.requires.queued;
     }

@@ -1,3 +1,4 @@
+use Rattle.std.proofs.Common.{refl}
 use Rattle.farm_rows.proofs.IdLemmas.{other-ids}
 use Rattle.farm_rows.proofs.PlacedLemmas.{ids_of}
 use Rattle.farm_rows.proofs.index.Index.note.Goals as goal
@@ -8,6 +9,7 @@ returns-in_err-note_new c = record {
   members = c.requires.index.members;
   due = c.requires.index.due;
   waiting = c.note_added.ensures c.args.rows.now c.requires.index.waiting;
+  queued = c.requires.index.queued;
 }
 
 pub returns-in_err-note_member : goal.returns-in_err-note_member
@@ -16,6 +18,7 @@ returns-in_err-note_member c = record {
   members = c.note_member.ensures c.args.rows.now c.requires.index.members;
   due = c.requires.index.due;
   waiting = c.note_added.ensures c.args.rows.now c.requires.index.waiting;
+  queued = c.requires.index.queued;
 }
 
 pub returns : goal.returns
@@ -24,4 +27,14 @@ returns c = record {
   members = c.note_member.ensures c.args.rows.now c.requires.index.members;
   due = c.reserve.ensures c.args.rows.now c.requires.index.due;
   waiting = c.note_added.ensures c.args.rows.now c.requires.index.waiting;
+  queued = c.note_queued.ensures.same c.args.rows.now refl c.requires.index.queued;
+}
+
+pub returns-in_err-note_queued : goal.returns-in_err-note_queued
+returns-in_err-note_queued c = record {
+  placed = c.note_new.ensures (ids_of c.args.rows.now) (other-ids c.args.creation.now.id c.args.rows.now c.requires.unknown) c.requires.index.placed;
+  grouped = c.note_first.ensures;
+  due = c.requires.index.due;
+  waiting = c.note_added.ensures c.args.rows.now c.requires.index.waiting;
+  queued = c.note_queued.ensures.same c.args.rows.now refl c.requires.index.queued;
 }
