@@ -21,10 +21,8 @@ use std::alloc::{AllocError, Global};
 fn has_tree(alloc: Global, readings: &mut Readings, source: &[u8]) -> Result<bool, AllocError>
     ensures { IfOk result (λ is. MatchBool is (HasTree source.now) (¬ HasTree source.now)) }
 {
-    let reading = readings.take(alloc, source)?;
-    let has_tree = reading.has_tree();
-    readings.keep(reading)?;
-    Ok(has_tree)
+    let reading = readings.reading(alloc, source)?;
+    Ok(reading.has_tree())
 }
 
 /// The expression that ends before the first `}` before which one can end, and what stands behind that.
