@@ -1,5 +1,5 @@
 //! Texts that were read as expressions. A long one is kept, so that it is read once however often it is evaluated.
-ghost use Rattle.std.specs.Prelude.{◌≡◌, ◌≤◌, length, IfOk, MatchBool, MatchResult};
+ghost use Rattle.std.specs.Prelude.{◌≡◌, ◌≤◌, ◌++◌, ◌∷◌, ℕ, List, length, IfOk, IfSome, MatchBool, MatchResult};
 ghost use Rattle.farm_text.specs.Doc.{document};
 ghost use Rattle.jsone_eval.specs.Scopes.{scopes_of};
 ghost use Rattle.jsone_render.specs.Answers.{Answers};
@@ -139,6 +139,16 @@ impl Readings {
             }
         }
         Err(low)
+    }
+
+    /// The kept expression with which the bytes begin, if a `}` is next.
+    pub(crate) fn begun(&self, bytes: &[u8]) -> Result<Option<Rc<Reading>>, AllocError>
+        ensures { IfOk result (λ found. IfSome found (λ reading. HasTree reading.value × ((rest : List ℕ) × (bytes.now ≡ reading.value ++ 125 ∷ rest)))) }
+    {
+        match self.search(bytes) {
+            Ok(kept) if kept.len() < bytes.len() && kept.has_tree() => Ok(Some(kept.clone()?)),
+            _ => Ok(None),
+        }
     }
 
     /// The reading of the text. One of a long text is kept.
