@@ -29,5 +29,12 @@ for items in (1_000, 10_000):
     render(f"$map of 2,000 turns, true||[{items} items]", '{"$map":{"$eval":"range(0,2000)"},"each(x)":{"$eval":"true||[' + "0," * items + '0]"}}')
 for items in (10_000, 100_000):
     render(f"$find of 2,000 turns, false&&[{items} items]", '{"$find":{"$eval":"range(0,2000)"},"each(x)":"false&&[' + "0," * items + '0]"}')
+for turns in (5, 20):
+    texts = ",".join('{"$eval":"0<' + " " * 506 + str(1000 + i) + '"}' for i in range(1_900))
+    render(f"$map of {turns} turns, each over 1,900 texts of 512 bytes that differ in their last ones", '{"$map":{"$eval":"range(0,' + str(turns) + ')"},"each(x)":[' + texts + "]}")
+for spaces in (10_000, 100_000):
+    render(f"$map of 2,000 turns, ${{..}} with {spaces} spaces", '{"$map":{"$eval":"range(0,2000)"},"each(x)":"${0<' + " " * spaces + '1}"}')
+for items in (5_000, 50_000):
+    render(f"$map of 2,000 turns, ${{true||[{items} items]}}", '{"$map":{"$eval":"range(0,2000)"},"each(x)":"${true||[' + "0," * items + '0]}"}')
 for turns in (10, 60, 90):
     render(f"$reduce of {turns} turns, 120 lists each", '{"$reduce":{"$eval":"range(0,' + str(turns) + ')"},"initial":0,"each(a,v)":' + "[" * 120 + '{"$eval":"a"}' + "]" * 120 + "}")

@@ -24,3 +24,4 @@ pub mod TurnLemmas
 pub mod ContextLemmas
 pub mod PaidLemmas
 pub mod PriceLemmas
+pub mod OrderLemmas

@@ -2,6 +2,7 @@
 use denote.Ref.{Bor}
 use Rattle.std.specs.Prelude.{◌≡◌, ℕ, ◌<◌, length, take, slice_index, Bool, List, [], ◌∷◌, ◌++◌, Option, Some, None, map, option_map, Result, Ok, Err, String, string_bytes}
 use Rattle.std.specs.declared.alloc.Global.{Global}
+use Rattle.std.specs.declared.rc.Rc.{Rc}
 use Rattle.farm_text.specs.Document.{Document, text, array, object}
 use Rattle.farm_text.specs.Doc.{document}
 use Rattle.farm_text.specs.declared.doc.Doc.{Doc}
@@ -80,9 +81,13 @@ form_in (faulty_map f) = faulty f
 form_in (alone_map o) = alone o
 form_in (binding_map o key names) = binding o key.now (names_in names)
 
+-- the expression stands there, before a `}`
+abbrev pub StandsIn : List ℕ → List ℕ → Type 0
+StandsIn behind source = (rest : List ℕ) × (behind ≡ source ++ 125 ∷ rest) × IsShortest behind source
+
 -- an expression and what stands behind its `}`; or no expression ends before one
-abbrev pub EndsAt : List ℕ → Option (Bor (List ℕ) × Bor (List ℕ)) → Type 0
-EndsAt behind (Some (source, rest)) = (behind ≡ source.now ++ 125 ∷ rest.now) × IsShortest behind source.now
+abbrev pub EndsAt : List ℕ → Option (Rc (List ℕ) Global × Bor (List ℕ)) → Type 0
+EndsAt behind (Some (reading, rest)) = (behind ≡ reading.value ++ 125 ∷ rest.now) × IsShortest behind reading.value
 EndsAt behind None = NoneEnds behind
 
 -- no expression ends before another `}` than this one

@@ -16,6 +16,7 @@ mod maps;
 mod merges;
 mod names;
 pub mod operators;
+mod order;
 mod paths;
 mod readings;
 mod renderer;

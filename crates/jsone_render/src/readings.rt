@@ -1,18 +1,22 @@
 //! Texts that were read as expressions. A long one is kept, so that it is read once however often it is evaluated.
-ghost use Rattle.std.specs.Prelude.{◌≡◌, true, IfOk, MatchBool};
+ghost use Rattle.std.specs.Prelude.{◌≡◌, ◌≤◌, ◌++◌, ◌∷◌, ℕ, List, length, IfOk, IfSome, MatchBool, MatchResult};
 ghost use Rattle.farm_text.specs.Doc.{document};
 ghost use Rattle.jsone_eval.specs.Scopes.{scopes_of};
 ghost use Rattle.jsone_render.specs.Answers.{Answers};
 ghost use Rattle.jsone_render.specs.Expressions.{Evaluated, HasTree};
+ghost use Rattle.jsone_render.specs.Readings.{Begins};
 
 use crate::faults::RenderFault;
 use crate::found::{Found, find};
+use crate::order::order;
 use crate::paths::here;
 use farm_text::Doc;
 use jsone_eval::{Context, Cost, EvalFault, eval_nodes};
 use jsone_values::faults::Fault;
 use std::alloc::{AllocError, Global};
+use std::cmp::Ordering;
 use std::marker::Model;
+use std::rc::Rc;
 
 /// A text of so many bytes is kept, and a shorter one is read anew.
 const LONG: usize = 512;
@@ -45,14 +49,28 @@ impl Reading {
         Ok(Reading { text, found })
     }
 
-    fn is_of(&self, source: &[u8]) -> bool
-        ensures { result ≡ true → self.now ≡ source.now }
+    /// The same, for several users.
+    fn shared(alloc: Global, source: &[u8]) -> Result<Rc<Reading>, AllocError>
+        ensures { IfOk result (λ r. r.value ≡ source.now) }
     {
-        self.text.as_slice() == source
+        let Ok(reading) = Rc::new(alloc, Reading::new(alloc, source)?) else {
+            return Err(AllocError);
+        };
+        Ok(reading)
     }
 
-    fn is_long(&self) -> bool {
-        self.text.len() >= LONG
+    /// The length of the text.
+    pub(crate) fn len(&self) -> usize
+        ensures { result ≡ length self.now }
+    {
+        self.text.len()
+    }
+
+    /// How the text stands to the bytes.
+    fn order(&self, bytes: &[u8]) -> Ordering
+        ensures { result ≡ Ordering.Equal → length self.now ≤ length bytes.now → Begins self.now bytes.now }
+    {
+        order(&self.text, bytes)
     }
 
     /// Whether the text is an expression, however deep.
@@ -89,10 +107,10 @@ impl Reading {
     }
 }
 
-/// The long texts that were read, the last one last.
+/// The long texts that were read, in their order.
 #[derive(Drop)]
 pub(crate) struct Readings {
-    kept: Vec<Reading>,
+    kept: Vec<Rc<Reading>>,
 }
 
 impl Readings {
@@ -103,25 +121,51 @@ impl Readings {
         }
     }
 
-    /// The reading of the text: one that was kept, which is given back behind its use, or else a new one.
-    pub(crate) fn take(&mut self, alloc: Global, source: &[u8]) -> Result<Reading, AllocError>
-        ensures { IfOk result (λ r. r ≡ source.now) }
+    /// The reading that is kept of the text with which the bytes begin; or else where one of theirs would be kept.
+    fn search(&self, bytes: &[u8]) -> Result<&Rc<Reading>, usize>
+        ensures { MatchResult result
+            (λ kept. length kept.now.value ≤ length bytes.now → Begins kept.now.value bytes.now)
+            (λ place. place ≤ length self.now.kept.items) }
     {
-        let mut place = self.kept.len();
-        while place > 0 {
-            place -= 1;
-            if self.kept[place].is_of(source) {
-                return Ok(self.kept.swap_remove(place));
+        let mut low = 0;
+        let mut high = self.kept.len();
+        while low < high {
+            let middle = low + (high - low) / 2;
+            let kept = &self.kept[middle];
+            match kept.order(bytes) {
+                Ordering::Equal => return Ok(kept),
+                Ordering::Less => low = middle + 1,
+                Ordering::Greater => high = middle,
             }
         }
-        Reading::new(alloc, source)
+        Err(low)
     }
 
-    /// Keeps a reading behind its use, if its text is long.
-    pub(crate) fn keep(&mut self, reading: Reading) -> Result<(), AllocError> {
-        if reading.is_long() {
-            self.kept.push(reading)?;
+    /// The kept expression with which the bytes begin, if a `}` is next.
+    pub(crate) fn begun(&self, bytes: &[u8]) -> Result<Option<Rc<Reading>>, AllocError>
+        ensures { IfOk result (λ found. IfSome found (λ reading. HasTree reading.value × ((rest : List ℕ) × (bytes.now ≡ reading.value ++ 125 ∷ rest)))) }
+    {
+        match self.search(bytes) {
+            Ok(kept) if kept.len() < bytes.len() && kept.has_tree() => Ok(Some(kept.clone()?)),
+            _ => Ok(None),
         }
-        Ok(())
+    }
+
+    /// The reading of the text. One of a long text is kept.
+    pub(crate) fn reading(&mut self, alloc: Global, source: &[u8]) -> Result<Rc<Reading>, AllocError>
+        ensures { IfOk result (λ r. r.value ≡ source.now) }
+    {
+        if source.len() < LONG {
+            return Reading::shared(alloc, source);
+        }
+        match self.search(source) {
+            Ok(kept) if kept.len() == source.len() => kept.clone(),
+            Ok(_) => Reading::shared(alloc, source),
+            Err(place) => {
+                let reading = Reading::shared(alloc, source)?;
+                self.kept.insert(place, reading.clone()?)?;
+                Ok(reading)
+            }
+        }
     }
 }

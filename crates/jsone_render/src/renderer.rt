@@ -109,10 +109,8 @@ impl<'a> Renderer<'a> {
         ensures answers { Answers document (Evaluated source.now (scopes_of self.old.context) self.old.cost.spent) result self.new.cost.spent }
         ensures scopes { scopes_of self.new.context ≡ scopes_of self.old.context }
     {
-        let reading = self.readings.take(alloc, source)?;
-        let found = self.evaluate_reading(alloc, &reading);
-        self.readings.keep(reading)?;
-        found
+        let reading = self.readings.reading(alloc, source)?;
+        self.evaluate_reading(alloc, &reading)
     }
 
     /// The value of an expression where the first of the names is bound.

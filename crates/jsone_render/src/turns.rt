@@ -123,10 +123,8 @@ impl<'a> Renderer<'a> {
         match text_at(members, key) {
             Some(source) => {
                 let turns = numbered(alloc, items)?;
-                let reading = self.readings.take(alloc, source)?;
-                let found = self.first_true(alloc, &reading, names, turns);
-                self.readings.keep(reading)?;
-                found
+                let reading = self.readings.reading(alloc, source)?;
+                self.first_true(alloc, &reading, names, turns)
             }
             None => Err(here(alloc, Fault::WrongKind)),
         }
@@ -150,12 +148,11 @@ impl<'a> Renderer<'a> {
         };
         match text_at(members, key) {
             Some(source) => {
-                let reading = self.readings.take(alloc, source)?;
+                let reading = self.readings.reading(alloc, source)?;
                 let pairs = match self.sort_keys(alloc, &reading, names, items) {
                     Ok(pairs) => pairs,
                     Err(fault) => return Err(fault),
                 };
-                self.readings.keep(reading)?;
                 self.finish_made(alloc, sort_of(alloc, pairs))
             }
             None => Err(here(alloc, Fault::WrongKind)),
