@@ -49,7 +49,7 @@ none-is test (x ∷ xs) none =
 abbrev has_id : List ℕ → Group → Bool
 has_id id group = bytes_eq group.id id
 
-length-shown : (groups : List Group) → length (map shown groups) ≡ length groups
+pub length-shown : (groups : List Group) → length (map shown groups) ≡ length groups
 length-shown [] = refl
 length-shown (g ∷ gs) = ap suc (length-shown gs)
 
