@@ -1,5 +1,5 @@
 -- What the places that are kept tell of a look-up, and what a group that comes leaves of them.
-use Rattle.std.proofs.Common.{◌≡◌, ℕ, zero, suc, ◌+◌, ◌<◌, Bool, true, false, cond, ◌⊎◌, inl, inr, List, [], ◌∷◌, ◌++◌, length, map, Option, Some, None, option_map, Result, Ok, Err, OnOk, OnErr, bytes_eq, slice_get, get_or, refl, ap, sym, ◌∙◌, subst, position, vec_capacity}
+use Rattle.std.proofs.Common.{◌≡◌, ℕ, zero, suc, Bool, true, false, cond, ◌⊎◌, inl, inr, List, [], ◌∷◌, ◌++◌, length, map, Option, Some, None, option_map, Result, Ok, Err, OnOk, OnErr, bytes_eq, slice_get, get_or, refl, ap, sym, ◌∙◌, subst, position}
 use Rattle.std.specs.List.{list_any}
 use Rattle.std.specs.Option.{option_map_or}
 use Rattle.std.specs.Cmp.Lexicographic.{nat_list_eq_equiv}

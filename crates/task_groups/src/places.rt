@@ -1,5 +1,5 @@
 //! Where groups stand, by their ids.
-ghost use Rattle.std.specs.Prelude.{◌≡◌, ℕ, List, Some, None, OnOk, false, map, length, position, bytes_eq, slice_get, if◌then◌else◌};
+ghost use Rattle.std.specs.Prelude.{◌≡◌, List, Some, None, OnOk, false, map, position, bytes_eq, slice_get, if◌then◌else◌};
 ghost use Rattle.std.specs.List.{list_any};
 ghost use Rattle.std.specs.Option.{option_map_or};
 ghost use Rattle.task_groups.specs.Members.{TaskGroup, is_group};

@@ -1,4 +1,4 @@
-use Rattle.std.proofs.Common.{◌≡◌, ℕ, ◌<◌, List, Option, Some, None, map, length, position, bytes_eq, sym, ◌∙◌, ap, subst, vec_len, vec_capacity}
+use Rattle.std.proofs.Common.{◌≡◌, ℕ, List, Option, Some, None, map, position, bytes_eq, sym, ◌∙◌, ap, subst, vec_capacity}
 use Rattle.task_groups.specs.declared.group.Group.{Group}
 use Rattle.task_groups.specs.Kept.{shown, HasRoomAt}
 use Rattle.task_groups.specs.Placed.{ArePlaced}

@@ -1,4 +1,4 @@
-use Rattle.std.proofs.Common.{◌≡◌, ℕ, List, Option, Some, None, map, position, bytes_eq, sym, ap, ◌∙◌}
+use Rattle.std.proofs.Common.{◌≡◌, Some, None, map, position, bytes_eq, sym, ap, ◌∙◌}
 use Rattle.task_groups.specs.declared.group.Group.{Group}
 use Rattle.task_groups.specs.Kept.{shown}
 use Rattle.task_groups.proofs.GroupLemmas.{rows-at, rows-none, rising-of}

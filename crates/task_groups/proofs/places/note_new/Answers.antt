@@ -1,4 +1,4 @@
-use Rattle.std.proofs.Common.{◌≡◌, ℕ, Some, OnOk, subst, rules}
+use Rattle.std.proofs.Common.{◌≡◌, ℕ, Some, OnOk, subst}
 use Rattle.task_groups.specs.Placed.{kept_of}
 use Rattle.task_groups.proofs.PlacedLemmas.{noted-keeps, noted-place}
 use Rattle.task_groups.proofs.places.note_new.Goals as goal

@@ -1,7 +1,7 @@
-use Rattle.std.proofs.Common.{◌≡◌, ℕ, ◌<◌, List, map, Option, Some, option_map, refl, sym, ◌∙◌, ap, subst, vec_capacity}
+use Rattle.std.proofs.Common.{◌≡◌, ℕ, ◌<◌, List, map, Some, option_map, sym, ◌∙◌, ap, subst, vec_capacity}
 use Rattle.std.specs.Prelude.{All}
 use Rattle.std.specs.Option.{ForSome}
-use Rattle.task_groups.specs.Members.{TaskGroup, TaskGroups, Joining, rows_of, last_row, joined}
+use Rattle.task_groups.specs.Members.{TaskGroup, TaskGroups, Joining, rows_of, last_row}
 use Rattle.task_groups.specs.Kept.{shown, joining_of, HaveRisingRows}
 use Rattle.task_groups.specs.Placed.{ArePlaced}
 use Rattle.task_groups.proofs.GroupLemmas.{rising-joined, rising-of}
