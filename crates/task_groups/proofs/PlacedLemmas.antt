@@ -89,6 +89,7 @@ other-id : (id : List ℕ) (groups : List TaskGroup) (place : ℕ) (other : List
 other-id id groups place other none here = by (slice_get groups place) refl where
   ids : slice_get (ids_of groups) place ≡ option_map (λ (t : TaskGroup). t.id) (slice_get groups place)
   ids = slice_get-map (λ (t : TaskGroup). t.id) groups place
+
   by : (o : Option TaskGroup) → slice_get groups place ≡ o → bytes_eq id other ≡ false
   by None at =
       let lost : slice_get (ids_of groups) place ≡ None = ids ∙ ap (λ o. option_map (λ (t : TaskGroup). t.id) o) at in cc
@@ -96,9 +97,9 @@ other-id id groups place other none here = by (slice_get groups place) refl wher
       let found : slice_get (ids_of groups) place ≡ Some group.id = ids ∙ ap (λ o. option_map (λ (t : TaskGroup). t.id) o) at in
       let same : group.id ≡ other = cc in
       tested (bytes_eq group.id id) refl same where
-    tested : (b : Bool) → bytes_eq group.id id ≡ b → group.id ≡ other → bytes_eq id other ≡ false
-    tested false is same = ap (bytes_eq id) (sym same) ∙ (nat_list_eq_equiv.symm id group.id ∙ is)
-    tested true is same = let some = any_passes_from_place (is_group id) groups place group at is in cc
+        tested : (b : Bool) → bytes_eq group.id id ≡ b → group.id ≡ other → bytes_eq id other ≡ false
+        tested false is same = ap (bytes_eq id) (sym same) ∙ (nat_list_eq_equiv.symm id group.id ∙ is)
+        tested true is same = let some = any_passes_from_place (is_group id) groups place group at is in cc
 
 -- where the place of an id that no group has is noted, or memory was wanting, the groups' places stay
 pub noted-keeps : {A E : Type 0} (old new : PlaceMap) (id : List ℕ) (place : ℕ) (result : Result A E) → OnOk result ((other : List ℕ) → kept_of new other ≡ cond (bytes_eq id other) (Some place) (kept_of old other))
