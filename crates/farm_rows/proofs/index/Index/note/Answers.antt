@@ -33,7 +33,7 @@ returns c = record {
 pub returns-in_err-note_queued : goal.returns-in_err-note_queued
 returns-in_err-note_queued c = record {
   placed = c.note_new.ensures (ids_of c.args.rows.now) (other-ids c.args.creation.now.id c.args.rows.now c.requires.unknown) c.requires.index.placed;
-  grouped = c.note_first.ensures;
+  members = c.note_member.ensures c.args.rows.now c.requires.index.members;
   due = c.requires.index.due;
   waiting = c.note_added.ensures c.args.rows.now c.requires.index.waiting;
   queued = c.note_queued.ensures.same c.args.rows.now refl c.requires.index.queued;
