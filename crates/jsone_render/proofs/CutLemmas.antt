@@ -39,11 +39,14 @@ stands_there behind source rest has e =
     let curly : slice_index behind n ≡ 125 = ap (λ l. slice_index l n) e ∙ get_or-append_seam source 125 rest 0 in
     let front : take n behind ≡ source = ap (take n) e ∙ take_at source (125 ∷ rest) n refl in
     let here : onward (take n behind) start ≡ start = ap (λ l. onward l start) front ∙ tree_ends source has in
-    let stop : Ends.behind (slice_index behind n) (Outside 0) ≡ None = ap (λ b. Ends.behind b (Outside 0)) curly in
-    (rest, e, record {
-      has_tree = has;
-      first = λ i less other tree. let same = only_here behind n (Outside 0) long here stop i (omega (arith, less, long)) other tree in absurd (omega (arith, less, same));
-    })
+    let stop : Ends.behind (slice_index behind n) (Outside 0) ≡ None = ap (λ b. Ends.behind b (Outside 0)) curly in (
+      rest,
+      e,
+      record {
+        has_tree = has;
+        first = λ i less other tree. let same = only_here behind n (Outside 0) long here stop i (omega (arith, less, long)) other tree in absurd (omega (arith, less, same));
+      },
+    )
 
 -- what is left behind it
 pub left_there : (behind source rest : List ℕ) → StandsIn behind source → rest ≡ drop (length source + 1) behind → (behind ≡ source ++ 125 ∷ rest) × IsShortest behind source

@@ -152,7 +152,11 @@ impl Readings {
     }
 
     /// The reading of the text. One of a long text is kept.
-    pub(crate) fn reading(&mut self, alloc: Global, source: &[u8]) -> Result<Rc<Reading>, AllocError>
+    pub(crate) fn reading(
+        &mut self,
+        alloc: Global,
+        source: &[u8],
+    ) -> Result<Rc<Reading>, AllocError>
         ensures { IfOk result (λ r. r.value ≡ source.now) }
     {
         if source.len() < LONG {

@@ -1,4 +1,4 @@
-use Rattle.std.proofs.Common.{◌≡◌, ◌+◌, ℕ, List, Option, Global, length, drop, subst, ap, ◌∙◌}
+use Rattle.std.proofs.Common.{◌+◌, ℕ, List, Option, Global, length, drop, subst, ap, ◌∙◌}
 use Rattle.std.specs.Option.{MatchOption}
 use Rattle.std.specs.declared.rc.Rc.{Rc}
 use Rattle.jsone_render.specs.Answers.{StandsIn}
