@@ -13,6 +13,7 @@ mod firsts;
 mod heap;
 mod heap_edits;
 mod laws;
+mod names;
 mod pending;
 mod queues;
 mod room;
