@@ -26,7 +26,8 @@ use task_defs::Priority;
 /// Rows that wait for a worker, each in its queue.
 ///
 /// Contracts see the queues, each with the number of rows for which room was made in it, and of each row where it waits, if it is held.
-/// Rows may be held up to the number for which room was made. Each queue has an array heap, whose best row stands at the top.
+/// Rows may be held up to the number for which room was made. Each queue is found by its name in an ordered map, and has an array heap,
+/// whose best row stands at the top.
 #[derive(Debug, Drop)]
 pub struct Pending {
     queues: Vec<Queue>,

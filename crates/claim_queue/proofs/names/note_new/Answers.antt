@@ -11,12 +11,10 @@ returns-clause-places c =
     let name : c.in_ok-name.name ≡ c.args.name.now = search rules in
     let P : List ℕ → Type 0 = λ n. (place : ℕ) → place < length queues → bytes_eq (name_at place queues) n ≡ false in
     let none : P c.in_ok-name.name = subst P (sym name) c.requires.none in
-    noted-keeps c.args.names.now c.note.new.names c.in_ok-name.name c.len.result c.note.result c.note.ensures.kept c.note.ensures.unchanged queues none c.requires.places
+    noted-keeps c.args.names.now c.note.new.names c.in_ok-name.name _ c.note.result c.note.ensures.kept c.note.ensures.unchanged queues none c.requires.places
 
 pub returns-clause-noted : goal.returns-clause-noted
 returns-clause-noted c =
     let name : c.in_ok-name.name ≡ c.args.name.now = search rules in
-    let long : c.len.result ≡ length c.args.queues.now = search rules in
     let P : List ℕ → Type 0 = λ n. OnOk c.note.result (get_by_text c.note.new.names n ≡ Some (length c.args.queues.now)) in
-    let Q : ℕ → Type 0 = λ place. OnOk c.note.result (get_by_text c.note.new.names c.in_ok-name.name ≡ Some place) in
-    subst P name (subst Q long (noted-place c.args.names.now c.note.new.names c.in_ok-name.name c.len.result c.note.result c.note.ensures.kept))
+    subst P name (noted-place c.args.names.now c.note.new.names c.in_ok-name.name _ c.note.result c.note.ensures.kept)

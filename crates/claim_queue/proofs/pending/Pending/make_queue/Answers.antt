@@ -30,8 +30,8 @@ invariant_of-self c =
     (c.self.invariant.0, c.self.invariant.1, c.self.invariant.2, c.self.invariant.3, named)
 
 -- the place is kept, and there was no memory for the queue
-pub invariant_of-self-2 : goal.invariant_of-self-2
-invariant_of-self-2 c =
+pub invariant_of-self-in_err-heap : goal.invariant_of-self-in_err-heap
+invariant_of-self-in_err-heap c =
     let p = c.self.inside in
     let new = c.make_heap.new in
     let told = c.make_heap.ensures in
@@ -49,8 +49,8 @@ returns-in_err-heap c =
     let e = err_from_is_err_and c.from_residual-in_err-heap.result c.from_residual-in_err-heap.ensures.1 in
     rw e.1 (stays-shown p.queues.items new.queues.items p.rows.items new.rows.items c.args.self.now c.make_heap.ensures.same.0 rows c.self.view_is)
 
-pub invariant_of-self-3 : goal.invariant_of-self-3
-invariant_of-self-3 c =
+pub invariant_of-self-2 : goal.invariant_of-self-2
+invariant_of-self-2 c =
     let p = c.self.inside in
     let new = c.make_heap.new in
     let told = c.make_heap.ensures in
