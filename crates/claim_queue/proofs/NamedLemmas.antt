@@ -90,12 +90,12 @@ places-behind names queues later made have noted is =
     let new : HavePlaces (queues ++ made ∷ []) names = record { at = λ place lt. by place lt (same? place (length queues)) } in
     subst (λ (k : List Queue). HavePlaces k names) (sym is) new
   where
-  by : (place : ℕ) → place < length (queues ++ made ∷ []) → (place ≡ length queues) ⊎ (place ≢ length queues) → get_by_text names (name_at place (queues ++ made ∷ [])) ≡ Some place
-  by place lt (inl last) =
-      ap (λ n. get_by_text names (name_at n (queues ++ made ∷ []))) last ∙ (ap (get_by_text names) (last-name queues made) ∙ (noted ∙ ap Some (sym last)))
-  by place lt (inr ne) =
-      let within : place < length queues = omega (arith, length-append queues (made ∷ [])) in
-      ap (get_by_text names) (name-front queues (made ∷ []) place within) ∙ have.at place within
+    by : (place : ℕ) → place < length (queues ++ made ∷ []) → (place ≡ length queues) ⊎ (place ≢ length queues) → get_by_text names (name_at place (queues ++ made ∷ [])) ≡ Some place
+    by place lt (inl last) =
+        ap (λ n. get_by_text names (name_at n (queues ++ made ∷ []))) last ∙ (ap (get_by_text names) (last-name queues made) ∙ (noted ∙ ap Some (sym last)))
+    by place lt (inr ne) =
+        let within : place < length queues = omega (arith, length-append queues (made ∷ [])) in
+        ap (get_by_text names) (name-front queues (made ∷ []) place within) ∙ have.at place within
 
 -- queues with room in one of them
 pub places-raised : (names : PlaceMap) (queues later : List Queue) (name : List ℕ) (room : ℕ) → HavePlaces queues names → later ≡ map (raised name room) queues → HavePlaces later names

@@ -56,11 +56,7 @@ fn stands_at(queues: &[Queue], place: usize, name: &Text) -> bool
 
 /// Keeps the place of a queue that is to come behind the others, of which none has its name. Where memory runs out, the places of all
 /// queues stay as they were.
-pub(crate) fn note_new(
-    queues: &[Queue],
-    names: &mut Names,
-    name: &Text,
-) -> Result<(), AllocError>
+pub(crate) fn note_new(queues: &[Queue], names: &mut Names, name: &Text) -> Result<(), AllocError>
     requires places { HavePlaces queues.now names.old }
     requires none { (place : ℕ) → place < length queues.now → bytes_eq (name_at place queues.now) name.now ≡ false }
     ensures places { HavePlaces queues.now names.new }
