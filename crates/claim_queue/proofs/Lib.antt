@@ -20,3 +20,4 @@ pub mod BehindLemmas
 pub mod GivenLemmas
 pub mod WalkLemmas
 pub mod NextLemmas
+pub mod NamedLemmas

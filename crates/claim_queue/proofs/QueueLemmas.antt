@@ -31,7 +31,7 @@ other-name xs ys ne = by (bytes_eq xs ys) refl where
   by true is = absurd (ne (same-name xs ys is))
   by false is = is
 
-tail-apart : (queue : Queue) (queues : List Queue) → AreNamedApart (queue ∷ queues) → AreNamedApart queues
+pub tail-apart : (queue : Queue) (queues : List Queue) → AreNamedApart (queue ∷ queues) → AreNamedApart queues
 tail-apart queue queues apart = λ one other p q same. let e : suc one ≡ suc other = apart (suc one) (suc other) (omega arith) (omega arith) same in omega arith
 
 -- ---- how many rows wait in a queue

@@ -9,3 +9,4 @@ pub mod DueHeaps
 pub mod WaitHeaps
 pub mod Walks
 pub mod Behind
+pub mod Named

@@ -1,9 +1,10 @@
 //! Which run is claimed next, and what falls due first: rows by their numbers, from 0.
 //!
 //! `Pending` keeps the rows that wait for a worker, `Leases` those that a worker has, and `Deadlines` those with a deadline to come. Each
-//! takes its memory in `reserve` alone. They are array heaps that know the place of each row, `Pending` one for each queue: the best and the
-//! first stand at the top, and to add, move or remove a row takes few steps, which `Steps` counts without cost. `Firsts` gives the rows of a
-//! queue in their order and takes none out: what it costs grows with the rows that it gives, and not with those that wait.
+//! takes its memory in `reserve` alone. They are array heaps that know the place of each row, `Pending` one for each queue, which it finds by
+//! its name in an ordered map: the best and the first stand at the top, and to add, move or remove a row takes few steps, which `Steps`
+//! counts without cost. `Firsts` gives the rows of a queue in their order and takes none out: what it costs grows with the rows that it
+//! gives, and not with those that wait.
 #![tactic(auto)]
 
 mod behind;
@@ -13,6 +14,7 @@ mod firsts;
 mod heap;
 mod heap_edits;
 mod laws;
+mod names;
 mod pending;
 mod queues;
 mod room;

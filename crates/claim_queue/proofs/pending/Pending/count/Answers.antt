@@ -1,8 +1,13 @@
-use Rattle.std.proofs.Common.{◌≡◌, ◌<◌, ap, sym, ◌∙◌, length, rules}
+use Rattle.std.proofs.Common.{◌≡◌, ◌<◌, ap, sym, ◌∙◌, length, rules, List, subst}
+use Rattle.claim_queue.specs.declared.queues.Queue.{Queue}
+use Rattle.claim_queue.specs.Named.{HavePlaces}
 use Rattle.claim_queue.specs.Waits.{Waits}
 use Rattle.claim_queue.specs.Places.{name_at}
 use Rattle.claim_queue.proofs.WaitMoves.{count-some, count-none}
 use Rattle.claim_queue.proofs.pending.Pending.count.Goals as goal
+
+pub place_of-requires : goal.place_of-requires
+place_of-requires c = subst (λ (k : List Queue). HavePlaces k c.self.inside.names) (sym c.deref.ensures.value) c.self.invariant.4
 
 pub returns-in-Some : goal.returns-in-Some
 returns-in-Some c =

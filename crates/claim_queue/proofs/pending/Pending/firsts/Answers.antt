@@ -1,7 +1,12 @@
-use Rattle.std.proofs.Common.{ap}
+use Rattle.std.proofs.Common.{ap, List, sym, subst}
+use Rattle.claim_queue.specs.declared.queues.Queue.{Queue}
+use Rattle.claim_queue.specs.Named.{HavePlaces}
 use Rattle.claim_queue.specs.Waits.{Waits}
 use Rattle.claim_queue.proofs.NextLemmas.{place-is}
 use Rattle.claim_queue.proofs.pending.Pending.firsts.Goals as goal
+
+pub place_of-requires : goal.place_of-requires
+place_of-requires c = subst (λ (k : List Queue). HavePlaces k c.self.inside.names) (sym c.deref.ensures.value) c.self.invariant.4
 
 pub new-requires : goal.new-requires
 new-requires c =
