@@ -1,6 +1,6 @@
 use Rattle.std.proofs.Common.{◌≡◌, vec_capacity}
 use Rattle.dep_graph.proofs.StepLemmas.{CountsSo}
-use Rattle.dep_graph.proofs.waits.Waits.count_each.Given as goal
+use Rattle.dep_graph.proofs.waits.Waits.count_all.Given as goal
 
 abbrev pub invariant-loop-row : goal.invariant-loop-row
 invariant-loop-row l =

@@ -2,8 +2,8 @@ use Rattle.std.proofs.Common.{◌<◌, ◌≤◌, length, refl, ◌∙◌, arith
 use Rattle.std.specs.Prelude.{slice_index}
 use Rattle.dep_graph.proofs.EdgeLemmas.{next-name, place-within-tasks}
 use Rattle.dep_graph.proofs.StepLemmas.{counts-first, counts-whole, counts-nowhere, counts-fit, counts-at}
-use Rattle.dep_graph.proofs.waits.Waits.count_each.Goals as goal
-use Rattle.dep_graph.proofs.waits.Waits.count_each.Goals.{in-Some, in-None}
+use Rattle.dep_graph.proofs.waits.Waits.count_all.Goals as goal
+use Rattle.dep_graph.proofs.waits.Waits.count_all.Goals.{in-Some, in-None}
 
 pub loop-row-init : goal.loop-row-init
 loop-row-init c = (counts-first c.args.tasks.now.tasks c.args.rows.now c.args.step.before c.args.step.now c.args.self.now.lacking.items c.args.self.now.ready c.requires.shown, refl)
