@@ -2,6 +2,7 @@
 use denote.Param.Send.{IsSend, sendable, view_send}
 use denote.Param.SendFields.{declared_send}
 use Rattle.std.proofs.Crossing.{crosses}
+use Rattle.std.proofs.MapsCrossing as maps
 use Rattle.farm_text.specs.contracts.text.Text as texts
 use Rattle.farm_text.specs.contracts.text.Text.TheInside.{the_type as text_type}
 use Rattle.claim_queue.specs.contracts.queues.Queue as rooms
@@ -20,7 +21,10 @@ pending_send = view_send _ _ _ _ _ (declared_send pending_type (
   search (room_send, crosses, sendable) depth 40 fits 50000,
   (
     search (crosses, sendable) depth 40 fits 50000,
-    (search (crosses, sendable) depth 40 fits 50000, (search (crosses, sendable) depth 40 fits 50000, tt)),
+    (
+      search (crosses, sendable) depth 40 fits 50000,
+      (search (crosses, sendable) depth 40 fits 50000, (search (crosses, maps.crosses, sendable) depth 40 fits 50000, tt)),
+    ),
   ),
 ))
 
