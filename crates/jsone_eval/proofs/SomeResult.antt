@@ -1,16 +1,14 @@
 -- Operators and functions have a result for each value.
-use Rattle.std.proofs.Common.{◌≡◌, ◌≢◌, ◌⊎◌, inl, inr, ℕ, zero, suc, ℤ, pos, negsuc, ◌+◌, ◌<◌, ◌≤◌, Bool, true, false, not, ◌&&◌, IsTrue, List, [], ◌∷◌, ◌++◌, length, drop, map, Option, Some, None, if◌then◌else◌, ◌==◌, int_rem, int_div, neg_ℤ, FitsSigned, length-append, Result, Ok, Err, refl, sym, ap, subst, ◌∙◌, arith, rules}
+use Rattle.std.proofs.Common.{◌≡◌, ◌⊎◌, inl, inr, ℕ, zero, suc, ℤ, pos, negsuc, ◌<◌, ◌≤◌, Bool, true, false, not, ◌&&◌, List, [], ◌∷◌, ◌++◌, length, map, Option, Some, None, if◌then◌else◌, ◌==◌, int_rem, int_div, neg_ℤ, FitsSigned, length-append, Result, Ok, Err, refl, sym, ap, subst, ◌∙◌, arith}
 use Rattle.std.proofs.lemmas.Bool.{cases_Bool, false≢true, eqb-true, and_right}
 use Rattle.std.specs.Int.{w64, int_pow}
-use Rattle.std.specs.Str.{chars}
 use Rattle.std.specs.Str.Pattern.{LacksTextAt}
-use Rattle.farm_text.specs.Document.{Document, null, boolean, whole, text, array, object, items_of}
+use Rattle.farm_text.specs.Document.{Document, boolean, whole, text, array, object, items_of}
 use Rattle.farm_text.specs.DateTime.{IsDateTime}
 use Rattle.jsone_values.specs.declared.faults.Fault.{Fault}
 use Rattle.jsone_values.specs.declared.faults.Fault.TheVariants.{WrongKind, OutOfRange, NotExact}
 use Rattle.jsone_values.specs.Builtins.{IsLengthOf}
 use Rattle.jsone_values.specs.Lists.{IsAbsolute, IsRead}
-use Rattle.jsone_values.specs.Members.{listed}
 use Rattle.jsone_values.specs.Splits.{IsFirstCut, IsSplit, IsPieces}
 use Rattle.jsone_values.specs.Numbers.{IsInRange, IsQuotient, IsPower, IsNumberOf, are_digits, behind_minus, digits_from}
 use Rattle.jsone_values.specs.Operators.{IsNumber, IsOfNumbers, IsSum, IsNegated, IsKept, IsTruthOf, IsWithin}

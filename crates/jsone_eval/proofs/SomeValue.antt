@@ -1,5 +1,5 @@
 -- An expression has an outcome.
-use Rattle.std.proofs.Common.{◌≡◌, ℕ, Bool, List, [], ◌∷◌, Option, Some, None, Result, Ok, Err, pos, refl}
+use Rattle.std.proofs.Common.{◌≡◌, ℕ, List, [], ◌∷◌, Option, Some, None, Result, Ok, Err, pos}
 use Rattle.std.specs.Bool.{MatchBool}
 use Rattle.farm_text.specs.Document.{Document, text as text_value, boolean, array, items_of}
 use Rattle.jsone_values.specs.declared.faults.Fault.{Fault}
