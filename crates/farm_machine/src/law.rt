@@ -1,8 +1,9 @@
 //! The law of a farm: the marker that names it, and laws about it.
 
-ghost use Rattle.std.specs.Prelude.{◌≡◌, ℕ};
+ghost use Rattle.std.specs.Prelude.{◌≡◌, ◌≤◌, ℕ};
 ghost use Rattle.hawk_auth.specs.Clients.{IsBook};
 ghost use Rattle.role_expand.specs.Cycles.{IsAccepted};
+ghost use Rattle.farm_machine.specs.Changes.{moment_of};
 ghost use Rattle.farm_machine.specs.Entry.{Asking};
 ghost use Rattle.farm_machine.specs.State.{State};
 ghost use Rattle.farm_machine.specs.Judgement.{Judgement};
@@ -105,10 +106,12 @@ pub fn a_question_and_a_reply_have_one_entry()
     ensures { HasOneEntry farm_rules }
 {}
 
-/// Each call has a verdict, over each accepted set of roles and each book of clients; a triggerHook where the firing of its hook comes to
-/// something.
+/// No call up to the end of the year 9999 is without a verdict, over each accepted set of roles and each book of clients. The verdict is
+/// found where the call is no triggerHook, or is given what the firing of its hook comes to.
 pub fn each_call_has_a_verdict()
-    ensures { (longest : ℕ) (state : State) (asking : Asking) → IsAccepted longest state.config.roles → IsBook state.config.clients
+    ensures exists { (longest : ℕ) (state : State) (asking : Asking) → IsAccepted longest state.config.roles → IsBook state.config.clients
+        → moment_of state.contents asking ≤ 253_402_300_799_999 → ¬ ¬ ((judgement : Judgement) × IsVerdict state asking judgement) }
+    ensures found { (longest : ℕ) (state : State) (asking : Asking) → IsAccepted longest state.config.roles → IsBook state.config.clients
         → FiringEnds (setting_of state asking) asking.call → (judgement : Judgement) × IsVerdict state asking judgement }
 {}
 

@@ -7,3 +7,7 @@ pub mod EvalLemmas
 pub mod EndLemmas
 pub mod ContextLemmas
 pub mod PartLemmas
+pub mod Existence
+pub mod SomeMoment
+pub mod SomeResult
+pub mod SomeValue

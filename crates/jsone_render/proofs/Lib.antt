@@ -25,3 +25,6 @@ pub mod ContextLemmas
 pub mod PaidLemmas
 pub mod PriceLemmas
 pub mod OrderLemmas
+pub mod SomeParts
+pub mod SomeSorting
+pub mod SomeRendering

@@ -14,3 +14,8 @@ pub fn the_rendering_is_one()
 pub fn the_value_is_within_the_limit()
     ensures { (template context d : Document) (spent : ℕ) → IsRendered template context (given d spent) → weight d ≤ 1000000 }
 {}
+
+/// No template is without an outcome: with each context it comes to a value and its cost, a fault, or costs too much.
+pub fn each_template_has_an_outcome()
+    ensures { (template context : Document) → ¬ ¬ ((o : Outcome Document) × IsRendered template context o) }
+{}
