@@ -26,5 +26,6 @@ mod InTimeLemmas
 mod ClaimLawLemmas
 pub mod BehindLemmas
 pub mod ReplayLemmas
+mod SoundLemmas
 pub mod WrittenLemmas
 pub mod CrossingLemmas
