@@ -16,6 +16,7 @@ pub mod VerdictLemmas
 pub mod MakeLemmas
 pub mod MayLemmas
 pub mod JoinLemmas
+mod ListedLemmas
 mod ReadyLawLemmas
 mod ServedLemmas
 pub mod WorkLemmas

@@ -1,6 +1,7 @@
 -- What holds in every history of a farm: who is denied, and that a task is made once.
-use Rattle.std.specs.Prelude.{◌≡◌, ◌≢◌, ℕ, ◌+◌, ◌≤◌, Bool, false, IsTrue, List, ◌∷◌, ◌++◌, filter, length, Option, Some, None, is_some, Result, Err, bytes_eq, if◌then◌else◌}
-use Rattle.scope_sets.specs.Expressions.{Expression, holds, missing, HasNoEmptyAllOf}
+use Rattle.std.specs.Prelude.{◌≡◌, ◌≢◌, ℕ, ◌+◌, ◌≤◌, Bool, false, IsTrue, List, [], ◌∷◌, ◌++◌, filter, length, Option, Some, None, is_some, Result, Err, Contains, bytes_eq, if◌then◌else◌}
+use Rattle.scope_sets.specs.Expressions.{Expression, holds, missing, HasNoEmptyAllOf, scopes_in}
+use Rattle.scope_sets.specs.Scopes.{star}
 use Rattle.history.specs.Histories.{IsLegal, end_state}
 use Rattle.call_rules.specs.Policy.{create_policy}
 use Rattle.farm_record.specs.declared.change.Change.{Change}
@@ -56,10 +57,14 @@ abbrev pub asked_policy : Form → Setting → Option Expression
 asked_policy (asks case) at = where_there (case at).parameter (case at).absent (case at).policy
 asked_policy form at = None
 
+-- what is missing of an expression is something: no `AllOf` in it is empty, and it lists a scope
+abbrev pub IsLack : List (List ℕ) → Expression → Expression → Type 0
+IsLack scopes policy lack = (missing scopes policy ≡ Some lack) × HasNoEmptyAllOf lack × (scopes_in lack ≢ [])
+
 -- The answer is a denial exactly where the scopes do not hold the expression: then it tells what is missing, which is something.
 pub record DeniesExactly (scopes : List (List ℕ)) (policy : Expression) (answer : Answer) : Type 0 where
   pub held : IsTrue (holds scopes policy) → answer.status ≢ 403
-  pub lacked : ¬ IsTrue (holds scopes policy) → (lack : Expression) × (missing scopes policy ≡ Some lack) × HasNoEmptyAllOf lack × (answer ≡ insufficient_scopes lack)
+  pub lacked : ¬ IsTrue (holds scopes policy) → (lack : Expression) × IsLack scopes policy lack × (answer ≡ insufficient_scopes lack)
 
 -- Access: a call that is of its form and names what is there is denied exactly where its caller's scopes do not hold what it asks.
 abbrev pub AccessIsExact : Type 0
@@ -69,6 +74,15 @@ AccessIsExact =
     → asked_policy (form_of asking.call) (setting_behind opening before asking) ≡ Some policy
     → HasAccess opening.config (setting_behind opening before asking).moment asking.caller (Has scopes)
     → DeniesExactly scopes policy judgement.answer
+
+-- Star: whoever has the scope `*` is denied no call.
+abbrev pub StarIsNotDenied : Type 0
+StarIsNotDenied =
+    (opening : State) (before after : List Entry) (asking : Asking) (judgement : Judgement) (scopes : List (List ℕ)) (policy : Expression)
+    → Finished opening before after asking judgement
+    → asked_policy (form_of asking.call) (setting_behind opening before asking) ≡ Some policy
+    → HasAccess opening.config (setting_behind opening before asking).moment asking.caller (Has scopes)
+    → Contains scopes (star ∷ []) → judgement.answer.status ≢ 403
 
 -- the creation that a change is, if it is one
 abbrev pub creation_of_kind : Kind → Option Creation

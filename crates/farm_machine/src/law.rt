@@ -6,8 +6,8 @@ ghost use Rattle.role_expand.specs.Cycles.{IsAccepted};
 ghost use Rattle.farm_machine.specs.Entry.{Asking};
 ghost use Rattle.farm_machine.specs.State.{State};
 ghost use Rattle.farm_machine.specs.Judgement.{Judgement};
-ghost use Rattle.farm_machine.specs.HookLaws.{CallersAreExact, HooksAreExact};
-ghost use Rattle.farm_machine.specs.Laws.{FiringEnds, AccessIsExact, IsCreatedOnce, CreatedStands, RecordedStands, AnswersAgain};
+ghost use Rattle.farm_machine.specs.HookLaws.{CallersAreExact, HooksAreExact, StarMayTrigger, StarMayCreate};
+ghost use Rattle.farm_machine.specs.Laws.{FiringEnds, AccessIsExact, StarIsNotDenied, IsCreatedOnce, CreatedStands, RecordedStands, AnswersAgain};
 ghost use Rattle.farm_machine.specs.ReadyLaws.{LeavesNoneReady, IsScheduledOnce, StartsWhereReady, IsServedForGood};
 ghost use Rattle.farm_machine.specs.Replay.{ReplaysAreSound, RecordsRestore, KeptMayFollow, FrontsReplay};
 ghost use Rattle.farm_machine.specs.RunLaws.{IsClaimedOnce, EndsOnce, ReportsInTime};
@@ -113,17 +113,24 @@ pub fn each_call_has_a_verdict()
 {}
 
 /// A call that is of its form and names what is there is denied exactly where its caller's scopes do not hold what it asks; then its
-/// answer tells what is missing, which is something.
+/// answer tells what is missing, which lists a scope.
 pub fn a_denial_is_of_scopes_that_are_missing()
     ensures { AccessIsExact }
 {}
 
 /// Whoever triggers a hook that is there is denied exactly where its scopes do not hold what that asks; and where they hold it, the hook is
 /// exactly where all that its own scopes give does not hold what a createTask of its definition asks. Then the answer tells what is
-/// missing, which is something.
+/// missing, which lists a scope.
 pub fn a_hook_has_its_own_scopes()
     ensures callers { CallersAreExact }
     ensures hooks { HooksAreExact }
+{}
+
+/// Whoever has the scope `*` is denied nothing, and no hook is that has it.
+pub fn the_scope_star_is_never_denied()
+    ensures calls { StarIsNotDenied }
+    ensures triggers { StarMayTrigger }
+    ensures hooks { StarMayCreate }
 {}
 
 /// At most one task is ever created under an id, counted with the one that stood there when the farm was opened.
