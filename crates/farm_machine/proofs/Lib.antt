@@ -25,6 +25,7 @@ mod LastRunLemmas
 mod DeedLemmas
 mod InTimeLemmas
 mod ClaimLawLemmas
+mod RecordedClaimLemmas
 pub mod BehindLemmas
 pub mod ReplayLemmas
 mod SoundLemmas

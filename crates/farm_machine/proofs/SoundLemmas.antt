@@ -25,11 +25,11 @@ use Rattle.farm_machine.proofs.ReplayLemmas.{replayed-if, replayed-append, repla
 -- ---- what stays
 
 -- each advance keeps it, and each change that may be made
-record Stays (P : Contents → Type 0) : Type 0 where
-  by_tick : (contents : Contents) (moment : ℕ) → P contents → P (advance contents moment)
-  by_change : (contents : Contents) (change : Change) → may_apply contents change ≡ true → P contents → P (applied contents change)
+pub record Stays (P : Contents → Type 0) : Type 0 where
+  pub by_tick : (contents : Contents) (moment : ℕ) → P contents → P (advance contents moment)
+  pub by_change : (contents : Contents) (change : Change) → may_apply contents change ≡ true → P contents → P (applied contents change)
 
-left-holds : (P : Contents → Type 0) → Stays P → (contents : Contents) (at : ℕ) (kind : Kind) → may_come contents at kind ≡ true → P contents → P (left_by contents at kind)
+pub left-holds : (P : Contents → Type 0) → Stays P → (contents : Contents) (at : ℕ) (kind : Kind) → may_come contents at kind ≡ true → P contents → P (left_by contents at kind)
 left-holds P stays contents at Tick may holds = stays.by_tick contents at holds
 left-holds P stays contents at (Create creation) may holds = stays.by_change contents (at_moment at (Create creation)) may holds
 left-holds P stays contents at (Schedule id) may holds = stays.by_change contents (at_moment at (Schedule id)) may holds
@@ -40,7 +40,7 @@ left-holds P stays contents at (Reclaim r) may holds = stays.by_change contents 
 left-holds P stays contents at (Resolve r) may holds = stays.by_change contents (at_moment at (Resolve r)) may holds
 
 -- the first of some changes that were replayed may come, and then the others
-replayed-first : (contents last : Contents) (change : Change) (changes : List Change) → replayed contents (change ∷ changes) ≡ Some last → (may_replay contents change ≡ true) × (replayed (after_replay contents change) changes ≡ Some last)
+pub replayed-first : (contents last : Contents) (change : Change) (changes : List Change) → replayed contents (change ∷ changes) ≡ Some last → (may_replay contents change ≡ true) × (replayed (after_replay contents change) changes ≡ Some last)
 replayed-first contents last change changes is = by (may_replay contents change) refl where
   by : (b : Bool) → may_replay contents change ≡ b → (may_replay contents change ≡ true) × (replayed (after_replay contents change) changes ≡ Some last)
   by true may = (may, sym (replayed-if contents change changes may) ∙ is)
@@ -48,7 +48,7 @@ replayed-first contents last change changes is = by (may_replay contents change)
       let none : replayed contents (change ∷ changes) ≡ None = ap (λ (b : Bool). cond b (replayed (after_replay contents change) changes) None) not_ in
       cc
 
-replay-holds : (P : Contents → Type 0) → Stays P → (contents last : Contents) (changes : List Change) → replayed contents changes ≡ Some last → P contents → P last
+pub replay-holds : (P : Contents → Type 0) → Stays P → (contents last : Contents) (changes : List Change) → replayed contents changes ≡ Some last → P contents → P last
 replay-holds P stays contents last [] is holds = let same : contents ≡ last = cc in subst P same holds
 replay-holds P stays contents last (change ∷ changes) is holds =
     let parts = replayed-first contents last change changes is in
@@ -62,10 +62,10 @@ none-stays = record { by_tick = advance-ready; by_change = λ contents change ma
 once-stays : Stays (λ contents. starts_once contents.rows ≡ true)
 once-stays = record { by_tick = once-advance; by_change = λ contents change may once. once-applied contents change once }
 
-own-stays : Stays (λ contents. HaveOwnIds contents.rows)
+pub own-stays : Stays (λ contents. HaveOwnIds contents.rows)
 own-stays = record { by_tick = advance-ids; by_change = λ contents change may own. applied-ids contents change own may }
 
-no-ids : HaveOwnIds no_contents.rows
+pub no-ids : HaveOwnIds no_contents.rows
 unfolding IsDistinct
 no-ids = tt
 

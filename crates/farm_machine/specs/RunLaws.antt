@@ -52,6 +52,17 @@ IsClaimedOnce =
     (opening : State) (history : List Entry) (name : RunName) → HaveOwnIds opening.contents.rows → IsLegal farm_rules opening history
     → claims_of (run_in name opening) + sum_by (claims_in name) history ≤ 1
 
+-- how often changes claim a run
+abbrev pub claims_among : RunName → List Change → ℕ
+claims_among name changes = sum_by (λ change. claims_by_kind name change.kind) changes
+
+-- One claim since the first record: a run is claimed at most once in the records that restore an opening and in a legal history since.
+abbrev pub IsClaimedOnceWithRecords : Type 0
+IsClaimedOnceWithRecords =
+    (opening : State) (records : List Change) (history : List Entry) (name : RunName)
+    → Restores records opening.contents → IsLegal farm_rules opening history
+    → claims_among name records + sum_by (claims_in name) history ≤ 1
+
 -- One end: a run that ended, and with which outcome, stays so whatever comes.
 abbrev pub EndsOnce : Type 0
 EndsOnce =

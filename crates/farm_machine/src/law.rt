@@ -10,7 +10,7 @@ ghost use Rattle.farm_machine.specs.HookLaws.{CallersAreExact, HooksAreExact, St
 ghost use Rattle.farm_machine.specs.Laws.{FiringEnds, AccessIsExact, StarIsNotDenied, IsCreatedOnce, CreatedStands, RecordedStands, AnswersAgain};
 ghost use Rattle.farm_machine.specs.ReadyLaws.{LeavesNoneReady, IsScheduledOnce, StartsWhereReady, IsServedForGood};
 ghost use Rattle.farm_machine.specs.Replay.{ReplaysAreSound, RecordsRestore, KeptMayFollow, FrontsReplay};
-ghost use Rattle.farm_machine.specs.RunLaws.{IsClaimedOnce, EndsOnce, ReportsInTime};
+ghost use Rattle.farm_machine.specs.RunLaws.{IsClaimedOnce, IsClaimedOnceWithRecords, EndsOnce, ReportsInTime};
 ghost use Rattle.farm_machine.specs.Step.{farm_rules};
 ghost use Rattle.farm_machine.specs.Verdict.{setting_of, IsVerdict};
 ghost use Rattle.history.specs.Asks.{HasOneEntry};
@@ -146,9 +146,11 @@ pub fn an_equal_call_acts_once()
     ensures again { AnswersAgain }
 {}
 
-/// Each run is claimed at most once.
+/// Each run is claimed at most once, counted with the claim that it stood in at the opening; and counted with the records that the farm was
+/// opened from.
 pub fn a_run_is_claimed_once()
-    ensures { IsClaimedOnce }
+    ensures since { IsClaimedOnce }
+    ensures recorded { IsClaimedOnceWithRecords }
 {}
 
 /// A run that ended stays as it ended, with its claim, whatever comes.
