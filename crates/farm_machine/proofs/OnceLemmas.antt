@@ -1,5 +1,5 @@
 -- A task is created once, and a createTask of it that comes again is answered with its status.
-use Rattle.std.proofs.Common.{◌≡◌, ℕ, ◌≤◌, Bool, true, false, IsTrue, List, [], ◌∷◌, ◌++◌, length, Option, Some, None, is_some, bytes_eq, if◌then◌else◌, refl, sym, ap, ◌∙◌, subst, inl, arith}
+use Rattle.std.proofs.Common.{◌≡◌, ℕ, ◌+◌, ◌≤◌, Bool, true, false, IsTrue, List, [], ◌∷◌, ◌++◌, length, Option, Some, None, is_some, bytes_eq, if◌then◌else◌, refl, sym, ap, ◌∙◌, subst, inl, arith}
 use Rattle.std.proofs.lemmas.List.Folds.{find-append}
 use Rattle.std.proofs.lemmas.Slice.Eq.{bytes_eq-Decides}
 use Rattle.history.specs.Histories.{IsLegal, end_state}
@@ -177,7 +177,7 @@ pub created-once : (opening : State) (history : List Entry) (id : List ℕ) → 
 created-once opening history id legal = by (stands id opening) (creations-few id opening history legal) where
   by : (test : Bool) → length (creations id history) ≤ most test → (if test then 1 else 0) + length (creations id history) ≤ 1
   by true few = omega (arith, few)
-  by false few = few
+  by false few = omega (arith, few)
 
 -- ---- a task that was created stands
 

@@ -41,16 +41,13 @@ named-last name row is =
 
 are-the-picks : (queue : TaskQueue) (names : List RunName) (rows : List Row) → are_picks queue names rows ≡ true → picks (length names) queue rows ≡ names
 are-the-picks queue [] rows are = refl
-are-the-picks queue (name ∷ names) rows are = by (pick queue rows) refl where
+are-the-picks queue (name ∷ names) rows are = by (are-the-picks queue names (without name.id rows) parts.1) (pick queue rows) refl where
   parts : (option_map_or (names_last name) (pick queue rows) false ≡ true) × (are_picks queue names (without name.id rows) ≡ true)
   parts = and_parts (option_map_or (names_last name) (pick queue rows) false) (are_picks queue names (without name.id rows)) are
 
-  others : picks (length names) queue (without name.id rows) ≡ names
-  others = are-the-picks queue names (without name.id rows) parts.1
-
-  by : (o : Option Row) → pick queue rows ≡ o → picks (suc (length names)) queue rows ≡ name ∷ names
-  by None is = let none : false ≡ true = rw is at parts.0 in cc
-  by (Some row) is =
+  by : picks (length names) queue (without name.id rows) ≡ names → (o : Option Row) → pick queue rows ≡ o → picks (suc (length names)) queue rows ≡ name ∷ names
+  by others None is = let none : false ≡ true = rw is at parts.0 in cc
+  by others (Some row) is =
       let last : last_name row ≡ name = named-last name row (rw is at parts.0) in
       let ids : row.id ≡ name.id = ap (λ (n : RunName). n.id) last in
       let rest : picks (length names) queue (without row.id rows) ≡ names = ap (λ (i : List ℕ). picks (length names) queue (without i rows)) ids ∙ others in
@@ -85,7 +82,9 @@ may-claim contents at claim may =
 -- what a record claims had no claim, and has one behind it
 left-claims : (name : RunName) (contents : Contents) (at : ℕ) (kind : Kind) → HaveOwnIds contents.rows → may_come contents at kind ≡ true
     → claims_by_kind name kind + one_if (has_claim name contents.rows) ≤ one_if (has_claim name (left_by contents at kind).rows)
-left-claims name contents at Tick own may = claim-stays name contents.rows (advance contents at).rows (advance-stays contents at)
+left-claims name contents at Tick own may =
+    let more : one_if (has_claim name contents.rows) ≤ one_if (has_claim name (advance contents at).rows) = claim-stays name contents.rows (advance contents at).rows (advance-stays contents at) in
+    omega arith
 left-claims name contents at (Create creation) own may = claims-some name contents at (at_moment at (Create creation)) refl
 left-claims name contents at (Schedule id) own may = claims-some name contents at (at_moment at (Schedule id)) refl
 left-claims name contents at (Rerun id) own may = claims-some name contents at (at_moment at (Rerun id)) refl
