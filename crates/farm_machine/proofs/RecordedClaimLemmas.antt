@@ -1,5 +1,5 @@
 -- Each run is claimed at most once, counted with the records that a farm was opened from.
-use Rattle.std.proofs.Common.{◌≡◌, ℕ, zero, suc, ◌+◌, ◌-◌, ◌≤◌, Bool, true, false, not, ◌&&◌, ◌==◌, List, [], ◌∷◌, length, Option, Some, None, bytes_eq, nat_le, sum_by, count_by, refl, sym, ap, ◌∙◌, subst, arith}
+use Rattle.std.proofs.Common.{◌≡◌, ℕ, suc, ◌+◌, ◌≤◌, Bool, true, false, not, ◌&&◌, ◌==◌, List, [], ◌∷◌, length, Option, Some, None, bytes_eq, nat_le, sum_by, count_by, refl, ap, ◌∙◌, subst, arith}
 use Rattle.std.specs.Option.{option_map_or}
 use Rattle.std.proofs.lemmas.Bool.{and_parts, eqb-true}
 use Rattle.std.proofs.lemmas.List.Sums.{sum_by-cons}
@@ -13,7 +13,7 @@ use Rattle.farm_record.specs.declared.change.Kind.TheVariants.{Tick, Create, Sch
 use Rattle.farm_record.specs.declared.change.RunName.{RunName}
 use Rattle.farm_text.specs.declared.moment.TheConstants.{LAST_TOLD_MOMENT}
 use Rattle.run_states.specs.Rows.{Row}
-use Rattle.farm_rows.specs.Changes.{are_first, may_keep, may_be, may_apply, claim_of, all_claimed, applied}
+use Rattle.farm_rows.specs.Changes.{are_first, may_keep, may_be, may_apply, claim_of, all_claimed}
 use Rattle.farm_rows.specs.Contents.{Contents, no_contents, row_with, HaveOwnIds}
 use Rattle.farm_rows.specs.Due.{is_due, advance}
 use Rattle.farm_rows.specs.Picks.{without, last_name, pick, picks, names_last, are_picks}
