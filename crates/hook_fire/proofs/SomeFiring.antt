@@ -1,5 +1,5 @@
 -- A firing comes to something.
-use Rattle.std.proofs.Common.{◌≡◌, ◌≢◌, ◌⊎◌, inl, inr, ℕ, ◌≤◌, List, Bool, true, false, codes, is_some, Result, Ok, Err, refl, arith}
+use Rattle.std.proofs.Common.{◌≡◌, ◌≢◌, inl, inr, ℕ, ◌≤◌, List, Bool, true, false, codes, is_some, Result, Ok, Err, refl, arith}
 use Rattle.std.specs.Bool.{MatchBool}
 use Rattle.farm_text.specs.Moment.{IsMomentText}
 use Rattle.farm_text.specs.Document.{Document, text, object, Members, member_at, put}
