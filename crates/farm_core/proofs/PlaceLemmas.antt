@@ -2,7 +2,6 @@
 use Rattle.std.proofs.Common.{◌≡◌, ◌⊎◌, ℕ, List, [], ◌∷◌, ◌++◌, length, refl, sym, ap, ◌∙◌, subst, inl, inr}
 use Rattle.disk_journal.specs.Records.{records}
 use Rattle.disk_journal.proofs.LawLemmas.{opens_one, opens_whole, damaged_one}
-use Rattle.farm_rows.specs.Contents.{Contents}
 use Rattle.farm_core.specs.Opened.{Replays, IsBroken, IsFarmDamaged}
 use Rattle.farm_core.proofs.OpenLemmas.{OneChange, unbroken}
 

@@ -1,9 +1,9 @@
 -- What a stop leaves at any moment of asks and of openings is sound.
-use Rattle.std.proofs.Common.{◌≡◌, ◌⊎◌, ℕ, ◌≤◌, List, [], ◌∷◌, ◌++◌, Option, Some, None, option_to_list, sym, ap, ◌∙◌, subst, append_assoc, arith, inl, inr}
+use Rattle.std.proofs.Common.{◌≡◌, ◌⊎◌, ℕ, List, [], ◌∷◌, ◌++◌, Option, Some, None, option_to_list, sym, ap, ◌∙◌, subst, append_assoc, arith, inl, inr}
 use Rattle.std.proofs.lemmas.Grind.{flat_map-append}
 use Rattle.history.specs.Histories.{IsLegal, entries}
 use Rattle.history.proofs.HistoriesLemmas.{Leads-append}
-use Rattle.disk_base.specs.Contents.{Contents as Disk, LeftNow, StopsLeave}
+use Rattle.disk_base.specs.Contents.{Contents as Disk, StopsLeave}
 use Rattle.disk_base.proofs.StopsLemmas.{StopsLeave-weaker}
 use Rattle.disk_journal.specs.Images.{IsImage, IsWithin}
 use Rattle.disk_journal.proofs.KeepsLemmas.{within-more}
@@ -15,7 +15,7 @@ use Rattle.farm_machine.specs.Replay.{records_by, records_of}
 use Rattle.farm_machine.specs.Step.{farm_rules}
 use Rattle.farm_core.specs.Farm.{WasAsked}
 use Rattle.farm_core.specs.Opened.{Replays, IsSound}
-use Rattle.farm_core.specs.Records.{HasRecords, IsFailed}
+use Rattle.farm_core.specs.Records.{IsFailed}
 use Rattle.farm_core.proofs.HoldLemmas.{failed-asked, has-more}
 use Rattle.farm_core.proofs.ImageLemmas.{history-replays}
 use Rattle.farm_core.proofs.OpenLemmas.{OneChange, replays-none, within-sound}
