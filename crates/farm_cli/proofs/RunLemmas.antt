@@ -460,6 +460,7 @@ WasUnopened-same views old old' new new' before now name status first last h = r
   fault = h.fault;
   why = h.why;
   stops = h.stops;
+  untouched = h.untouched;
   status_is = h.status_is;
   console = last.console ∙ (h.console ∙ sym first.console);
   clock = last.clock ∙ (h.clock ∙ sym first.clock);
