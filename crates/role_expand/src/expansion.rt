@@ -1,5 +1,5 @@
 //! What is derived from scopes that are held: the steps of an expansion.
-ghost use Rattle.std.specs.Prelude.{◌≡◌, ◌↔◌, IsTrue, true, false, get_or, set, ℕ, ◌≤◌, ◌<◌, ◌^◌, ◌++◌, ◌∷◌, [], List, All, Contains, IfOk, MatchResult, MatchOption, ◌≢◌, string_bytes};
+ghost use Rattle.std.specs.Prelude.{◌≡◌, ◌↔◌, IsTrue, true, false, ℕ, ◌≤◌, ◌<◌, ◌^◌, ◌++◌, ◌∷◌, [], List, All, Contains, IfOk, MatchResult, MatchOption, ◌≢◌, string_bytes};
 ghost use Rattle.scope_sets.specs.Scopes.{IsPrintable};
 ghost use Rattle.role_expand.specs.Roles.{role_data, assume, EndsWithStar, HasHoleForm, HasRoleForm, FillsHole, Gives};
 ghost use Rattle.role_expand.specs.Closures.{GivenBy, IsAllDerivable, FailsToExpand};
@@ -8,6 +8,7 @@ ghost use Rattle.role_expand.specs.Growth.{Gains, FailsToGain, IsFilledFrom, Kee
 ghost use Rattle.role_expand.specs.Known.{known_data, filled_data, IsGranted, IsGivenPlain, AllFound, AreGiven};
 
 use crate::found::Found;
+use crate::given::Given;
 use crate::granting::granting;
 use crate::index::RoleIndex;
 use crate::roles::KnownRole;
@@ -215,7 +216,7 @@ fn add_plain(
     requires { given ≡ true → AllFound known.now.plain found.now }
     ensures { MatchResult result
         (λ done. Gains MOST_SCOPES (IsGivenPlain (string_bytes known.now.role.id) known.now.plain held.now) found.old found.new
-            × (done ≡ true → AllFound known.now.plain found.new))
+        × (done ≡ true → AllFound known.now.plain found.new))
         (FailsToGain MOST_SCOPES (IsGivenPlain (string_bytes known.now.role.id) known.now.plain held.now) found.old) }
 {
     if given {
@@ -241,7 +242,7 @@ pub(crate) fn add_given(
     requires marked { given ≡ true → AllFound known.now.plain found.now }
     ensures { MatchResult result
         (λ done. Gains MOST_SCOPES (Gives (role_data known.now.role) held.now) found.old found.new
-            × (done ≡ true → AllFound known.now.plain found.new))
+        × (done ≡ true → AllFound known.now.plain found.new))
         (FailsToGain MOST_SCOPES (Gives (role_data known.now.role) held.now) found.old) }
 {
     let done = add_plain(found, known, held, given)?;
@@ -249,30 +250,11 @@ pub(crate) fn add_given(
     Ok(done)
 }
 
-/// The mark at a place; there is none behind the end.
-fn mark_at(given: &[bool], place: usize) -> bool
-    ensures { result ≡ get_or given.now place false }
-{
-    if place < given.len() {
-        return given[place];
-    }
-    false
-}
-
-/// Sets the mark at a place, if there is one.
-fn set_mark(given: &mut [bool], place: usize, mark: bool)
-    ensures { given.new ≡ set given.old place mark }
-{
-    if place < given.len() {
-        given[place] = mark;
-    }
-}
-
 /// Adds all that the role at a place gives to whoever has the held scope, its plain scopes unless they are marked as given.
 fn add_given_at(
     alloc: Global,
     found: &mut Found,
-    given: &mut [bool],
+    given: &mut Given,
     roles: &[KnownRole],
     place: usize,
     held: &Scope,
@@ -281,13 +263,13 @@ fn add_given_at(
     requires marked { AreGiven roles.now given.now found.now }
     ensures { MatchResult result
         (λ _. Gains MOST_SCOPES (GivenAt (known_data roles.now) held.now place) found.old found.new
-            × AreGiven roles.now given.new found.new)
+        × AreGiven roles.now given.new found.new)
         (FailsToGain MOST_SCOPES (GivenAt (known_data roles.now) held.now place) found.old) }
 {
     if place < roles.len() {
-        let mark = mark_at(given, place);
+        let mark = given.has(place);
         let done = add_given(alloc, found, &roles[place], held, mark)?;
-        set_mark(given, place, done);
+        given.set(place, done);
     }
     Ok(())
 }
@@ -296,7 +278,7 @@ fn add_given_at(
 fn add_given_at_all(
     alloc: Global,
     found: &mut Found,
-    given: &mut [bool],
+    given: &mut Given,
     roles: &[KnownRole],
     places: &[usize],
     held: &Scope,
@@ -305,7 +287,7 @@ fn add_given_at_all(
     requires marked { AreGiven roles.now given.now found.now }
     ensures { MatchResult result
         (λ _. Gains MOST_SCOPES (GivenAtSome (known_data roles.now) held.now places.now) found.old found.new
-            × AreGiven roles.now given.new found.new)
+        × AreGiven roles.now given.new found.new)
         (FailsToGain MOST_SCOPES (GivenAtSome (known_data roles.now) held.now places.now) found.old) }
 {
     for place in places {
@@ -318,7 +300,7 @@ fn add_given_at_all(
 fn add_given_by_all(
     alloc: Global,
     found: &mut Found,
-    given: &mut [bool],
+    given: &mut Given,
     roles: &[KnownRole],
     index: &RoleIndex,
     held: &Scope,
@@ -350,7 +332,7 @@ pub(crate) fn derive_all(
 {
     let mut found = Found::new(alloc);
     add_all(&mut found, start)?;
-    let mut given = vec![in alloc; false; roles.len()]?;
+    let mut given = Given::new(alloc, roles.len())?;
     let mut next = 0;
     while next < found.len() {
         let held = found.at(next).clone()?;

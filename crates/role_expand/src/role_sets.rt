@@ -86,7 +86,11 @@ impl RoleSet {
 }
 
 /// The scopes in two parts: `plain` ones, which have no `<..>` where `starred` says that the id ends with `*`, and the others.
-fn part(alloc: Global, scopes: &[Scope], starred: bool) -> Result<(Vec<Scope>, Vec<Scope>), AllocError>
+fn part(
+    alloc: Global,
+    scopes: &[Scope],
+    starred: bool,
+) -> Result<(Vec<Scope>, Vec<Scope>), AllocError>
     ensures listed { IfOk result (λ parts. (s : List ℕ) → Contains (parts.0.items ++ parts.1.items) s ↔ Contains scopes.now s) }
     ensures free { IfOk result (λ parts. starred ≡ true → All (λ s. ¬ HasSubslice s hole) parts.0.items) }
 {

@@ -7,7 +7,7 @@ use Rattle.role_expand.proofs.expansion.derive_all.Given as goal
 abbrev pub invariant-loop-next : goal.invariant-loop-next
 invariant-loop-next l = record {
   partly : IsPartly (known_data l.roles) l.start MOST_SCOPES l.found l.next;
-  marked : AreGiven l.roles l.given.items l.found
+  marked : AreGiven l.roles l.given l.found;
 }
 
 abbrev pub decreases-loop-next : goal.decreases-loop-next
