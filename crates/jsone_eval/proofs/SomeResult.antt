@@ -56,21 +56,21 @@ not_both (b ∷ bs) digits more = behind_no_digit b bs (b == 45) refl digits mor
 pub some_number_of : (bs : List ℕ) → Exists (IsNumberOf bs)
 some_number_of bs = elim (cases_Bool (are_digits bs)) [
   | inl digits ↦ follow (some_in_range (pos (digits_from 0 bs))) (λ h. here (IsNumberOf bs) h.0 record {
-      from_zero = λ e. h.1;
-      below_zero = λ e. absurd (not_both bs digits e);
-      no_number = λ e f. absurd (false≢true (sym e ∙ digits));
-    })
+    from_zero = λ e. h.1;
+    below_zero = λ e. absurd (not_both bs digits e);
+    no_number = λ e f. absurd (false≢true (sym e ∙ digits));
+  })
   | inr other ↦ elim (cases_Bool (are_digits (behind_minus bs))) [
     | inl digits ↦ follow (some_in_range (neg_ℤ (pos (digits_from 0 (behind_minus bs))))) (λ h. here (IsNumberOf bs) h.0 record {
-        from_zero = λ e. absurd (false≢true (sym other ∙ e));
-        below_zero = λ e. h.1;
-        no_number = λ e f. absurd (false≢true (sym f ∙ digits));
-      })
+      from_zero = λ e. absurd (false≢true (sym other ∙ e));
+      below_zero = λ e. h.1;
+      no_number = λ e f. absurd (false≢true (sym f ∙ digits));
+    })
     | inr none ↦ here (IsNumberOf bs) (Err WrongKind) record {
-        from_zero = λ e. absurd (false≢true (sym other ∙ e));
-        below_zero = λ e. absurd (false≢true (sym none ∙ e));
-        no_number = λ e f. refl;
-      }
+      from_zero = λ e. absurd (false≢true (sym other ∙ e));
+      below_zero = λ e. absurd (false≢true (sym none ∙ e));
+      no_number = λ e f. refl;
+    }
   ]
 ]
 
