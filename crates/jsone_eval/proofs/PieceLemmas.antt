@@ -1,10 +1,12 @@
 -- What stands in the text of an expression.
-use Rattle.std.proofs.Common.{◌≡◌, ◌==◌, ℕ, suc, ◌+◌, ◌-◌, ◌*◌, ◌≤◌, min, Bool, true, false, if◌then◌else◌, List, [], ◌∷◌, length, take, drop, inl, inr, Ok, Err, refl, sym, ap, subst, ◌∙◌, arith, length-drop}
-use Rattle.std.specs.List.{prefix_len}
+use Rattle.std.proofs.Common.{◌≡◌, ◌==◌, ℕ, suc, ◌+◌, ◌-◌, ◌*◌, ◌≤◌, min, Bool, true, false, if◌then◌else◌, List, [], ◌∷◌, ◌++◌, ◌&&◌, nat_eq, length, take, drop, inl, inr, Ok, Err, refl, sym, ap, subst, ◌∙◌, arith, length-drop, take-append-drop}
+use Rattle.std.specs.Cmp.Lexicographic.{pointwise}
+use Rattle.std.specs.List.{list_all, prefix_len}
 use Rattle.std.specs.Str.{IsUtf8, is_utf8}
-use Rattle.std.proofs.lemmas.Bool.{cases_Bool, cases_lt}
+use Rattle.std.proofs.lemmas.Bool.{cases_Bool, cases_lt, false≢true}
 use Rattle.std.proofs.lemmas.Bool.Decides.{eqb_tells}
 use Rattle.std.proofs.lemmas.List.{drop_all, take_all}
+use Rattle.std.proofs.lemmas.Slice.Eq.{bytes_eq-Decides}
 use Rattle.std.proofs.lemmas.Str.{IsUtf8-from_is_utf8, is_utf8-from_IsUtf8}
 use Rattle.jsone_values.specs.declared.faults.Fault.TheVariants.{Syntax}
 use Rattle.jsone_values.specs.Numbers.{digits_from}
@@ -80,3 +82,17 @@ zeros_by false k n upto = omega arith
 pub zeros_within : (ds : List ℕ) → prefix_len (λ d. d == 48) ds ≤ length ds
 zeros_within [] = omega arith
 zeros_within (d ∷ ds) = let all = zeros_by (d == 48) (prefix_len (λ x. x == 48) ds) (length ds) (zeros_within ds) in omega (arith, all)
+
+-- a run of zeros that leads a number's digits
+zeros_run : (zs ds : List ℕ) → list_all (λ d. d == 48) zs ≡ true → digits_from 0 (zs ++ ds) ≡ digits_from 0 ds
+zeros_run [] ds all = refl
+zeros_run (z ∷ zs) ds all = elim (eqb_tells z 48) [
+  | inl (passes, is) ↦ zero_first z (zs ++ ds) is ∙ zeros_run zs ds (sym (ap (λ (b : Bool). b && list_all (λ d. d == 48) zs) passes) ∙ all)
+  | inr (fails, isnt) ↦ absurd (false≢true (sym (ap (λ (b : Bool). b && list_all (λ d. d == 48) zs) fails) ∙ all))
+]
+
+pub runs_off : (zs rest behind : List ℕ) → list_all (λ d. d == 48) zs ≡ true → pointwise nat_eq (take (length zs) rest) zs ≡ true → behind ≡ drop (length zs) rest → digits_from 0 behind ≡ digits_from 0 rest
+runs_off zs rest behind all same is =
+    let front : take (length zs) rest ≡ zs = (bytes_eq-Decides (take (length zs) rest) zs).0 same in
+    let whole : zs ++ drop (length zs) rest ≡ rest = ap (λ (l : List ℕ). l ++ drop (length zs) rest) (sym front) ∙ take-append-drop (length zs) rest in
+    ap (digits_from 0) is ∙ sym (zeros_run zs (drop (length zs) rest) all) ∙ ap (digits_from 0) whole

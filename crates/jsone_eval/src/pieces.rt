@@ -39,17 +39,32 @@ pub(crate) fn text_at(text: &[u8], place: Span) -> Result<&str, Fault>
     }
 }
 
+/// A run of 64 zeros.
+const ZEROS: &[u8] = b"0000000000000000000000000000000000000000000000000000000000000000";
+
 fn zeros_len(digits: &[u8]) -> usize
     ensures { result ≡ prefix_len (λ d. d == 48) digits.now }
 {
     digits.iter().take_while(|digit| **digit == b'0').count()
 }
 
+/// The digits behind the runs of 64 zeros that lead them, each of which is asked for at once.
+fn without_runs(digits: &[u8]) -> &[u8]
+    ensures { digits_from 0 result.now ≡ digits_from 0 digits.now }
+{
+    let mut rest = digits;
+    while let Some(behind) = rest.strip_prefix(ZEROS) {
+        rest = behind;
+    }
+    rest
+}
+
 /// The digits without the zeros that lead them.
 fn without_zeros(digits: &[u8]) -> &[u8]
     ensures { digits_from 0 result.now ≡ digits_from 0 digits.now }
 {
-    &digits[zeros_len(digits)..]
+    let rest = without_runs(digits);
+    &rest[zeros_len(rest)..]
 }
 
 /// The number whose digits stand there.

@@ -1,6 +1,6 @@
 -- What functions of this crate answer; for private clauses.
 use denote.Ref.{Bor}
-use Rattle.std.specs.Prelude.{◌≡◌, ℕ, ◌<◌, length, take, slice_index, Bool, List, [], ◌∷◌, ◌++◌, Option, Some, None, map, option_map, Result, Ok, Err, String, string_bytes}
+use Rattle.std.specs.Prelude.{◌≡◌, ℕ, ◌<◌, length, take, slice_index, Bool, List, [], ◌∷◌, ◌++◌, Option, Some, None, map, option_map, Result, Ok, Err}
 use Rattle.std.specs.declared.alloc.Global.{Global}
 use Rattle.std.specs.declared.rc.Rc.{Rc}
 use Rattle.farm_text.specs.Document.{Document, text, array, object}
@@ -104,9 +104,9 @@ IsStop r no_memory = Unit {0}
 abbrev pub pairs_of : List (Doc × Doc) → List (Document × Document)
 pairs_of ps = map (λ p. (document p.0, document p.1)) ps
 
--- strings as lists of bytes
-abbrev pub strings_in : List (String Global) → List (List ℕ)
-strings_in ss = map (λ s. string_bytes s) ss
+-- texts that are lent, as lists of bytes
+abbrev pub texts_in : List (Bor (List ℕ)) → List (List ℕ)
+texts_in ts = map (λ t. t.now) ts
 
 -- the branch of the first of the conditions that are true
 abbrev pub branch_taken : List (List ℕ) → List ℕ
