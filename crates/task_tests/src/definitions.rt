@@ -119,11 +119,6 @@ const DOCUMENTS: &str = r#"1 |[]
 1 payload|{"created":"","deadline":"","metadata":{}}
 1 taskQueueId|{"created":"","deadline":"","metadata":{},"payload":{}}"#;
 
-#[test]
-fn documents_that_are_refused(rt: HostRuntime) {
-    assert_eq!(rt; first_other(rt.alloc(), DOCUMENTS), "none");
-}
-
 /// The rule and key, and the members that the smallest definition gains for them: the first four rules.
 const NAMES: &str = r#"1 aaa|,"aaa":1,"zzz":1
 1 Extra|,"Extra":{}
@@ -151,11 +146,6 @@ const NAMES: &str = r#"1 aaa|,"aaa":1,"zzz":1
 1 extra|,"extra":null
 1 taskGroupId|,"taskGroupId":1,"taskQueueId":"x""#;
 
-#[test]
-fn names_that_are_refused(rt: HostRuntime) {
-    assert_eq!(rt; first_other(rt.alloc(), NAMES), "none");
-}
-
 /// The same for rules 5 to 9.
 const TERMS: &str = r#"5 dependencies|,"dependencies":["x"]
 5 dependencies|,"dependencies":["AAAAAAAAQACAAAAAAAAAAw","AAAAAAAAQACAAAAAAAAAAw"]
@@ -171,11 +161,6 @@ const TERMS: &str = r#"5 dependencies|,"dependencies":["x"]
 9 retries|,"retries":50
 9 retries|,"retries":-1
 9 retries|,"retries":50,"created":"""#;
-
-#[test]
-fn terms_that_are_refused(rt: HostRuntime) {
-    assert_eq!(rt; first_other(rt.alloc(), TERMS), "none");
-}
 
 /// The same for rules 10 to 14.
 const MOMENTS_AND_LABELS: &str = r#"10 created|,"created":"","deadline":""
@@ -200,8 +185,10 @@ const MOMENTS_AND_LABELS: &str = r#"10 created|,"created":"","deadline":""
 14 tags|,"tags":{"a":null}"#;
 
 #[test]
-fn moments_and_labels_that_are_refused(rt: HostRuntime) {
-    assert_eq!(rt; first_other(rt.alloc(), MOMENTS_AND_LABELS), "none");
+fn what_is_refused(rt: HostRuntime) {
+    for rows in [DOCUMENTS, NAMES, TERMS, MOMENTS_AND_LABELS] {
+        assert_eq!(rt; first_other(rt.alloc(), rows), "none");
+    }
 }
 
 /// What is said of a definition that is refused.

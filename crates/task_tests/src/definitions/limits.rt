@@ -22,29 +22,6 @@ fn texts(alloc: Global, key: &str, count: u16, len: usize) -> Result<String, All
     Ok(member)
 }
 
-/// Whether the smallest definition with these texts has this outcome.
-fn are(alloc: Global, key: &str, count: u16, len: usize, wanted: &str) -> bool {
-    match texts(alloc, key, count, len) {
-        Ok(member) => super::has_outcome(alloc, wanted, member.as_str()),
-        Err(_) => false,
-    }
-}
-
-#[test]
-fn so_many_routes(rt: HostRuntime) {
-    assert!(rt; are(rt.alloc(), "routes", 64, 249, "ok"));
-    assert!(rt; are(rt.alloc(), "routes", 65, 4, "7 routes"));
-    assert!(rt; are(rt.alloc(), "routes", 1, 250, "7 routes"));
-}
-
-#[test]
-fn so_many_scopes(rt: HostRuntime) {
-    assert!(rt; are(rt.alloc(), "scopes", 1000, 30, "ok"));
-    assert!(rt; are(rt.alloc(), "scopes", 1001, 4, "13 scopes"));
-    assert!(rt; are(rt.alloc(), "scopes", 1, 4096, "ok"));
-    assert!(rt; are(rt.alloc(), "scopes", 1, 4097, "13 scopes"));
-}
-
 /// So many slugids, as the dependencies.
 fn ids(alloc: Global, count: u16) -> Result<String, AllocError> {
     let mut member = String::from_str(alloc, ",\"dependencies\":[")?;
@@ -54,20 +31,6 @@ fn ids(alloc: Global, count: u16) -> Result<String, AllocError> {
     }
     member.push_str("]")?;
     Ok(member)
-}
-
-/// Whether the smallest definition with so many dependencies has this outcome.
-fn wait_for(alloc: Global, count: u16, wanted: &str) -> bool {
-    match ids(alloc, count) {
-        Ok(member) => super::has_outcome(alloc, wanted, member.as_str()),
-        Err(_) => false,
-    }
-}
-
-#[test]
-fn so_many_dependencies(rt: HostRuntime) {
-    assert!(rt; wait_for(rt.alloc(), 100, "ok"));
-    assert!(rt; wait_for(rt.alloc(), 101, "5 dependencies"));
 }
 
 /// A map with so many lists inside each other.
@@ -127,17 +90,9 @@ fn is_deep(alloc: Global, depth: usize, wanted: &str) -> bool {
     }
 }
 
-#[test]
-fn so_deep(rt: HostRuntime) {
-    assert!(rt; is_deep(rt.alloc(), 125, "ok"));
-    assert!(rt; is_deep(rt.alloc(), 126, "1 payload"));
-}
-
-/// No document that is read nests deeper than 127.
-#[test]
-fn as_deep_as_a_document(rt: HostRuntime) {
-    assert!(rt; deep(rt.alloc(), 126).is_some());
-    assert!(rt; deep(rt.alloc(), 127).is_none());
+/// Whether the map with so many lists inside each other is no document.
+fn is_none(alloc: Global, depth: usize) -> bool {
+    deep(alloc, depth).is_none()
 }
 
 /// A payload with one text of so many bytes, as a member.
@@ -146,18 +101,55 @@ fn long(alloc: Global, len: usize) -> Result<String, AllocError> {
     format!(in alloc; ",\"payload\":{{\"a\":\"{}\"}}", text.as_str())
 }
 
-/// Whether the smallest definition with such a payload has this outcome.
-fn is_long(alloc: Global, len: usize, wanted: &str) -> bool {
-    match long(alloc, len) {
+/// A key, a number of its values and the bytes of each, as a member: dependencies, a payload of one text, or texts.
+fn member(alloc: Global, key: &str, count: u16, len: usize) -> Result<String, AllocError> {
+    match key {
+        "dependencies" => ids(alloc, count),
+        "payload" => long(alloc, len),
+        _ => texts(alloc, key, count, len),
+    }
+}
+
+/// Whether the smallest definition with such a member has this outcome.
+fn is_so(alloc: Global, wanted: &str, key: &str, count: u16, len: usize) -> bool {
+    match member(alloc, key, count, len) {
         Ok(member) => super::has_outcome(alloc, wanted, member.as_str()),
         Err(_) => false,
     }
 }
 
-/// The smallest definition has 487 bytes in full form, and 493 with the member `"a":""` in its payload, so 8,388,115 bytes are left.
+/// An outcome, and the member for it. The smallest definition has 487 bytes in full form, and 493 with the member `"a":""` in its payload, so
+/// 8,388,115 bytes are left.
+const LIMITS: [(&str, &str, u16, usize); 11] = [
+    ("ok", "routes", 64, 249),
+    ("7 routes", "routes", 65, 4),
+    ("7 routes", "routes", 1, 250),
+    ("ok", "scopes", 1000, 30),
+    ("13 scopes", "scopes", 1001, 4),
+    ("ok", "scopes", 1, 4096),
+    ("13 scopes", "scopes", 1, 4097),
+    ("ok", "dependencies", 100, 22),
+    ("5 dependencies", "dependencies", 101, 22),
+    ("ok", "payload", 1, 8_388_115),
+    ("14 ", "payload", 1, 8_388_116),
+];
+
 #[test]
-fn so_long(rt: HostRuntime) {
+fn so_many_and_so_long(rt: HostRuntime) {
     assert_eq!(rt; super::PLAIN_IN_FULL.len(), 487);
-    assert!(rt; is_long(rt.alloc(), 8_388_115, "ok"));
-    assert!(rt; is_long(rt.alloc(), 8_388_116, "14 "));
+    for (wanted, key, count, len) in LIMITS {
+        assert!(rt;
+            is_so(rt.alloc(), wanted, key, count, len),
+            "{key} {count} {len}"
+        );
+    }
+}
+
+/// No document that is read nests deeper than 127.
+#[test]
+fn so_deep(rt: HostRuntime) {
+    assert!(rt; is_deep(rt.alloc(), 125, "ok"));
+    assert!(rt; is_deep(rt.alloc(), 126, "1 payload"));
+    assert!(rt; !is_none(rt.alloc(), 126));
+    assert!(rt; is_none(rt.alloc(), 127));
 }
