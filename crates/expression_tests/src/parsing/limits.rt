@@ -2,7 +2,6 @@
 use super::fault;
 use jsone_expr::ParseFault;
 use std::alloc::{AllocError, Global};
-use std::test::Fail;
 
 /// The middle between as many of the one as of the other.
 fn nested(
@@ -23,21 +22,27 @@ fn nested(
     Ok(text)
 }
 
-/// The fault of such a text.
-fn nested_fault(
+/// Whether such a text has this fault, or none.
+fn is_nested(
     alloc: Global,
     count: usize,
-    open: &str,
-    middle: &str,
-    close: &str,
-) -> Result<Option<ParseFault>, AllocError> {
-    let text = nested(alloc, count, open, middle, close)?;
-    Ok(fault(alloc, &text))
+    (open, middle, close): (&str, &str, &str),
+    wanted: Option<ParseFault>,
+) -> bool {
+    match nested(alloc, count, open, middle, close) {
+        Ok(text) => fault(alloc, &text) == wanted,
+        Err(_) => false,
+    }
+}
+
+/// Whether a text of 63 is a tree, and of 64 is too deep.
+fn is_limit(alloc: Global, parts: (&str, &str, &str)) -> bool {
+    is_nested(alloc, 63, parts, None) && is_nested(alloc, 64, parts, Some(ParseFault::TooDeep))
 }
 
 #[test]
-fn a_tree_is_at_most_64_deep(rt: HostRuntime) -> Result<(), Fail> {
-    for (open, middle, close) in [
+fn a_tree_is_at_most_64_deep(rt: HostRuntime) {
+    for parts in [
         ("(", "1", ")"),
         ("-", "1", ""),
         ("[", "1", "]"),
@@ -51,35 +56,44 @@ fn a_tree_is_at_most_64_deep(rt: HostRuntime) -> Result<(), Fail> {
         ("1**", "1", ""),
         ("", "1", "+1"),
     ] {
-        assert!(rt;
-            nested_fault(rt.alloc(), 63, open, middle, close)? == None,
-            "{open}{close}"
-        );
-        assert!(rt;
-            nested_fault(rt.alloc(), 64, open, middle, close)? == Some(ParseFault::TooDeep),
-            "{open}{close}"
-        );
+        assert!(rt; is_limit(rt.alloc(), parts), "{}{}", parts.0, parts.2);
     }
-    Ok(())
 }
 
 /// A million bytes of one kind end in time and without a deep stack.
 #[test]
-fn long_texts_end(rt: HostRuntime) -> Result<(), Fail> {
-    let million = 1_000_000;
-    assert!(rt;
-        nested_fault(rt.alloc(), million, "(", "", "")? == Some(ParseFault::Syntax(million))
-    );
-    assert!(rt;
-        nested_fault(rt.alloc(), million, "[", "", "")? == Some(ParseFault::Syntax(million))
-    );
-    assert!(rt; nested_fault(rt.alloc(), million, "-", "1", "")? == Some(ParseFault::TooDeep));
-    assert!(rt; nested_fault(rt.alloc(), million, "(", "1", ")")? == Some(ParseFault::TooDeep));
-    assert!(rt;
-        nested_fault(rt.alloc(), million, "", "[1", ",1")? == Some(ParseFault::Syntax(2_000_002))
-    );
-    assert!(rt; nested_fault(rt.alloc(), million, "", "1", " ")? == None);
-    assert!(rt; nested_fault(rt.alloc(), million, "a", "", "")? == None);
-    assert!(rt; nested_fault(rt.alloc(), million, "'", "", "")? == Some(ParseFault::Syntax(2)));
-    Ok(())
+fn long_texts_end(rt: HostRuntime) {
+    for (parts, wanted) in [
+        (("(", "", ""), Some(ParseFault::Syntax(1_000_000))),
+        (("[", "", ""), Some(ParseFault::Syntax(1_000_000))),
+        (("", "1", " "), None),
+        (("a", "", ""), None),
+        (("'", "", ""), Some(ParseFault::Syntax(2))),
+    ] {
+        assert!(rt;
+            is_nested(rt.alloc(), 1_000_000, parts, wanted),
+            "{}{}{}",
+            parts.0,
+            parts.1,
+            parts.2
+        );
+    }
+}
+
+/// The same of texts that are too deep or go wrong at their end.
+#[test]
+fn deep_texts_end(rt: HostRuntime) {
+    for (parts, wanted) in [
+        (("-", "1", ""), Some(ParseFault::TooDeep)),
+        (("(", "1", ")"), Some(ParseFault::TooDeep)),
+        (("", "[1", ",1"), Some(ParseFault::Syntax(2_000_002))),
+    ] {
+        assert!(rt;
+            is_nested(rt.alloc(), 1_000_000, parts, wanted),
+            "{}{}{}",
+            parts.0,
+            parts.1,
+            parts.2
+        );
+    }
 }
