@@ -94,19 +94,21 @@ struct Firing<'a> {
 }
 
 /// Whether a hook gives this. Here alone a definition is owned, so that the proofs of the tests are short.
-fn tells(alloc: Global, hook: &Hook, payload: &Doc, firing: Firing) -> bool {
+fn tells(alloc: Global, hook: &Hook, payload: &Doc, firing: &Firing) -> bool {
     let fired = fire(alloc, hook, payload, firing.moment, firing.drawn);
-    is_told(alloc, &fired, firing.wanted)
+    let is_so = is_told(alloc, &fired, firing.wanted);
+    drop(fired);
+    is_so
 }
 
-fn fires(alloc: Global, hook: &Hook, firing: Firing) -> bool {
+fn fires(alloc: Global, hook: &Hook, firing: &Firing) -> bool {
     match Doc::read(alloc, firing.payload.as_bytes()) {
         Ok(payload) => tells(alloc, hook, &payload, firing),
         Err(_) => false,
     }
 }
 
-fn hook_fires(alloc: Global, template: &str, firing: Firing) -> bool {
+fn hook_fires(alloc: Global, template: &str, firing: &Firing) -> bool {
     match hook(alloc, template) {
         Some(hook) => fires(alloc, &hook, firing),
         None => false,
@@ -123,7 +125,7 @@ fn gives(alloc: Global, template: &str, payload: &str, millis: u64, wanted: &str
                 drawn,
                 wanted,
             };
-            hook_fires(alloc, template, firing)
+            hook_fires(alloc, template, &firing)
         }
         _ => false,
     }
@@ -186,10 +188,11 @@ const DEFAULTS: &str =
 fn what_templates_give(rt: HostRuntime) {
     assert!(rt; row_gives(rt.alloc(), SENT, ROUTED));
     assert!(rt; row_gives(rt.alloc(), "{}", UNROUTED));
-    for table in [TEMPLATES, DEFAULTS] {
-        for row in table.lines() {
-            assert!(rt; row_gives(rt.alloc(), SENT, row), "{row}");
-        }
+    for row in TEMPLATES.lines() {
+        assert!(rt; row_gives(rt.alloc(), SENT, row), "{row}");
+    }
+    for row in DEFAULTS.lines() {
+        assert!(rt; row_gives(rt.alloc(), SENT, row), "{row}");
     }
 }
 

@@ -59,10 +59,25 @@ fn is_written(alloc: Global, change: &Change, record: &[u8]) -> bool {
     }
 }
 
-/// Whether a change is read of these bytes, and they are what is written of it.
-fn is_read(alloc: Global, record: &[u8]) -> bool {
-    match read_record(alloc, record) {
-        Ok(Some(change)) => is_written(alloc, &change, record),
+/// Whether a change is read of these bytes, and they are what is written of it; or they are no record, where they are not to be one.
+fn reads_so(alloc: Global, record: &[u8], is_good: bool) -> bool {
+    let read = read_record(alloc, record);
+    let is_so = if is_good {
+        is_written_again(alloc, &read, record)
+    } else {
+        matches!(&read, Ok(None))
+    };
+    drop(read);
+    is_so
+}
+
+fn is_written_again(
+    alloc: Global,
+    read: &Result<Option<Change>, AllocError>,
+    record: &[u8],
+) -> bool {
+    match read {
+        Ok(Some(change)) => is_written(alloc, change, record),
         _ => false,
     }
 }
@@ -70,7 +85,7 @@ fn is_read(alloc: Global, record: &[u8]) -> bool {
 /// Whether the change has the record of a row, and a change with this record is read from it.
 fn is_record(alloc: Global, change: &Change, row: &str) -> bool {
     match bytes_of(alloc, row) {
-        Ok(record) => is_written(alloc, change, &record) && is_read(alloc, &record),
+        Ok(record) => is_written(alloc, change, &record) && reads_so(alloc, &record, true),
         Err(_) => false,
     }
 }
@@ -89,9 +104,15 @@ fn has_record(alloc: Global, row: &str) -> bool {
 /// The same of the first task at the start. Here alone a change is owned that is not read.
 fn is_so_written(alloc: Global, id: SlugId, word: &str, record: &str) -> bool {
     match kind(alloc, id, word, record) {
-        Some(kind) => is_record(alloc, &Change { at: start(), kind }, record),
+        Some(kind) => is_of(alloc, Change { at: start(), kind }, record),
         None => false,
     }
+}
+
+fn is_of(alloc: Global, change: Change, record: &str) -> bool {
+    let is_so = is_record(alloc, &change, record);
+    drop(change);
+    is_so
 }
 
 /// What changes: what is asked of a task; a claim of its run 0; its run 49, which is kept; a report of its run 1; or its creation, with the
@@ -172,17 +193,10 @@ fn changes_have_their_records(rt: HostRuntime) {
     );
 }
 
-/// Whether the bytes are found to be no record.
-fn is_refused(alloc: Global, record: &[u8]) -> bool {
-    match read_record(alloc, record) {
-        Ok(found) => found.is_none(),
-        Err(_) => false,
-    }
-}
-
+/// Whether the bytes of a row are no record.
 fn is_none(alloc: Global, row: &str) -> bool {
     match bytes_of(alloc, row) {
-        Ok(record) => is_refused(alloc, &record),
+        Ok(record) => reads_so(alloc, &record, false),
         Err(_) => false,
     }
 }
@@ -238,8 +252,7 @@ fn claim_of(alloc: Global, number: &str, runs: u32) -> Result<Vec<u8>, AllocErro
 /// Whether a claim of so many runs is read, or refused.
 fn may_claim(alloc: Global, number: &str, runs: u32, is_good: bool) -> bool {
     match claim_of(alloc, number, runs) {
-        Ok(record) if is_good => is_read(alloc, &record),
-        Ok(record) => is_refused(alloc, &record),
+        Ok(record) => reads_so(alloc, &record, is_good),
         Err(_) => false,
     }
 }

@@ -19,7 +19,9 @@ use std::alloc::Global;
 /// The first step of some that comes to something else than it says, or `none`. Here alone tables are owned.
 fn first_other<'a>(alloc: Global, steps: &'a str) -> &'a str {
     let mut tables = TaskTables::new(alloc);
-    other_in(alloc, &mut tables, steps)
+    let other = other_in(alloc, &mut tables, steps);
+    drop(tables);
+    other
 }
 
 fn other_in<'a>(alloc: Global, tables: &mut TaskTables, steps: &'a str) -> &'a str {

@@ -43,7 +43,11 @@ fn first_other<'a>(alloc: Global, script: &'a str) -> &'a str {
 /// The same of the row of a definition, as it is created. Here alone, and in `copy_goes`, a row is owned.
 fn other_of<'a>(alloc: Global, body: &str, steps: &'a str) -> &'a str {
     match new_row(alloc, body) {
-        Some(mut row) => other_in(alloc, &mut row, steps),
+        Some(mut row) => {
+            let other = other_in(alloc, &mut row, steps);
+            drop(row);
+            other
+        }
         None => "no row",
     }
 }
@@ -76,7 +80,11 @@ fn goes(alloc: Global, row: &mut TaskRow, step: &str) -> bool {
 /// Whether the steps between semicolons go so with a copy of the row, which they leave as it is.
 fn copy_goes(alloc: Global, row: &TaskRow, steps: &str) -> bool {
     match row.copy(alloc) {
-        Ok(mut copy) => all_go(alloc, &mut copy, steps, 0),
+        Ok(mut copy) => {
+            let all = all_go(alloc, &mut copy, steps, 0);
+            drop(copy);
+            all
+        }
         Err(_) => false,
     }
 }

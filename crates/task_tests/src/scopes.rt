@@ -37,17 +37,17 @@ cancel any queue:cancel-task:s/AAAAAAAAQACAAAAAAAAAAQ/AAAAAAAAQACAAAAAAAAAAA que
 
 /// The worker `w`, the group `g`, and the hook `h` of it.
 #[derive(Drop)]
-struct Names {
+struct CallNames {
     worker: Identifier,
     group: Identifier,
     hook: HookName,
 }
 
-fn names(alloc: Global) -> Option<Names> {
+fn names(alloc: Global) -> Option<CallNames> {
     let worker = identifier(alloc, "w")?;
     let group = identifier(alloc, "g")?;
     match hook_name(alloc) {
-        Some(hook) => Some(Names {
+        Some(hook) => Some(CallNames {
             worker,
             group,
             hook,
@@ -72,7 +72,11 @@ fn first_other<'a>(alloc: Global, body: &str, rows: &'a str) -> &'a str {
 
 fn other_of<'a>(alloc: Global, id: SlugId, body: &str, rows: &'a str) -> &'a str {
     match definition(alloc, body, id) {
-        Some(def) => other_in(alloc, id, &def, rows),
+        Some(def) => {
+            let other = other_in(alloc, id, &def, rows);
+            drop(def);
+            other
+        }
         None => "no definition",
     }
 }
@@ -88,7 +92,7 @@ fn other_with<'a>(
     alloc: Global,
     id: SlugId,
     def: &TaskDef,
-    names: &Names,
+    names: &CallNames,
     rows: &'a str,
 ) -> &'a str {
     for row in rows.lines() {
@@ -105,7 +109,7 @@ fn asked(
     alloc: Global,
     id: SlugId,
     def: &TaskDef,
-    names: &Names,
+    names: &CallNames,
     call: &str,
 ) -> Result<Expr, AllocError> {
     match call {
@@ -119,7 +123,7 @@ fn asked(
     }
 }
 
-fn call_of<'a>(id: SlugId, def: &'a TaskDef, names: &'a Names, call: &str) -> Call<'a> {
+fn call_of<'a>(id: SlugId, def: &'a TaskDef, names: &'a CallNames, call: &str) -> Call<'a> {
     match call {
         "trigger" => Call::TriggerHook(&names.hook),
         "create" => Call::CreateTask(def),

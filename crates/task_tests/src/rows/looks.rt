@@ -1,7 +1,7 @@
 //! What is asked of tables.
 use super::bodies;
 use crate::words::{id, id_of, is_outcome, is_run, moment, next, stands};
-use farm_record::RunName;
+use farm_record::{Creation, RunName};
 use farm_rows::{Page, RowCounts, TaskList, TaskTables};
 use farm_text::SlugId;
 use run_states::{Run, TaskRow};
@@ -114,10 +114,18 @@ pub(super) fn list(alloc: Global, tables: &TaskTables, word: &str, parts: &str) 
 /// Whether these tasks, of which `-` is none, are missing or expire too early for a task of the definition of a name.
 fn judged(alloc: Global, tables: &TaskTables, id: SlugId, parts: &str) -> Option<bool> {
     let (name, rest) = next(parts);
-    let (missing, early) = next(rest);
-    let creation = bodies::named(alloc, id, name)?;
-    let missing = tables.missing_dependency(&creation) == id_of(missing);
-    Some(missing && tables.early_dependency(&creation) == id_of(early))
+    match bodies::named(alloc, id, name) {
+        Some(creation) => Some(is_judged(tables, creation, rest)),
+        None => None,
+    }
+}
+
+fn is_judged(tables: &TaskTables, creation: Creation, parts: &str) -> bool {
+    let (missing, early) = next(parts);
+    let is_so = tables.missing_dependency(&creation) == id_of(missing)
+        && tables.early_dependency(&creation) == id_of(early);
+    drop(creation);
+    is_so
 }
 
 /// Whether the page behind a task, which is none for the first page, has tasks of these numbers, and tells so of more.

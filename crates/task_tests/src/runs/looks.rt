@@ -2,7 +2,7 @@
 use crate::words::{is_run, moment, next, stands, truth};
 use farm_text::Doc;
 use run_states::{Run, TaskRow};
-use std::alloc::{AllocError, Global};
+use std::alloc::Global;
 use task_defs::Requires;
 use task_statuses::{definition_doc, status_doc};
 
@@ -17,13 +17,17 @@ pub(super) fn is_so(alloc: Global, row: &TaskRow, word: &str, parts: &str) -> Op
         "pending" => Some(row.is_pending()),
         "unscheduled" => Some(row.is_unscheduled()),
         "claim-due" => Some(row.claim_due() == moment(parts)),
-        "deadline" => Some(row.definition().deadline == moment(parts)?),
-        "id" => Some(row.id().text().as_slice() == parts.as_bytes()),
+        "deadline" => Some(Some(row.definition().deadline) == moment(parts)),
+        "id" => Some(has_id(row, parts)),
         "serves" => Some(serves(row, parts)),
-        "defined" => Some(is_written(alloc, &definition_doc(alloc, row.definition()), &[IN_FULL])),
+        "defined" => Some(is_defined(alloc, row)),
         "told" => is_told(alloc, row, parts),
         _ => None,
     }
+}
+
+fn has_id(row: &TaskRow, id: &str) -> bool {
+    row.id().text().as_slice() == id.as_bytes()
 }
 
 /// Whether the run of a number was made and ended so, or is taken until a moment.
@@ -79,17 +83,26 @@ fn is_told(alloc: Global, row: &TaskRow, parts: &str) -> Option<bool> {
     let (retries, rest) = parts.split_once('|')?;
     let (runs, state) = rest.split_once('|')?;
     let status = [BEFORE, retries, RUNS, runs, STATE, state, BEHIND];
-    Some(is_written(alloc, &status_doc(alloc, row), &status))
+    Some(has_status(alloc, row, status.as_slice()))
 }
 
-/// Whether the text of a document is these parts, one behind the other.
-fn is_written(alloc: Global, doc: &Result<Doc, AllocError>, parts: &[&str]) -> bool {
-    match doc {
-        Ok(doc) => has_text(alloc, doc, parts),
+/// Whether the text of a task's status is these parts, one behind the other.
+fn has_status(alloc: Global, row: &TaskRow, parts: &[&str]) -> bool {
+    match status_doc(alloc, row) {
+        Ok(status) => has_text(alloc, &status, parts),
         Err(_) => false,
     }
 }
 
+/// Whether a task's definition is the plain one in full form.
+fn is_defined(alloc: Global, row: &TaskRow) -> bool {
+    match definition_doc(alloc, row.definition()) {
+        Ok(doc) => has_text(alloc, &doc, &[IN_FULL]),
+        Err(_) => false,
+    }
+}
+
+/// Whether the text of a document is these parts, one behind the other.
 fn has_text(alloc: Global, doc: &Doc, parts: &[&str]) -> bool {
     match doc.write(alloc) {
         Ok(text) => is_joined(text.as_bytes(), parts),
