@@ -75,39 +75,42 @@ fn first_other<'a>(alloc: Global, names: &str, spent: u64, rows: &'a str) -> &'a
     }
 }
 
+/// The tables of expressions over these names.
+const TABLES: &[&str] = &[
+    arithmetic::SUMS,
+    arithmetic::POWERS,
+    arithmetic::SIGNS,
+    arithmetic::LEVELS,
+    arithmetic::KINDS,
+    literals::LITERALS,
+    literals::LISTS,
+    moments::SPANS,
+    moments::MOMENTS,
+    numbers::PICKED,
+    numbers::READ,
+    numbers::LENGTHS,
+    numbers::RANGES,
+    places::KEYS,
+    places::INDEXES,
+    places::LIST_SLICES,
+    places::OTHER_SLICES,
+    texts::TEXTS,
+    texts::LETTERS,
+    texts::PIECES,
+    texts::JOINED,
+    texts::KINDS,
+    texts::UNSEEN,
+    truth::DENIALS,
+    truth::DECIDING,
+    truth::EQUALITY,
+    truth::ORDER,
+    truth::COMPARED,
+    truth::MEMBERSHIP,
+];
+
 #[test]
 fn expressions_give_what_they_say(rt: HostRuntime) {
-    for rows in [
-        arithmetic::SUMS,
-        arithmetic::POWERS,
-        arithmetic::SIGNS,
-        arithmetic::LEVELS,
-        arithmetic::KINDS,
-        literals::LITERALS,
-        literals::LISTS,
-        moments::SPANS,
-        moments::MOMENTS,
-        numbers::PICKED,
-        numbers::READ,
-        numbers::LENGTHS,
-        numbers::RANGES,
-        places::KEYS,
-        places::INDEXES,
-        places::LIST_SLICES,
-        places::OTHER_SLICES,
-        texts::TEXTS,
-        texts::LETTERS,
-        texts::PIECES,
-        texts::JOINED,
-        texts::KINDS,
-        texts::UNSEEN,
-        truth::DENIALS,
-        truth::DECIDING,
-        truth::EQUALITY,
-        truth::ORDER,
-        truth::COMPARED,
-        truth::MEMBERSHIP,
-    ] {
+    for rows in TABLES {
         assert_eq!(rt; first_other(rt.alloc(), NAMES, 0, rows), "none");
     }
 }

@@ -71,25 +71,28 @@ fn first_other<'a>(alloc: Global, names: &str, rows: &'a str) -> &'a str {
     }
 }
 
+/// The tables of templates over these names.
+const TABLES: &[&str] = &[
+    bindings::BOUND,
+    bindings::MAPPED,
+    bindings::REDUCED,
+    bindings::FOUND,
+    bindings::SORTED,
+    conditions::EVALUATED,
+    conditions::BRANCHES,
+    conditions::MOMENTS,
+    faults::THE_FIRST_FAULT_IS_TOLD,
+    maps::PLAIN_MAPS,
+    maps::KEYS_OF_OPERATORS,
+    merges::MERGED,
+    merges::FLATTENED,
+    texts::TEXTS,
+    texts::LISTS,
+];
+
 #[test]
 fn templates_come_to_what_they_say(rt: HostRuntime) {
-    for rows in [
-        bindings::BOUND,
-        bindings::MAPPED,
-        bindings::REDUCED,
-        bindings::FOUND,
-        bindings::SORTED,
-        conditions::EVALUATED,
-        conditions::BRANCHES,
-        conditions::MOMENTS,
-        faults::THE_FIRST_FAULT_IS_TOLD,
-        maps::PLAIN_MAPS,
-        maps::KEYS_OF_OPERATORS,
-        merges::MERGED,
-        merges::FLATTENED,
-        texts::TEXTS,
-        texts::LISTS,
-    ] {
+    for rows in TABLES {
         assert_eq!(rt; first_other(rt.alloc(), NAMES, rows), "none");
     }
 }

@@ -313,19 +313,30 @@ fn is_made(text: &Result<String, AllocError>, wanted: &str) -> bool {
     }
 }
 
+/// Texts, the numbers of their characters, and the second of them, where there is one.
+const COUNTS: &str = "|0|
+a|1|
+ab|2|b
+\u{e9}\u{e8}|2|\u{e8}
+\u{1f600}x\u{4e2d}|3|x";
+
+fn is_count(row: &str) -> bool {
+    match row.split_once('|') {
+        Some((text, rest)) => match rest.split_once('|') {
+            Some((count, second)) => {
+                count.parse::<usize>().ok() == Some(count_of(text))
+                    && char_at(text, 1) == second.chars().next()
+            }
+            None => false,
+        },
+        None => false,
+    }
+}
+
 #[test]
 fn texts_count_by_characters(rt: HostRuntime) {
-    for (text, count, second) in [
-        ("", 0, None),
-        ("a", 1, None),
-        ("ab", 2, Some('b')),
-        ("\u{e9}\u{e8}", 2, Some('\u{e8}')),
-        ("\u{1f600}x\u{4e2d}", 3, Some('x')),
-    ] {
-        assert!(rt;
-            count_of(text) == count && char_at(text, 1) == second,
-            "{text}"
-        );
+    for row in COUNTS.lines() {
+        assert!(rt; is_count(row), "{row}");
     }
     assert!(rt; are_between(rt.alloc(), "\u{1f600}x\u{4e2d}", 1, 3, "x\u{4e2d}"));
     assert!(rt; are_between(rt.alloc(), "abc", 2, 1, ""));

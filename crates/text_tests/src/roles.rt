@@ -91,7 +91,11 @@ fn is_told(alloc: Global, fault: &BuildFault, wanted: &str) -> bool {
 fn come_to(alloc: Global, rows: &str, outcome: &str) -> bool {
     match roles(alloc, rows) {
         Some(roles) => match RoleSet::build(alloc, roles) {
-            Ok(roles) => are_so(alloc, &roles, outcome),
+            Ok(roles) => {
+                let is_so = are_so(alloc, &roles, outcome);
+                drop(roles);
+                is_so
+            }
             Err(fault) => is_told(alloc, &fault, outcome),
         },
         None => false,

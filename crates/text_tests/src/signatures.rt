@@ -113,14 +113,24 @@ fn book_of(alloc: Global, known: Known) -> Option<ClientBook> {
 /// Whether the check of a request answers so. Here and in the two below alone a book, roles and an answer are owned.
 fn answers(alloc: Global, known: Known, head: &AuthHead, wanted: &str) -> bool {
     match book_of(alloc, known) {
-        Some(book) => book_answers(alloc, &book, head, known.now, wanted),
+        Some(book) => {
+            let is_so = book_answers(alloc, &book, head, known.now, wanted);
+            drop(book);
+            is_so
+        }
         None => false,
     }
 }
 
 fn book_answers(alloc: Global, book: &ClientBook, head: &AuthHead, now: u64, wanted: &str) -> bool {
     match (roles(alloc), Moment::from_millis(now)) {
-        (Some(roles), Some(now)) => is_answer(&book.check(alloc, &roles, head, now), wanted),
+        (Some(roles), Some(now)) => {
+            let access = book.check(alloc, &roles, head, now);
+            let is_so = is_answer(&access, wanted);
+            drop(access);
+            drop(roles);
+            is_so
+        }
         _ => false,
     }
 }
@@ -193,33 +203,37 @@ fn is_example_signed(alloc: Global, wanted: &str) -> bool {
     }
 }
 
+/// Whether the example or the forged one, at a moment, of a client that is enabled or not, is answered so; or not, where `not` stands.
+fn is_checked(alloc: Global, row: &str) -> bool {
+    match row.split_once('|') {
+        Some((asked, wanted)) => match wanted.strip_prefix("not ") {
+            Some(other) => is_example(alloc, asked, other) == Some(false),
+            None => is_example(alloc, asked, wanted) == Some(true),
+        },
+        None => false,
+    }
+}
+
+fn is_example(alloc: Global, asked: &str, wanted: &str) -> Option<bool> {
+    let (header, rest) = asked.split_once(' ')?;
+    let (millis, state) = rest.split_once(' ')?;
+    let header = if header == "forged" { FORGED } else { SIGNED };
+    let millis = millis.parse::<u64>().ok()?;
+    Some(example(alloc, header, millis, state == "disabled", wanted))
+}
+
+const CHECKED: &str = "signed 1353832234000 enabled|BadExt
+signed 1353833134999 enabled|BadExt
+signed 1353833135000 enabled|Skew 1353832234 1353833135
+signed 1353833135000 enabled|not Skew 1353832234 1353833134
+forged 1353832234000 enabled|BadMac
+forged 1353832234000 disabled|Disabled";
+
 #[test]
 fn example_is_checked(rt: HostRuntime) {
     assert!(rt; is_example_signed(rt.alloc(), SIGNED));
-    for (header, millis, disabled, wanted, is_so) in [
-        (SIGNED, 1_353_832_234_000, false, "BadExt", true),
-        (SIGNED, 1_353_833_134_999, false, "BadExt", true),
-        (
-            SIGNED,
-            1_353_833_135_000,
-            false,
-            "Skew 1353832234 1353833135",
-            true,
-        ),
-        (
-            SIGNED,
-            1_353_833_135_000,
-            false,
-            "Skew 1353832234 1353833134",
-            false,
-        ),
-        (FORGED, 1_353_832_234_000, false, "BadMac", true),
-        (FORGED, 1_353_832_234_000, true, "Disabled", true),
-    ] {
-        assert!(rt;
-            example(rt.alloc(), header, millis, disabled, wanted) == is_so,
-            "{wanted} at {millis}"
-        );
+    for row in CHECKED.lines() {
+        assert!(rt; is_checked(rt.alloc(), row), "{row}");
     }
 }
 

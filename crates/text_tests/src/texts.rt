@@ -308,14 +308,10 @@ fn is_told(text: &Result<Text, AllocError>, wanted: &str) -> bool {
 
 #[test]
 fn slugids(rt: HostRuntime) {
-    for (last, slug) in [
-        (0, "AAAAAAAAQACAAAAAAAAAAA"),
-        (1, "AAAAAAAAQACAAAAAAAAAAQ"),
-        (2, "AAAAAAAAQACAAAAAAAAAAg"),
-        (3, "AAAAAAAAQACAAAAAAAAAAw"),
-    ] {
-        assert!(rt; is_slug(rt.alloc(), last, slug), "{slug}");
-    }
+    assert!(rt; is_slug(rt.alloc(), 0, "AAAAAAAAQACAAAAAAAAAAA"));
+    assert!(rt; is_slug(rt.alloc(), 1, "AAAAAAAAQACAAAAAAAAAAQ"));
+    assert!(rt; is_slug(rt.alloc(), 2, "AAAAAAAAQACAAAAAAAAAAg"));
+    assert!(rt; is_slug(rt.alloc(), 3, "AAAAAAAAQACAAAAAAAAAAw"));
     assert!(rt; !is_slug(rt.alloc(), 0, "AAAAAAAAQACAAAAAAAAAAQ"));
     assert!(rt; SlugId::read(b"AAAAAAAAQACAAAAAAAAAAB").is_none());
 }
@@ -330,14 +326,10 @@ fn is_moment(alloc: Global, millis: u64, wanted: &str) -> bool {
 
 #[test]
 fn moments(rt: HostRuntime) {
-    for (millis, text) in [
-        (0, "1970-01-01T00:00:00.000Z"),
-        (951_782_400_000, "2000-02-29T00:00:00.000Z"),
-        (1_704_067_200_000, "2024-01-01T00:00:00.000Z"),
-        (LAST_MOMENT, "9999-12-31T23:59:59.999Z"),
-    ] {
-        assert!(rt; is_moment(rt.alloc(), millis, text), "{text}");
-    }
+    assert!(rt; is_moment(rt.alloc(), 0, "1970-01-01T00:00:00.000Z"));
+    assert!(rt; is_moment(rt.alloc(), 951_782_400_000, "2000-02-29T00:00:00.000Z"));
+    assert!(rt; is_moment(rt.alloc(), 1_704_067_200_000, "2024-01-01T00:00:00.000Z"));
+    assert!(rt; is_moment(rt.alloc(), LAST_MOMENT, "9999-12-31T23:59:59.999Z"));
     assert!(rt; !is_moment(rt.alloc(), 1, "1970-01-01T00:00:00.000Z"));
 }
 

@@ -63,61 +63,54 @@ fn ends_so(
 }
 
 /// Whether it is so, however many bytes come at a time.
-fn always_ends_so(alloc: Global, input: &[u8], count: u64, wire: Wire) -> bool {
-    let mut all = true;
-    for piece in [1, 3, 100] {
-        all &= ends_so(alloc, input, piece, &[], (count, wire));
-    }
-    all
+fn always_ends_so(alloc: Global, input: &[u8], wanted: (u64, Wire)) -> bool {
+    ends_so(alloc, input, 1, &[], wanted)
+        && ends_so(alloc, input, 3, &[], wanted)
+        && ends_so(alloc, input, 100, &[], wanted)
 }
 
-/// Streams, how many messages are in each and why there is no other, and whether it is so.
-const STREAMS: [(&[u8], u64, Wire, bool); 11] = [
-    (PING, 1, Wire::End, true),
-    (PING, 2, Wire::End, false),
-    (PING, 1, Wire::EndedInside, false),
-    (
-        b"POST / HTTP/1.1\r\nContent-Length: 3\r\n\r\nabcGET / HTTP/1.0\n\n",
-        2,
-        Wire::End,
-        true,
-    ),
-    (
-        b"POST / HTTP/1.1\r\nContent-Length: 3\r\n\r\nab",
-        0,
-        Wire::EndedInside,
-        true,
-    ),
-    (b"GET /p HT", 0, Wire::EndedInside, true),
-    (b"\r\n", 0, Wire::End, true),
-    (
-        b"POST / HTTP/1.1\r\nTransfer-Encoding: chunked\r\n\r\n",
-        0,
-        Wire::NoLength,
-        true,
-    ),
-    (
-        b"POST / HTTP/1.1\r\nContent-Length: 1048577\r\n\r\n",
-        0,
-        Wire::BodyTooLarge,
-        true,
-    ),
-    (
-        b"POST / HTTP/1.1\r\nContent-Length: 0\r\ncontent-length: 0\r\n\r\n",
-        0,
-        Wire::HeadFault,
-        true,
-    ),
-    (b" / HTTP/1.1\r\n", 0, Wire::HeadFault, true),
-];
+/// The end of this name.
+fn wire_of(name: &str) -> Wire {
+    match name {
+        "End" => Wire::End,
+        "EndedInside" => Wire::EndedInside,
+        "NoLength" => Wire::NoLength,
+        "BodyTooLarge" => Wire::BodyTooLarge,
+        "HeadFault" => Wire::HeadFault,
+        _ => Wire::NoMemory,
+    }
+}
+
+/// Whether so many messages are in a stream, and this is why there is no other; or not, where `not` stands before it.
+fn is_end(alloc: Global, input: &[u8], wanted: &str) -> bool {
+    let (is_so, wanted) = match wanted.strip_prefix("not ") {
+        Some(other) => (false, other),
+        None => (true, wanted),
+    };
+    match wanted.split_once(' ') {
+        Some((count, name)) => match count.parse::<u64>() {
+            Ok(count) => always_ends_so(alloc, input, (count, wire_of(name))) == is_so,
+            Err(_) => false,
+        },
+        None => false,
+    }
+}
+
+fn is_stream(alloc: Global, row: &str) -> bool {
+    match row.split_once('~') {
+        Some((input, wanted)) => is_end(alloc, input.as_bytes(), wanted),
+        None => false,
+    }
+}
+
+/// Streams, how many messages are in each and why there is no other, with a `~` before that; bars cut them.
+const STREAMS: &str =
+    "GET /api/queue/v1/ping HTTP/1.1\r\n\r\n~1 End|GET /api/queue/v1/ping HTTP/1.1\r\n\r\n~not 2 End|GET /api/queue/v1/ping HTTP/1.1\r\n\r\n~not 1 EndedInside|POST / HTTP/1.1\r\nContent-Length: 3\r\n\r\nabcGET / HTTP/1.0\n\n~2 End|POST / HTTP/1.1\r\nContent-Length: 3\r\n\r\nab~0 EndedInside|GET /p HT~0 EndedInside|\r\n~0 End|POST / HTTP/1.1\r\nTransfer-Encoding: chunked\r\n\r\n~0 NoLength|POST / HTTP/1.1\r\nContent-Length: 1048577\r\n\r\n~0 BodyTooLarge|POST / HTTP/1.1\r\nContent-Length: 0\r\ncontent-length: 0\r\n\r\n~0 HeadFault| / HTTP/1.1\r\n~0 HeadFault";
 
 #[test]
 fn streams_that_end(rt: HostRuntime) {
-    for (input, count, wire, is_so) in STREAMS {
-        assert!(rt;
-            always_ends_so(rt.alloc(), input, count, wire) == is_so,
-            "{count} {wire}"
-        );
+    for row in STREAMS.split('|') {
+        assert!(rt; is_stream(rt.alloc(), row), "{row}");
     }
 }
 
@@ -292,17 +285,10 @@ fn lists_so(alloc: Global, room: usize, count: usize, end: ListEnd) -> bool {
 
 #[test]
 fn lists_end_as_their_stream_does(rt: HostRuntime) {
-    for (room, count, end, is_so) in [
-        (1, 1, ListEnd::Full, true),
-        (2, 2, ListEnd::Full, true),
-        (3, 2, ListEnd::Closed, true),
-        (3, 2, ListEnd::Full, false),
-    ] {
-        assert!(rt;
-            lists_so(rt.alloc(), room, count, end) == is_so,
-            "{room} {is_so}"
-        );
-    }
+    assert!(rt; lists_so(rt.alloc(), 1, 1, ListEnd::Full));
+    assert!(rt; lists_so(rt.alloc(), 2, 2, ListEnd::Full));
+    assert!(rt; lists_so(rt.alloc(), 3, 2, ListEnd::Closed));
+    assert!(rt; !lists_so(rt.alloc(), 3, 2, ListEnd::Full));
 }
 
 /// What the reading of all answers: the bytes that are wanted, or others, that there are more, or a fault.
@@ -345,21 +331,13 @@ fn left_of(
     }
 }
 
-/// So many times `hello`, the reads that fail, how many bytes are read at most, whether all are wanted, and the answer.
-const LEFT: [(usize, &[u64], usize, bool, &str); 5] = [
-    (4_000, &[], 20_000, true, "same"),
-    (4_000, &[], 20_000, false, "other"),
-    (4_000, &[], 19_999, true, "more"),
-    (4_000, &[1], 20_000, true, "failed"),
-    (0, &[], 0, true, "same"),
-];
-
 #[test]
 fn all_that_is_left(rt: HostRuntime) {
-    for (times, failing, most, is_all, wanted) in LEFT {
-        let answer = left_of(rt.alloc(), times, failing, most, is_all);
-        assert!(rt; answer == wanted, "{wanted} of {times}");
-    }
+    assert!(rt; left_of(rt.alloc(), 4_000, &[], 20_000, true) == "same");
+    assert!(rt; left_of(rt.alloc(), 4_000, &[], 20_000, false) == "other");
+    assert!(rt; left_of(rt.alloc(), 4_000, &[], 19_999, true) == "more");
+    assert!(rt; left_of(rt.alloc(), 4_000, &[1], 20_000, true) == "failed");
+    assert!(rt; left_of(rt.alloc(), 0, &[], 0, true) == "same");
 }
 
 /// A sink that takes two bytes at a time.

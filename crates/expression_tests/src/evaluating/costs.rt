@@ -34,14 +34,11 @@ range(0,499998) ~ too much";
 
 #[test]
 fn values_are_paid_for(rt: HostRuntime) {
-    for (names, spent, rows) in [
-        (r#"{"s":"abcd","l":[1,2]}"#, 0, COSTS),
-        ("{}", 999_997, NEAR),
-        ("{}", 999_998, NEARER),
-        ("{}", 500_000, HALF),
-    ] {
-        assert_eq!(rt; first_other(rt.alloc(), names, spent, rows), "none");
-    }
+    let names = r#"{"s":"abcd","l":[1,2]}"#;
+    assert_eq!(rt; first_other(rt.alloc(), names, 0, COSTS), "none");
+    assert_eq!(rt; first_other(rt.alloc(), "{}", 999_997, NEAR), "none");
+    assert_eq!(rt; first_other(rt.alloc(), "{}", 999_998, NEARER), "none");
+    assert_eq!(rt; first_other(rt.alloc(), "{}", 500_000, HALF), "none");
 }
 
 /// Expressions over a text of 300,000 `a` and one of 200,000 with a `b` behind them, and what is paid for each, or that it is too much.

@@ -35,65 +35,85 @@ fn is_nested(
     }
 }
 
-/// Whether a text of 63 is a tree, and of 64 is too deep.
-fn is_limit(alloc: Global, parts: (&str, &str, &str)) -> bool {
-    is_nested(alloc, 63, parts, None) && is_nested(alloc, 64, parts, Some(ParseFault::TooDeep))
+/// The parts of a row, which bars cut: what opens, the middle, what closes, and what is left.
+fn parts(row: &str) -> Option<((&str, &str, &str), &str)> {
+    let (open, rest) = row.split_once('|')?;
+    let (middle, rest) = rest.split_once('|')?;
+    let (close, rest) = rest.split_once('|')?;
+    Some(((open, middle, close), rest))
 }
+
+/// Whether the text of a row is a tree with 63 of its parts, and too deep with 64.
+fn is_limit(alloc: Global, row: &str) -> bool {
+    match parts(row) {
+        Some((parts, _)) => {
+            is_nested(alloc, 63, parts, None)
+                && is_nested(alloc, 64, parts, Some(ParseFault::TooDeep))
+        }
+        None => false,
+    }
+}
+
+/// What opens, the middle and what closes.
+const DEEP: &str = "(|1|)|
+-|1||
+[|1|]|
+{a:|1|}|
+min(1,|1|)|
+|a|.b|
+|a|[0]|
+a[|0|]|
+a[:|0|]|
+a[|0|:]|
+1**|1||
+|1|+1|";
 
 #[test]
 fn a_tree_is_at_most_64_deep(rt: HostRuntime) {
-    for parts in [
-        ("(", "1", ")"),
-        ("-", "1", ""),
-        ("[", "1", "]"),
-        ("{a:", "1", "}"),
-        ("min(1,", "1", ")"),
-        ("", "a", ".b"),
-        ("", "a", "[0]"),
-        ("a[", "0", "]"),
-        ("a[:", "0", "]"),
-        ("a[", "0", ":]"),
-        ("1**", "1", ""),
-        ("", "1", "+1"),
-    ] {
-        assert!(rt; is_limit(rt.alloc(), parts), "{}{}", parts.0, parts.2);
+    for row in DEEP.lines() {
+        assert!(rt; is_limit(rt.alloc(), row), "{row}");
     }
 }
+
+/// The fault that a word stands for: that a text is too deep, or the place where it goes wrong.
+fn fault_of(word: &str) -> Option<ParseFault> {
+    match word.parse::<usize>() {
+        Ok(place) => Some(ParseFault::Syntax(place)),
+        Err(_) if word == "too deep" => Some(ParseFault::TooDeep),
+        Err(_) => None,
+    }
+}
+
+/// Whether the text of a row ends so with a million of its parts.
+fn ends(alloc: Global, row: &str) -> bool {
+    match parts(row) {
+        Some((parts, wanted)) => is_nested(alloc, 1_000_000, parts, fault_of(wanted)),
+        None => false,
+    }
+}
+
+/// The same, and the fault, or `tree`.
+const LONG: &str = "(|||1000000
+[|||1000000
+|1| |tree
+a|||tree
+'|||2";
+
+const LONG_AND_DEEP: &str = "-|1||too deep
+(|1|)|too deep
+|[1|,1|2000002";
 
 /// A million bytes of one kind end in time and without a deep stack.
 #[test]
 fn long_texts_end(rt: HostRuntime) {
-    for (parts, wanted) in [
-        (("(", "", ""), Some(ParseFault::Syntax(1_000_000))),
-        (("[", "", ""), Some(ParseFault::Syntax(1_000_000))),
-        (("", "1", " "), None),
-        (("a", "", ""), None),
-        (("'", "", ""), Some(ParseFault::Syntax(2))),
-    ] {
-        assert!(rt;
-            is_nested(rt.alloc(), 1_000_000, parts, wanted),
-            "{}{}{}",
-            parts.0,
-            parts.1,
-            parts.2
-        );
+    for row in LONG.lines() {
+        assert!(rt; ends(rt.alloc(), row), "{row}");
     }
 }
 
-/// The same of texts that are too deep or go wrong at their end.
 #[test]
-fn deep_texts_end(rt: HostRuntime) {
-    for (parts, wanted) in [
-        (("-", "1", ""), Some(ParseFault::TooDeep)),
-        (("(", "1", ")"), Some(ParseFault::TooDeep)),
-        (("", "[1", ",1"), Some(ParseFault::Syntax(2_000_002))),
-    ] {
-        assert!(rt;
-            is_nested(rt.alloc(), 1_000_000, parts, wanted),
-            "{}{}{}",
-            parts.0,
-            parts.1,
-            parts.2
-        );
+fn long_and_deep_texts_end(rt: HostRuntime) {
+    for row in LONG_AND_DEEP.lines() {
+        assert!(rt; ends(rt.alloc(), row), "{row}");
     }
 }

@@ -105,30 +105,35 @@ fn head_with(value: &str) -> AuthHead<'_> {
 }
 
 /// The flaws of a request, and the first of them in the order.
-const REFUSALS: [(&str, &str); 18] = [
-    ("", "let in"),
-    ("BadHeader", "BadHeader"),
-    ("UnknownClient", "UnknownClient"),
-    ("Disabled", "Disabled"),
-    ("Expired", "Expired"),
-    ("Skew", "Skew 1000 1901"),
-    ("BadMac", "BadMac"),
-    ("BadHash", "BadHash"),
-    ("BadExt", "BadExt"),
-    ("Oversteps", "Oversteps *"),
-    ("BadHeader UnknownClient", "BadHeader"),
-    ("UnknownClient Disabled", "UnknownClient"),
-    ("Disabled Expired", "Disabled"),
-    ("Expired Skew", "Expired"),
-    ("Skew BadMac", "Skew 1000 1901"),
-    ("BadMac BadHash", "BadMac"),
-    ("BadHash BadExt", "BadHash"),
-    ("BadExt Oversteps", "BadExt"),
-];
+const REFUSALS: &str = "|let in
+BadHeader|BadHeader
+UnknownClient|UnknownClient
+Disabled|Disabled
+Expired|Expired
+Skew|Skew 1000 1901
+BadMac|BadMac
+BadHash|BadHash
+BadExt|BadExt
+Oversteps|Oversteps *
+BadHeader UnknownClient|BadHeader
+UnknownClient Disabled|UnknownClient
+Disabled Expired|Disabled
+Expired Skew|Expired
+Skew BadMac|Skew 1000 1901
+BadMac BadHash|BadMac
+BadHash BadExt|BadHash
+BadExt Oversteps|BadExt";
+
+fn is_row(alloc: Global, row: &str) -> bool {
+    match row.split_once('|') {
+        Some((flaws, first)) => is_refused(alloc, flaws, first),
+        None => false,
+    }
+}
 
 #[test]
 fn refusals_alone_and_in_pairs(rt: HostRuntime) {
-    for (flaws, first) in REFUSALS {
-        assert!(rt; is_refused(rt.alloc(), flaws, first), "{flaws}");
+    for row in REFUSALS.lines() {
+        assert!(rt; is_row(rt.alloc(), row), "{row}");
     }
 }
