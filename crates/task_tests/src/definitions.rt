@@ -186,12 +186,24 @@ const MOMENTS_AND_LABELS: &str = r#"10 created|,"created":"","deadline":""
 11 deadline|,"created":"2023-12-27T23:59:59.999Z"
 14 tags|,"tags":{"a":null}"#;
 
+/// The tables of what is refused.
+const REFUSED: &[&str] = &[DOCUMENTS, NAMES, TERMS, MOMENTS_AND_LABELS];
+
+/// The first row of all of them whose outcome is not the one that it begins with, or `none`.
+fn first_of_all(alloc: Global) -> &'static str {
+    for rows in REFUSED {
+        let other = first_other(alloc, rows);
+        if other != "none" {
+            return other;
+        }
+    }
+    "none"
+}
+
 #[test]
 fn what_is_refused(rt: HostRuntime) {
-    assert_eq!(rt; first_other(rt.alloc(), DOCUMENTS), "none");
-    assert_eq!(rt; first_other(rt.alloc(), NAMES), "none");
-    assert_eq!(rt; first_other(rt.alloc(), TERMS), "none");
-    assert_eq!(rt; first_other(rt.alloc(), MOMENTS_AND_LABELS), "none");
+    let other = first_of_all(rt.alloc());
+    assert!(rt; other == "none", "{other}");
 }
 
 /// What is said of a definition that is refused.

@@ -2,7 +2,8 @@
 //!
 //! A step is what it comes to, a word for what is done or asked, and its parts. `made`, `refused`: whether a change may be made, and the
 //! plan showed its task as it stands then. The parts of a change are its moment, a task, and what the change is of: the definition of
-//! `create`, the run and the end of `claim` and `reclaim`, the run of a report. `each` makes steps for each number that is `#` in them.
+//! `create`, the run and the end of `claim` and `reclaim`, the run of a report. `tick` reaches a moment; `is` and `list` ask, and come to
+//! `yes` or `no`. `each` makes steps for each number that is `#` in them.
 ghost use Rattle.farm_rows.specs.Plans.{IsPlanOn};
 
 mod bodies;
@@ -15,6 +16,17 @@ use farm_rows::{TaskPlan, TaskTables};
 use farm_text::{LAST_TOLD_MOMENT, SlugId};
 use run_states::{RunState, TaskRow};
 use std::alloc::Global;
+
+/// The first step of some scripts, between empty lines, that comes to something else than it says, or `none`.
+fn other_script<'a>(alloc: Global, scripts: &'a str) -> &'a str {
+    for script in scripts.split("\n\n") {
+        let other = first_other(alloc, script);
+        if other != "none" {
+            return other;
+        }
+    }
+    "none"
+}
 
 /// The first step of some that comes to something else than it says, or `none`. Here alone tables are owned.
 fn first_other<'a>(alloc: Global, steps: &'a str) -> &'a str {
@@ -81,10 +93,8 @@ fn outcome(
 ) -> Option<&'static str> {
     match word {
         "tick" => Some(truth(reach(tables, parts))),
-        "row" | "only" | "ended" | "due" | "counts" | "next" | "picked" | "scheduler" => {
-            Some(truth(looks::are(alloc, tables, word, parts)?))
-        }
-        "judged" | "page" | "lists" => Some(truth(looks::list(alloc, tables, word, parts)?)),
+        "is" => Some(truth(looks::are(alloc, tables, parts)?)),
+        "list" => Some(truth(looks::list(alloc, tables, parts)?)),
         _ => change(alloc, tables, word, parts),
     }
 }

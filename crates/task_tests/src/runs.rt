@@ -1,7 +1,8 @@
 //! What happens to a task, step by step, against rows that were worked by hand.
 //!
 //! A step is what it comes to, a word for what is done or asked, and its parts. A change has its moment, and the number that a run draws then
-//! or that of the run it is of; `resolve` has both, and a reason behind them. `each` makes steps for each number that is `#` in them.
+//! or that of the run it is of; `resolve` has both, and a reason behind them. The steps behind a number and a colon are gone through with
+//! each number below it, which is `#` in them, and those behind `copied:` with a copy of the row.
 mod looks;
 mod scripts;
 
@@ -30,6 +31,17 @@ fn body(name: &str) -> &'static str {
         "all-retries" => ALL_RETRIES,
         _ => PLAIN,
     }
+}
+
+/// The first step of some scripts, between empty lines, that comes to something else than it says, or `none`.
+fn other_script<'a>(alloc: Global, scripts: &'a str) -> &'a str {
+    for script in scripts.split("\n\n") {
+        let other = first_other(alloc, script);
+        if other != "none" {
+            return other;
+        }
+    }
+    "none"
 }
 
 /// The first step of a script that comes to something else than it says, or `none`.
@@ -130,10 +142,10 @@ fn comes_so(alloc: Global, row: &mut TaskRow, step: &str) -> bool {
 fn outcome(alloc: Global, row: &mut TaskRow, word: &str, parts: &str) -> Option<&'static str> {
     match word {
         "take" => Some(truth(take(alloc, row))),
-        "schedule" | "exceed" | "expire" | "cancel" | "rerun" | "reclaim" | "resolve" => {
-            change(row, word, parts)
+        "run" | "taken" | "stands" | "is" | "serves" | "told" => {
+            Some(truth(looks::is_so(alloc, row, word, parts)?))
         }
-        _ => Some(truth(looks::is_so(alloc, row, word, parts)?)),
+        _ => change(row, word, parts),
     }
 }
 
@@ -165,15 +177,27 @@ fn change(row: &mut TaskRow, word: &str, parts: &str) -> Option<&'static str> {
     let (at, rest) = next(parts);
     let (number, rest) = next(rest);
     let at = moment(at)?;
-    let drawn = number.parse::<u64>().unwrap_or(0);
+    match word {
+        "exceed" => Some(truth(row.exceed(at))),
+        "cancel" => Some(truth(row.cancel(at))),
+        "reclaim" => Some(answer(row.reclaim(number.parse::<u8>().ok()?, at))),
+        _ => draw(row, at, number.parse::<u64>().ok()?, word, rest),
+    }
+}
+
+/// Makes a change by which a run may draw this number.
+fn draw(
+    row: &mut TaskRow,
+    at: Moment,
+    drawn: u64,
+    word: &str,
+    parts: &str,
+) -> Option<&'static str> {
     match word {
         "schedule" => Some(truth(row.schedule(at, drawn))),
-        "exceed" => Some(truth(row.exceed(at))),
         "expire" => Some(truth(row.expire(at, drawn))),
-        "cancel" => Some(truth(row.cancel(at))),
         "rerun" => Some(answer(row.rerun(at, drawn))),
-        "reclaim" => Some(answer(row.reclaim(number.parse::<u8>().ok()?, at))),
-        _ => resolve(row, at, drawn, rest),
+        _ => resolve(row, at, drawn, parts),
     }
 }
 

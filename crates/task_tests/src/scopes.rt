@@ -57,8 +57,15 @@ fn names(alloc: Global) -> Option<CallNames> {
 }
 
 fn hook_name(alloc: Global) -> Option<HookName> {
-    let group = HookGroupId::new(Text::from_str(alloc, "g").ok()?)?;
-    let id = HookId::new(Text::from_str(alloc, "h").ok()?)?;
+    match (Text::from_str(alloc, "g"), Text::from_str(alloc, "h")) {
+        (Ok(group), Ok(id)) => hook_of(group, id),
+        _ => None,
+    }
+}
+
+fn hook_of(group: Text, id: Text) -> Option<HookName> {
+    let group = HookGroupId::new(group)?;
+    let id = HookId::new(id)?;
     Some(HookName { group, id })
 }
 
@@ -96,12 +103,20 @@ fn other_with<'a>(
     rows: &'a str,
 ) -> &'a str {
     for row in rows.lines() {
-        let (call, wanted) = next(row);
-        if !is_asked(alloc, &asked(alloc, id, def, names, call), wanted) {
+        if !is_row(alloc, id, def, names, row) {
             return row;
         }
     }
     "none"
+}
+
+/// Whether the call of a row asks what stands behind it.
+fn is_row(alloc: Global, id: SlugId, def: &TaskDef, names: &CallNames, row: &str) -> bool {
+    let (call, wanted) = next(row);
+    let asked = asked(alloc, id, def, names, call);
+    let is_so = is_asked(&asked, wanted);
+    drop(asked);
+    is_so
 }
 
 /// What a call asks.
@@ -137,61 +152,56 @@ fn call_of<'a>(id: SlugId, def: &'a TaskDef, names: &'a CallNames, call: &str) -
     }
 }
 
-/// Whether this is asked, in words.
-fn is_asked(alloc: Global, asked: &Result<Expr, AllocError>, wanted: &str) -> bool {
+/// Whether this is asked, in words: a scope, or `all` or `any` and scopes. The last of all may be any of some.
+fn is_asked(asked: &Result<Expr, AllocError>, wanted: &str) -> bool {
     match asked {
-        Ok(expr) => is_text(&told(alloc, expr), wanted),
+        Ok(Expr::One(scope)) => scope.as_str() == wanted,
+        Ok(Expr::AllOf(members)) => match wanted.strip_prefix("all ") {
+            Some(words) => are_all(members, words),
+            None => false,
+        },
+        Ok(Expr::AnyOf(members)) => is_any(members, wanted),
         Err(_) => false,
     }
 }
 
-fn is_text(told: &Result<String, AllocError>, wanted: &str) -> bool {
-    match told {
-        Ok(told) => told.as_str() == wanted,
-        Err(_) => false,
-    }
-}
-
-/// An expression in words.
-fn told(alloc: Global, expr: &Expr) -> Result<String, AllocError> {
-    let mut words = String::new(alloc);
-    match expr {
-        Expr::One(scope) => words.push_str(scope.as_str())?,
-        Expr::AllOf(members) => add_all(&mut words, "all", members)?,
-        Expr::AnyOf(members) => add_ones(&mut words, "any", members)?,
-    }
-    Ok(words)
-}
-
-/// Adds a word and the members of an expression, each a scope or any of some.
-fn add_all(words: &mut String, word: &str, members: &[Expr]) -> Result<(), AllocError> {
-    words.push_str(word)?;
+/// Whether these are the scopes of some words, and then any of those behind an `any`.
+fn are_all(members: &[Expr], words: &str) -> bool {
+    let mut rest = words;
+    let mut all = true;
     for member in members {
-        words.push_str(" ")?;
-        match member {
-            Expr::One(scope) => words.push_str(scope.as_str())?,
-            Expr::AnyOf(scopes) => add_ones(words, "any", scopes)?,
-            Expr::AllOf(_) => words.push_str("all")?,
+        if let Expr::AnyOf(scopes) = member {
+            all &= is_any(scopes, rest);
+            rest = "";
+        } else {
+            let (word, behind) = next(rest);
+            all &= is_one(member, word);
+            rest = behind;
         }
     }
-    Ok(())
+    all && rest.is_empty()
 }
 
-/// Adds a word and scopes.
-fn add_ones(words: &mut String, word: &str, members: &[Expr]) -> Result<(), AllocError> {
-    words.push_str(word)?;
+/// Whether these are the scopes of the words behind an `any`.
+fn is_any(members: &[Expr], words: &str) -> bool {
+    let mut rest = words.strip_prefix("any ").unwrap_or("none");
+    let mut all = true;
     for member in members {
-        words.push_str(" ")?;
-        match member {
-            Expr::One(scope) => words.push_str(scope.as_str())?,
-            _ => words.push_str("other")?,
-        }
+        let (word, behind) = next(rest);
+        all &= is_one(member, word);
+        rest = behind;
     }
-    Ok(())
+    all && rest.is_empty()
+}
+
+fn is_one(member: &Expr, word: &str) -> bool {
+    matches!(member, Expr::One(scope) if scope.as_str() == word)
 }
 
 #[test]
 fn what_calls_ask(rt: HostRuntime) {
-    assert_eq!(rt; first_other(rt.alloc(), SCOPED, ASKED), "none");
-    assert_eq!(rt; first_other(rt.alloc(), GROUPED, ASKED_OF_GROUPED), "none");
+    let other = first_other(rt.alloc(), SCOPED, ASKED);
+    assert!(rt; other == "none", "{other}");
+    let other = first_other(rt.alloc(), GROUPED, ASKED_OF_GROUPED);
+    assert!(rt; other == "none", "{other}");
 }

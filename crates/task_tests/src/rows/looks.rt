@@ -8,7 +8,8 @@ use run_states::{Run, TaskRow};
 use std::alloc::Global;
 
 /// Whether the tables, or a task of theirs, are so.
-pub(super) fn are(alloc: Global, tables: &TaskTables, word: &str, parts: &str) -> Option<bool> {
+pub(super) fn are(alloc: Global, tables: &TaskTables, parts: &str) -> Option<bool> {
+    let (word, parts) = next(parts);
     match word {
         "due" => Some(tables.due(moment(parts)?)),
         "counts" => count(tables, parts),
@@ -95,7 +96,8 @@ fn id_of_digit(digit: u8) -> Option<SlugId> {
 }
 
 /// Whether a task and a list are so.
-pub(super) fn list(alloc: Global, tables: &TaskTables, word: &str, parts: &str) -> Option<bool> {
+pub(super) fn list(alloc: Global, tables: &TaskTables, parts: &str) -> Option<bool> {
+    let (word, parts) = next(parts);
     let (first, parts) = next(parts);
     if word == "judged" {
         return judged(alloc, tables, id_of(first)?, parts);

@@ -9,20 +9,27 @@ use task_statuses::{definition_doc, status_doc};
 /// Whether a task is so.
 pub(super) fn is_so(alloc: Global, row: &TaskRow, word: &str, parts: &str) -> Option<bool> {
     match word {
-        "run" | "taken" => {
+        "stands" => Some(stands(row, parts)),
+        "serves" => Some(serves(row, parts)),
+        "told" => is_told(alloc, row, parts),
+        "is" => Some(is_thus(alloc, row, parts)),
+        _ => {
             let (number, parts) = next(parts);
             Some(is_of_run(row, number.parse::<usize>().ok()?, word, parts))
         }
-        "stands" => Some(stands(row, parts)),
-        "pending" => Some(row.is_pending()),
-        "unscheduled" => Some(row.is_unscheduled()),
-        "claim-due" => Some(row.claim_due() == moment(parts)),
-        "deadline" => Some(Some(row.definition().deadline) == moment(parts)),
-        "id" => Some(has_id(row, parts)),
-        "serves" => Some(serves(row, parts)),
-        "defined" => Some(is_defined(alloc, row)),
-        "told" => is_told(alloc, row, parts),
-        _ => None,
+    }
+}
+
+/// Whether a task is pending, unscheduled, or of the plain definition; or falls due, has its deadline or its id so.
+fn is_thus(alloc: Global, row: &TaskRow, parts: &str) -> bool {
+    let (word, parts) = next(parts);
+    match word {
+        "pending" => row.is_pending(),
+        "unscheduled" => row.is_unscheduled(),
+        "plain" => is_defined(alloc, row),
+        "due" => row.claim_due() == moment(parts),
+        "until" => Some(row.definition().deadline) == moment(parts),
+        _ => has_id(row, parts),
     }
 }
 

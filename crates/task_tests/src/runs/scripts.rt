@@ -1,5 +1,5 @@
 //! Steps that a task takes, worked by hand, in scripts between empty lines. A script begins with the name of the task's definition.
-use super::first_other;
+use super::other_script;
 use run_states::{ReasonCreated, ReasonResolved, RunState};
 
 /// Tasks that are scheduled, taken and fall due: a new task has its retries and no run; a task is scheduled once; a pending one exceeds its
@@ -7,17 +7,17 @@ use run_states::{ReasonCreated, ReasonResolved, RunState};
 /// that very moment, and run 1 follows; a report after the end of the claim is refused; a claim falls due without a retry; and a deadline at
 /// the end of a claim comes first, and uses no retry.
 const DUE: &str = "all-retries
-yes id AAAAAAAAQACAAAAAAAAAAA
-yes deadline 2024-01-02T00:00:00.000Z
+yes is of AAAAAAAAQACAAAAAAAAAAA
+yes is until 2024-01-02T00:00:00.000Z
 yes stands unscheduled 0 49
-yes unscheduled
+yes is unscheduled
 
 plain
 yes schedule 2024-01-01T00:00:00.000Z 3
 no schedule 2024-01-02T00:00:00.000Z 4
 yes run 0 scheduled 2024-01-01T00:00:00.000Z 3 -
 yes stands pending 1 5
-yes pending
+yes is pending
 
 plain
 yes schedule 2024-01-01T00:00:00.000Z 3
@@ -36,7 +36,7 @@ yes schedule 2024-01-01T00:00:00.000Z 3
 yes take
 yes stands running 1 5
 yes taken 0 2024-01-01T00:20:10.000Z
-yes claim-due 2024-01-01T00:20:10.000Z
+yes is due 2024-01-01T00:20:10.000Z
 no take
 yes stands running 1 5
 
@@ -186,7 +186,7 @@ yes cancel 2024-01-01T00:00:10.005Z
 no cancel 2024-01-01T00:00:10.006Z
 yes run 0 scheduled 2024-01-01T00:00:00.000Z 3 canceled@2024-01-01T00:00:10.005Z
 yes stands exception 1 5
-yes claim-due -
+yes is due -
 
 plain
 yes cancel 2024-01-01T00:00:10.000Z
@@ -196,7 +196,7 @@ yes stands exception 1 5
 plain
 yes schedule 2024-01-01T00:00:00.000Z 3
 yes take
-copied: yes taken 0 2024-01-01T00:20:10.000Z;yes cancel 2024-01-01T00:00:10.005Z;yes deadline 2024-01-02T00:00:00.000Z;yes stands exception 1 5
+copied: yes taken 0 2024-01-01T00:20:10.000Z;yes cancel 2024-01-01T00:00:10.005Z;yes is until 2024-01-02T00:00:00.000Z;yes stands exception 1 5
 yes stands running 1 5
 
 plain
@@ -206,7 +206,7 @@ yes serves no no
 yes resolve 2024-01-01T00:00:10.005Z 8 0 completed
 yes serves yes yes
 yes rerun 2024-01-01T00:00:10.005Z 8
-yes pending
+yes is pending
 yes serves yes yes
 
 plain
@@ -215,7 +215,7 @@ yes take
 yes resolve 2024-01-01T00:00:10.005Z 8 0 failed
 yes serves no yes
 yes rerun 2024-01-01T00:00:10.005Z 8
-yes pending
+yes is pending
 yes serves no yes";
 
 /// Statuses: an unscheduled task; its definition in full form; a deadline that resolves the last run; one that makes a run where there is
@@ -224,7 +224,7 @@ const TOLD: &str = r#"plain
 yes told 5||unscheduled
 
 plain
-yes defined
+yes is plain
 
 plain
 yes schedule 2024-01-01T00:00:00.000Z 0
@@ -254,36 +254,37 @@ yes told 5|{"reasonCreated":"scheduled","reasonResolved":"failed","resolved":"20
 
 #[test]
 fn tasks_are_taken_and_fall_due(rt: HostRuntime) {
-    for script in DUE.split("\n\n") {
-        assert_eq!(rt; first_other(rt.alloc(), script), "none");
-    }
+    let other = other_script(rt.alloc(), DUE);
+    assert!(rt; other == "none", "{other}");
 }
 
 #[test]
 fn workers_report(rt: HostRuntime) {
-    for script in REPORTED.split("\n\n") {
-        assert_eq!(rt; first_other(rt.alloc(), script), "none");
-    }
+    let other = other_script(rt.alloc(), REPORTED);
+    assert!(rt; other == "none", "{other}");
 }
 
 #[test]
 fn callers_run_and_cancel(rt: HostRuntime) {
-    for script in CALLED.split("\n\n") {
-        assert_eq!(rt; first_other(rt.alloc(), script), "none");
-    }
+    let other = other_script(rt.alloc(), CALLED);
+    assert!(rt; other == "none", "{other}");
 }
 
 #[test]
 fn statuses_are_told(rt: HostRuntime) {
-    for script in TOLD.split("\n\n") {
-        assert_eq!(rt; first_other(rt.alloc(), script), "none");
-    }
+    let other = other_script(rt.alloc(), TOLD);
+    assert!(rt; other == "none", "{other}");
+}
+
+/// Whether some reasons and a state have their names.
+fn have_names() -> bool {
+    ReasonResolved::DeadlineExceeded.name() == "deadline-exceeded"
+        && ReasonResolved::WorkerShutdown.name() == "worker-shutdown"
+        && ReasonCreated::TaskRetry.name() == "task-retry"
+        && RunState::Running.name() == "running"
 }
 
 #[test]
 fn reasons_and_states_have_names(rt: HostRuntime) {
-    assert!(rt; ReasonResolved::DeadlineExceeded.name() == "deadline-exceeded");
-    assert!(rt; ReasonResolved::WorkerShutdown.name() == "worker-shutdown");
-    assert!(rt; ReasonCreated::TaskRetry.name() == "task-retry");
-    assert!(rt; RunState::Running.name() == "running");
+    assert!(rt; have_names());
 }
