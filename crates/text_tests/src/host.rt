@@ -25,50 +25,68 @@ impl Write for Broken {
     }
 }
 
-/// Whether a source over a stream of `hello` reads all five bytes into a buffer of eight.
-fn reads_hello(alloc: Global, wanted: &[u8]) -> Option<bool> {
-    let bytes = Vec::from_slice(alloc, b"hello").ok()?;
+/// Whether a source over a stream reads all its five bytes into a buffer of eight.
+fn reads_five(bytes: Vec<u8>, wanted: &[u8]) -> bool {
     let mut source = HostSource::new(Cursor::new(bytes));
     let mut buf = [0; 8];
-    let read = source.read(&mut buf);
-    Some(read == Ok(5) && buf.as_slice() == wanted)
+    source.read(&mut buf) == Ok(5) && buf.as_slice() == wanted
 }
 
-/// Whether a link over a stream of `hi` reads both bytes, and writes five after them.
-fn reads_and_writes(alloc: Global, wanted: &[u8]) -> Option<bool> {
-    let bytes = Vec::from_slice(alloc, b"hi").ok()?;
+/// Whether one over a stream of `hello` does.
+fn reads_hello(alloc: Global, wanted: &[u8]) -> bool {
+    match Vec::from_slice(alloc, b"hello") {
+        Ok(bytes) => reads_five(bytes, wanted),
+        Err(_) => false,
+    }
+}
+
+/// Whether a link over a stream reads its two bytes, and writes five after them.
+fn reads_two(bytes: Vec<u8>, wanted: &[u8]) -> bool {
     let mut link = StreamLink::new(Cursor::new(bytes));
     let mut buf = [0; 8];
-    let read = link.read(&mut buf);
-    let write = link.write(b"hello");
-    Some(read == Ok(2) && write == Ok(5) && buf.as_slice() == wanted)
+    link.read(&mut buf) == Ok(2) && link.write(b"hello") == Ok(5) && buf.as_slice() == wanted
+}
+
+/// Whether one over a stream of `hi` does.
+fn reads_and_writes(alloc: Global, wanted: &[u8]) -> bool {
+    match Vec::from_slice(alloc, b"hi") {
+        Ok(bytes) => reads_two(bytes, wanted),
+        Err(_) => false,
+    }
+}
+
+fn sink_writes(alloc: Global) -> bool {
+    let mut sink = HostSink::new(Cursor::new(Vec::new(alloc)));
+    sink.write(b"hello") == Ok(5)
 }
 
 #[test]
 fn host_objects(rt: HostRuntime) {
-    let alloc = rt.alloc();
-    assert!(rt; reads_hello(alloc, b"hello\0\0\0") == Some(true));
-    assert!(rt; reads_hello(alloc, b"help!\0\0\0") == Some(false));
-    assert!(rt; reads_and_writes(alloc, b"hi\0\0\0\0\0\0") == Some(true));
-    assert!(rt; reads_and_writes(alloc, b"ho\0\0\0\0\0\0") == Some(false));
-    let mut sink = HostSink::new(Cursor::new(Vec::new(alloc)));
-    assert!(rt; sink.write(b"hello") == Ok(5));
+    assert!(rt; reads_hello(rt.alloc(), b"hello\0\0\0"));
+    assert!(rt; !reads_hello(rt.alloc(), b"help!\0\0\0"));
+    assert!(rt; reads_and_writes(rt.alloc(), b"hi\0\0\0\0\0\0"));
+    assert!(rt; !reads_and_writes(rt.alloc(), b"ho\0\0\0\0\0\0"));
+    assert!(rt; sink_writes(rt.alloc()));
 }
 
-#[test]
-fn host_sources_keep_the_reason_of_a_fault(rt: HostRuntime) {
+fn source_keeps_its_reason() -> bool {
     let mut source = HostSource::new(Broken);
-    assert!(rt; source.why().is_none());
-    assert!(rt; source.read(&mut [0; 8]) == Err(Failed));
-    assert!(rt; source.why() == Some(ErrorKind::BrokenPipe));
+    source.why().is_none()
+        && source.read(&mut [0; 8]) == Err(Failed)
+        && source.why() == Some(ErrorKind::BrokenPipe)
+}
+
+fn sink_keeps_its_reason() -> bool {
+    let mut sink = HostSink::new(Broken);
+    sink.why().is_none()
+        && sink.write(b"hello") == Err(Failed)
+        && sink.why() == Some(ErrorKind::WriteZero)
 }
 
 #[test]
-fn host_sinks_keep_the_reason_of_a_fault(rt: HostRuntime) {
-    let mut sink = HostSink::new(Broken);
-    assert!(rt; sink.why().is_none());
-    assert!(rt; sink.write(b"hello") == Err(Failed));
-    assert!(rt; sink.why() == Some(ErrorKind::WriteZero));
+fn the_reason_of_a_fault_is_kept(rt: HostRuntime) {
+    assert!(rt; source_keeps_its_reason());
+    assert!(rt; sink_keeps_its_reason());
 }
 
 /// A stream whose next reads and writes, so many, are interrupted by a signal. Then a read gives `x`, and a write takes all.
@@ -114,18 +132,33 @@ impl Write for Interrupted {
     }
 }
 
-#[test]
-fn what_a_signal_interrupts_is_made_again(rt: HostRuntime) {
+fn source_reads_again() -> bool {
     let mut source = HostSource::new(Interrupted { times: 2 });
     let mut buf = [0; 4];
-    assert!(rt; source.read(&mut buf) == Ok(1));
-    assert!(rt; buf.as_slice() == b"x\0\0\0".as_slice());
-    assert!(rt; source.why().is_none());
+    source.read(&mut buf) == Ok(1)
+        && buf.as_slice() == b"x\0\0\0".as_slice()
+        && source.why().is_none()
+}
+
+fn sink_writes_again() -> bool {
     let mut sink = HostSink::new(Interrupted { times: 2 });
-    assert!(rt; sink.write(b"hello") == Ok(5));
-    assert!(rt; sink.why().is_none());
+    sink.write(b"hello") == Ok(5) && sink.why().is_none()
+}
+
+fn link_reads_again() -> bool {
     let mut link = StreamLink::new(Interrupted { times: 1 });
-    assert!(rt; link.read(&mut buf) == Ok(1));
-    let mut other = StreamLink::new(Interrupted { times: 1 });
-    assert!(rt; other.write(b"hi") == Ok(2));
+    link.read(&mut [0; 4]) == Ok(1)
+}
+
+fn link_writes_again() -> bool {
+    let mut link = StreamLink::new(Interrupted { times: 1 });
+    link.write(b"hi") == Ok(2)
+}
+
+#[test]
+fn what_a_signal_interrupts_is_made_again(rt: HostRuntime) {
+    assert!(rt; source_reads_again());
+    assert!(rt; sink_writes_again());
+    assert!(rt; link_reads_again());
+    assert!(rt; link_writes_again());
 }
