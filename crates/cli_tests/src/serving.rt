@@ -81,14 +81,22 @@ fn serve<'a>(disk: &'a str, address: &'a str) -> [&'a str; 10] {
     ]
 }
 
+/// What a reply is that is not that of a ping: one with success, or another.
+fn other_word(reply: &[u8]) -> &'static str {
+    if reply.starts_with(b"HTTP/1.1 200 OK\r\n") {
+        "done"
+    } else {
+        "other"
+    }
+}
+
 /// What was answered to each message that was asked over a link that came back: what a ping is, or something else with success, or not.
 fn answered(back: &Returned) -> &'static str {
     let mut rest = back.link.sink.written();
     for _ in 0..back.asked {
         match rest.strip_prefix(ALIVE) {
             Some(after) => rest = after,
-            None if rest.starts_with(b"HTTP/1.1 200 OK\r\n") => return "done",
-            None => return "other",
+            None => return other_word(rest),
         }
     }
     if rest.is_empty() { "alive" } else { "more" }

@@ -85,26 +85,27 @@ fn told(alloc: Global, reply: &Reply) -> Result<String, AllocError> {
     format!(in alloc; "{}|{}", reply.status().as_u16(), reply.body())
 }
 
-/// What is replied to a call at a moment at which nothing is due. The id that is drawn for it is written `AAAAAAAAQACAAAAAAAAAAg`.
+/// What is replied to a call at a moment at which nothing is due, with an id that is drawn for it.
 fn answer(
     alloc: Global,
     tables: &mut Tables,
     farm: &Config,
     at: Moment,
+    drawn: SlugId,
     caller: Caller,
     call: Call,
-) -> Result<String, Fail>
+) -> Result<String, AllocError>
     requires told { at ≤ last_told }
     requires idle { is_due tables.old (max at tables.old.last) ≡ false }
     requires said { IsSaidCall call }
 {
-    let drawn = SlugId::read(b"AAAAAAAAQACAAAAAAAAAAg").ok_or("a slugid")?;
     let question = Question::new(at, drawn, caller, call);
     let planned = plan(alloc, tables, farm, question)?;
-    Ok(told(alloc, &apply(tables, planned))?)
+    let reply = apply(tables, planned);
+    told(alloc, &reply)
 }
 
-/// What is replied to the call of a row.
+/// What is replied to the call of a row. The id that is drawn for it is written `AAAAAAAAQACAAAAAAAAAAg`.
 fn reply_to(
     alloc: Global,
     tables: &mut Tables,
@@ -112,10 +113,11 @@ fn reply_to(
     row: Row<'_>,
 ) -> Result<String, Fail> {
     let at = moment(row.after)?;
+    let drawn = SlugId::read(b"AAAAAAAAQACAAAAAAAAAAg").ok_or("a slugid")?;
     reach(tables, at)?;
     let caller = caller_of(alloc, row.header)?;
     let call = call_of(alloc, row.word)?;
-    answer(alloc, tables, farm, at, caller, call)
+    Ok(answer(alloc, tables, farm, at, drawn, caller, call)?)
 }
 
 /// The parts of a row.

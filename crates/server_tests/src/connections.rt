@@ -123,19 +123,23 @@ fn unescaped(alloc: Global, text: &str) -> Result<Vec<u8>, AllocError> {
     Ok(bytes)
 }
 
+/// The first or the second call fails, where the row says one of these words.
+fn failing(fails: &str, first: &str, second: &str) -> &'static [u64] {
+    if fails == first {
+        &[0]
+    } else if fails == second {
+        &[1]
+    } else {
+        &[]
+    }
+}
+
 /// The input of a row, of which this read or write fails.
 fn input_of<'a>(bytes: &'a [u8], fails: &str) -> Input<'a> {
-    let (failing_reads, failing_writes): (&[u64], &[u64]) = match fails {
-        "read 0" => (&[0], &[]),
-        "read 1" => (&[1], &[]),
-        "write 0" => (&[], &[0]),
-        "write 1" => (&[], &[1]),
-        _ => (&[], &[]),
-    };
     Input {
         bytes,
-        failing_reads,
-        failing_writes,
+        failing_reads: failing(fails, "read 0", "read 1"),
+        failing_writes: failing(fails, "write 0", "write 1"),
     }
 }
 
@@ -305,9 +309,12 @@ fn ask_between(alloc: Global) -> Result<(Vec<u8>, u64), Fail> {
     let others = SlugId::read(b"AAAAAAAAQACAAAAAAAAAAA").ok_or("a slugid")?;
     match read_farm(alloc, b"") {
         Ok(config) => {
-            let farm = Bare::new(alloc, config);
-            let left = 1_000;
-            Ok(ask_busy(alloc, &mut Busy { farm, others, left })?)
+            let mut desk = Busy {
+                farm: Bare::new(alloc, config),
+                others,
+                left: 1_000,
+            };
+            Ok(ask_busy(alloc, &mut desk)?)
         }
         Err(_) => Err(Fail::from("no farm")),
     }

@@ -189,7 +189,7 @@ fn serve_all<R: Threads + Wait + Sync>(
 }
 
 /// The links of one worker, the last of them first: the first read of one fails, and the second write of another.
-const INPUTS: [Input<'static>; 4] = [
+const INPUTS: &[Input<'static>] = &[
     Input {
         pieces: &[b"no request\r\n\r\n"],
         failing_reads: &[],
@@ -214,7 +214,7 @@ const INPUTS: [Input<'static>; 4] = [
 
 /// What comes of one worker with these links, whose second accept fails.
 fn one_served<R: Threads + Wait + Sync>(rt: &R, alloc: Global) -> Result<String, Fail> {
-    let coming = links(alloc, &INPUTS)?;
+    let coming = links(alloc, INPUTS)?;
     let mut workers = [worker(alloc, coming, &[1])?];
     serve_all(rt, alloc, &mut workers, 6)
 }

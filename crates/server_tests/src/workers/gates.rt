@@ -1,5 +1,5 @@
 //! Workers whose gates hold one until another has answered: this is so only where they run beside each other.
-ghost use Rattle.std.specs.Prelude.{None};
+ghost use Rattle.std.specs.Prelude.{None, ◌≤◌, length};
 
 use super::{PING, desk, good_link};
 use farm_core::bare_farms_cross_threads;
@@ -74,12 +74,14 @@ fn turned<'a>(
     }
 }
 
-/// Lets two workers serve a ping each: how many messages were asked, and whether the sign came in time.
-fn serve_both<R: Threads + Wait + Sync>(
+/// Lets workers serve a ping each: how many messages were asked, and whether the sign came in time.
+fn serve_each<R: Threads + Wait + Sync>(
     rt: &R,
     alloc: Global,
-    workers: &mut [TurnedWorker<'_>; 2],
-) -> Result<(u64, bool), Fail> {
+    workers: &mut [TurnedWorker<'_>],
+) -> Result<(u64, bool), Fail>
+    requires { length workers.old ≤ 2 }
+{
     let (shared, token) = desk(alloc)?;
     bare_farms_cross_threads();
     let (_, Ended { served, .. }) = serve(rt, alloc, &shared, token, workers, 1);
@@ -102,7 +104,7 @@ fn ask_through_gates<R: Threads + Wait + Sync>(
         turned(alloc, first, &sign, is_first_held),
         turned(alloc, second, &sign, !is_first_held),
     ];
-    serve_both(rt, alloc, &mut workers)
+    serve_each(rt, alloc, &mut workers)
 }
 
 #[test]
