@@ -1,5 +1,6 @@
 //! Workers whose gates hold one until another has answered: this is so only where they run beside each other.
-ghost use Rattle.std.specs.Prelude.{None, ◌≤◌, length};
+ghost use Rattle.std.specs.Prelude.{None, ◌*◌, ◌≤◌, length};
+ghost use Rattle.farm_server.specs.declared.served.TheConstants.{REQUESTS};
 
 use super::{PING, desk, good_link};
 use farm_core::bare_farms_cross_threads;
@@ -80,7 +81,7 @@ fn serve_each<R: Threads + Wait + Sync>(
     alloc: Global,
     workers: &mut [TurnedWorker<'_>],
 ) -> Result<(u64, bool), Fail>
-    requires { length workers.old ≤ 2 }
+    requires { length workers.old * (1 * REQUESTS) ≤ 9223372036854775808 }
 {
     let (shared, token) = desk(alloc)?;
     bare_farms_cross_threads();
