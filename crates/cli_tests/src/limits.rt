@@ -100,9 +100,19 @@ fn are_not_derived(rt: &(impl Threads + Wait + Sync), alloc: Global) -> Result<b
 }
 
 #[test]
-fn inputs_and_scopes_have_their_limits(rt: HostRuntime) -> Result<(), Fail> {
+fn inputs_have_their_limits(rt: HostRuntime) -> Result<(), Fail> {
     assert_eq!(rt; first_other(&rt, rt.alloc(), LETTERS)?, "none");
+    Ok(())
+}
+
+#[test]
+fn too_many_scopes_are_not_expanded(rt: HostRuntime) -> Result<(), Fail> {
     assert!(rt; are_not_expanded(&rt, rt.alloc())?);
+    Ok(())
+}
+
+#[test]
+fn too_many_scopes_are_not_derived(rt: HostRuntime) -> Result<(), Fail> {
     assert!(rt; are_not_derived(&rt, rt.alloc())?);
     Ok(())
 }
