@@ -7,7 +7,8 @@
 2. A start list of 870 scopes that are each granted a role with 9,000 scopes.
 
 Each at half of its size and at all of it, in the processor's time that the system counts for the program: twice as long scopes,
-or twice as many, are to take about twice the time. The limit leaves room for what a busy machine adds.
+or twice as many, are to take about twice the time. The limit leaves room for what a busy machine adds; what takes less
+than 50 ms in all is not judged.
 """
 import json
 import os
@@ -111,6 +112,6 @@ for name, half, whole in (
     ("250 scopes are asked for, which share 1,950 and 3,900 bytes with 9,000 that are held", asked(1_950), asked(3_900)),
     ("435 and 870 scopes are granted a role of 4,500 and 9,000", expanded(435, 4_500), expanded(870, 9_000)),
 ):
-    passed = passed and whole <= LIMIT * half
+    passed = passed and (whole <= LIMIT * half or whole < 0.05)
     print("%s: %.3f s and %.3f s, %.1f times as long" % (name, half, whole, whole / half), flush=True)
 sys.exit(0 if passed else 1)

@@ -8,13 +8,17 @@ ghost use Rattle.farm_server.specs.declared.served.TheConstants.{REQUESTS};
 
 use farm_core::Bare;
 use farm_desk::{Desk, Object, Solo, Spare};
-use farm_files::read_farm;
+use farm_machine::config::Config;
+use farm_machine::grants::Grants;
 use farm_machine::law::Farm;
 use farm_machine::question::{Call, Caller, Question};
 use farm_machine::reply::Asked;
-use farm_server::{Gate, NoGate, REQUESTS, When, serve_connection};
-use farm_text::{ListClock, ListDraws, Moment, SlugId};
-use http_wire::{Joined, MemoryLink, MemorySink, MemorySource};
+use farm_server::{Gate, NoGate, REQUESTS, Served, When, serve_connection};
+use farm_text::{ListClock, ListDraws, Moment, SlugId, Text};
+use hawk_auth::ClientBook;
+use hook_fire::HookBook;
+use http_wire::{Joined, MemorySink, MemorySource, Wire};
+use role_expand::RoleSet;
 use std::alloc::{AllocError, Global};
 use std::test::Fail;
 
@@ -26,6 +30,16 @@ mod runs;
 mod tasks;
 mod waits;
 mod work;
+
+const PING: &[u8] = b"GET /api/queue/v1/ping HTTP/1.1\r\n\r\n";
+
+const STATUS: &[u8] = b"GET /api/queue/v1/task/AAAAAAAAQACAAAAAAAAAAA/status HTTP/1.1\r\n\r\n";
+
+const ALIVE: &[u8] =
+    b"HTTP/1.1 200 OK\r\nContent-Length: 14\r\nContent-Type: application/json\r\n\r\n{\"alive\":true}";
+
+const NO_TASK: &[u8] =
+    b"HTTP/1.1 404 Not Found\r\nContent-Length: 119\r\nContent-Type: application/json\r\n\r\n{\"code\":\"ResourceNotFound\",\"details\":{\"kind\":\"task\",\"name\":\"AAAAAAAAQACAAAAAAAAAAA\"},\"message\":\"nothing has that name\"}";
 
 /// What is served of an input, and which calls fail.
 #[derive(Clone, Copy)]
@@ -45,217 +59,194 @@ impl<'a> Input<'a> {
     }
 }
 
-/// A link with this input.
-fn link_of(alloc: Global, input: &Input) -> Result<MemoryLink, AllocError> {
-    let bytes = Vec::from_slice(alloc, input.bytes)?;
-    let reads = Vec::from_slice(alloc, input.failing_reads)?;
-    let writes = Vec::from_slice(alloc, input.failing_writes)?;
-    let sink = MemorySink::new(alloc, 200_000, writes)?;
-    let source = MemorySource::new(bytes, reads, 8_192);
-    Ok(Joined { source, sink })
+/// How a connection ended, and what was written.
+#[derive(Drop)]
+struct Output {
+    served: Served,
+    written: Vec<u8>,
 }
 
-/// How a connection over a link ended at a desk, behind it a bar, and behind that what was written. A gate is told of it.
-fn serve_link<K: Desk<Question = Question, Answer = Asked, Law = Farm>, G: Gate>(
-    alloc: Global,
-    link: &mut MemoryLink,
-    desk: &mut K,
-    gate: &mut G,
-) -> Result<Vec<u8>, AllocError>
-    requires { REQUESTS ≤ K.spare desk.old }
-{
-    let mut clock = ListClock::new(Vec::new(alloc));
-    let mut draws = ListDraws::new(Vec::new(alloc));
-    let served = serve_connection(alloc, link, desk, &mut clock, &mut draws, gate);
-    let word = format!(in alloc; "{served:?}|")?;
-    let mut told = Vec::from_slice(alloc, word.as_bytes())?;
-    told.extend_from_slice(link.sink.written())?;
-    Ok(told)
-}
-
-/// The same of a link with this input.
+/// Serves the input over this desk, and tells this gate.
 fn serve_over<K: Desk<Question = Question, Answer = Asked, Law = Farm>, G: Gate>(
     alloc: Global,
     input: &Input,
     desk: &mut K,
     gate: &mut G,
-) -> Result<Vec<u8>, AllocError>
+) -> Result<Output, AllocError>
     requires { REQUESTS ≤ K.spare desk.old }
 {
-    let mut link = link_of(alloc, input)?;
-    serve_link(alloc, &mut link, desk, gate)
+    let source = MemorySource::new(
+        Vec::from_slice(alloc, input.bytes)?,
+        Vec::from_slice(alloc, input.failing_reads)?,
+        8_192,
+    );
+    let failing = Vec::from_slice(alloc, input.failing_writes)?;
+    let mut link = Joined {
+        source,
+        sink: MemorySink::new(alloc, 200_000, failing)?,
+    };
+    let mut clock = ListClock::new(Vec::new(alloc));
+    let mut draws = ListDraws::new(Vec::new(alloc));
+    let served = serve_connection(alloc, &mut link, desk, &mut clock, &mut draws, gate);
+    let written = Vec::from_slice(alloc, link.sink.written())?;
+    Ok(Output { served, written })
 }
 
-/// The same at a farm without roles that begins.
-fn serve<G: Gate>(alloc: Global, input: &Input, gate: &mut G) -> Result<Vec<u8>, Fail> {
-    match read_farm(alloc, b"") {
-        Ok(config) => {
-            let mut desk = Solo::new(Bare::new(alloc, config));
-            Ok(serve_over(alloc, input, &mut desk, gate)?)
-        }
-        Err(_) => Err(Fail::from("no farm")),
-    }
+/// A configuration without roles.
+fn config(alloc: Global) -> Result<Config, Fail> {
+    let roles = RoleSet::build(alloc, Vec::new(alloc))
+        .ok()
+        .ok_or("no roles")?;
+    let clients = ClientBook::build(alloc, Vec::new(alloc))
+        .ok()
+        .ok_or("no clients")?;
+    Ok(Config {
+        host: Text::from_str(alloc, "localhost")?,
+        port: 8080,
+        claim_timeout: 1200,
+        max_tasks: 1_000_000,
+        roles: Grants::new(alloc, roles)?,
+        clients,
+        hooks: HookBook::new(alloc),
+    })
 }
 
-/// The byte that stands for this one behind a backslash.
-fn escape_of(byte: u8) -> u8 {
-    match byte {
-        b'n' => b'\n',
-        b'r' => b'\r',
-        other => other,
-    }
+/// Serves the input over an empty farm.
+fn serve(alloc: Global, input: &Input) -> Result<Output, Fail> {
+    let mut desk = Solo::new(Bare::new(alloc, config(alloc)?));
+    Ok(serve_over(alloc, input, &mut desk, &mut NoGate)?)
 }
 
-/// The bytes of a text, in which a backslash and the byte behind it stand for one.
-fn unescaped(alloc: Global, text: &str) -> Result<Vec<u8>, AllocError> {
-    let mut bytes = Vec::new(alloc);
-    let mut is_escaped = false;
-    for byte in text.bytes() {
-        if is_escaped {
-            bytes.push(escape_of(byte))?;
-            is_escaped = false;
-        } else if byte == b'\\' {
-            is_escaped = true;
-        } else {
-            bytes.push(byte)?;
-        }
-    }
+fn both(alloc: Global, first: &[u8], second: &[u8]) -> Result<Vec<u8>, AllocError> {
+    let mut bytes = Vec::from_slice(alloc, first)?;
+    bytes.extend_from_slice(second)?;
     Ok(bytes)
 }
 
-/// The first or the second call fails, where the row says one of these words.
-fn failing(fails: &str, first: &str, second: &str) -> &'static [u64] {
-    if fails == first {
-        &[0]
-    } else if fails == second {
-        &[1]
-    } else {
-        &[]
-    }
-}
-
-/// The input of a row, of which this read or write fails.
-fn input_of<'a>(bytes: &'a [u8], fails: &str) -> Input<'a> {
-    Input {
-        bytes,
-        failing_reads: failing(fails, "read 0", "read 1"),
-        failing_writes: failing(fails, "write 0", "write 1"),
-    }
-}
-
-/// Whether an input of which this fails is served so.
-fn is_served(alloc: Global, fails: &str, input: &str, wanted: &str) -> Result<bool, Fail> {
-    let bytes = unescaped(alloc, input)?;
-    let told = serve(alloc, &input_of(&bytes, fails), &mut NoGate)?;
-    Ok(told == unescaped(alloc, wanted)?)
-}
-
-/// Whether a row holds.
-fn holds(alloc: Global, row: &str) -> Result<bool, Fail> {
-    let (fails, rest) = row.split_once('|').ok_or("what fails")?;
-    let (input, wanted) = rest.split_once('|').ok_or("an input")?;
-    is_served(alloc, fails, input, wanted)
-}
-
-/// The first of some rows that does not hold, or `none`.
-fn first_other(alloc: Global, rows: &str) -> Result<&str, Fail> {
-    for row in rows.split('\n') {
-        if !holds(alloc, row)? {
-            return Ok(row);
-        }
-    }
-    Ok("none")
-}
-
-/// What fails, an input, how its connection ends, and what is written. A failed write leaves a front of the replies, a failed read what was
-/// answered before.
-const ROWS: &str =
-    r#"-|GET /api/queue/v1/ping HTTP/1.1\r\n\r\nGET /api/queue/v1/task/AAAAAAAAQACAAAAAAAAAAA/status HTTP/1.1\r\n\r\n|Closed|HTTP/1.1 200 OK\r\nContent-Length: 14\r\nContent-Type: application/json\r\n\r\n{"alive":true}HTTP/1.1 404 Not Found\r\nContent-Length: 119\r\nContent-Type: application/json\r\n\r\n{"code":"ResourceNotFound","details":{"kind":"task","name":"AAAAAAAAQACAAAAAAAAAAA"},"message":"nothing has that name"}
-write 0|GET /api/queue/v1/ping HTTP/1.1\r\n\r\nGET /api/queue/v1/task/AAAAAAAAQACAAAAAAAAAAA/status HTTP/1.1\r\n\r\n|WriteFault|
-write 1|GET /api/queue/v1/ping HTTP/1.1\r\n\r\nGET /api/queue/v1/task/AAAAAAAAQACAAAAAAAAAAA/status HTTP/1.1\r\n\r\n|WriteFault|HTTP/1.1 200 OK\r\nContent-Length: 14\r\nContent-Type: application/json\r\n\r\n{"alive":true}
-read 0|GET /api/queue/v1/ping HTTP/1.1\r\n\r\nGET /api/queue/v1/task/AAAAAAAAQACAAAAAAAAAAA/status HTTP/1.1\r\n\r\n|ReadFault|
-read 1|GET /api/queue/v1/ping HTTP/1.1\r\n\r\nGET /api/queue/v1/task/AAAAAAAAQACAAAAAAAAAAA/status HTTP/1.1\r\n\r\n|ReadFault|HTTP/1.1 200 OK\r\nContent-Length: 14\r\nContent-Type: application/json\r\n\r\n{"alive":true}HTTP/1.1 404 Not Found\r\nContent-Length: 119\r\nContent-Type: application/json\r\n\r\n{"code":"ResourceNotFound","details":{"kind":"task","name":"AAAAAAAAQACAAAAAAAAAAA"},"message":"nothing has that name"}
--|POST /api/queue/v1/task/x/cancel HTTP/1.1\r\nContent-Length: 1048577\r\n\r\n|WireFault(BodyTooLarge)|HTTP/1.1 413 Payload Too Large\r\nConnection: close\r\nContent-Length: 72\r\nContent-Type: application/json\r\n\r\n{"code":"PayloadTooLarge","details":{},"message":"the body is too long"}
--|POST /api/queue/v1/task/x/cancel HTTP/1.1\r\nTransfer-Encoding: chunked\r\n\r\n|WireFault(NoLength)|HTTP/1.1 411 Length Required\r\nConnection: close\r\nContent-Length: 69\r\nContent-Type: application/json\r\n\r\n{"code":"LengthRequired","details":{},"message":"a length is needed"}
--|GET\r\n\r\n|WireFault(HeadFault)|HTTP/1.1 400 Bad Request\r\nConnection: close\r\nContent-Length: 57\r\nContent-Type: application/json\r\n\r\n{"code":"BadHead","details":{},"message":"not a request"}
--|\r\n|Closed|
--|GET /api/queue/v1/task/AAAAAAAAQACAAAAAAAAAAQ/status HTTP/1.1\r\nConnection: close\r\n\r\nGET /api/queue/v1/ping HTTP/1.1\r\n\r\n|Closed|HTTP/1.1 404 Not Found\r\nConnection: close\r\nContent-Length: 119\r\nContent-Type: application/json\r\n\r\n{"code":"ResourceNotFound","details":{"kind":"task","name":"AAAAAAAAQACAAAAAAAAAAQ"},"message":"nothing has that name"}
--|GET /api/queue/v1/ping HTTP/1.1\r\nAuthorization: x\r\n\r\n|Closed|HTTP/1.1 401 Unauthorized\r\nContent-Length: 106\r\nContent-Type: application/json\r\n\r\n{"code":"AuthenticationFailed","details":{"reason":"BadHeader"},"message":"the caller is not who it says"}"#;
-
 #[test]
-fn each_stream_ends_as_it_has_to(rt: HostRuntime) -> Result<(), Fail> {
-    assert_eq!(rt; first_other(rt.alloc(), ROWS)?, "none");
+fn a_ping_and_a_status(rt: HostRuntime) -> Result<(), Fail> {
+    let alloc = rt.alloc();
+    let input = both(alloc, PING, STATUS)?;
+    let replies = both(alloc, ALIVE, NO_TASK)?;
+    let output = serve(alloc, &Input::of(&input))?;
+    assert_eq!(rt; output.served, Served::Closed);
+    assert_eq!(rt; output.written, replies);
     Ok(())
 }
 
-const PING: &[u8] = b"GET /api/queue/v1/ping HTTP/1.1\r\n\r\n";
-
-const BOTH: &[u8] =
-    b"GET /api/queue/v1/ping HTTP/1.1\r\n\r\nGET /api/queue/v1/task/AAAAAAAAQACAAAAAAAAAAA/status HTTP/1.1\r\n\r\n";
-
-/// Nothing is asked, or the stream ends inside the first request.
-const NOTHING: &[u8] = b"Closed|";
-
-const INSIDE_ONE: &[u8] = b"EndedInside|";
-
-/// A ping is asked, and then the stream ends, maybe inside the next request.
-const ONE: &[u8] =
-    b"Closed|HTTP/1.1 200 OK\r\nContent-Length: 14\r\nContent-Type: application/json\r\n\r\n{\"alive\":true}";
-
-const INSIDE_NEXT: &[u8] =
-    b"EndedInside|HTTP/1.1 200 OK\r\nContent-Length: 14\r\nContent-Type: application/json\r\n\r\n{\"alive\":true}";
-
-/// What comes of a ping and a status that are cut here.
-fn cut_at(end: usize) -> &'static [u8] {
-    if end == 0 {
-        NOTHING
-    } else if end < PING.len() {
-        INSIDE_ONE
-    } else if end == PING.len() {
-        ONE
-    } else {
-        INSIDE_NEXT
+#[test]
+fn a_failed_write_leaves_a_front(rt: HostRuntime) -> Result<(), Fail> {
+    let alloc = rt.alloc();
+    let bytes = both(alloc, PING, STATUS)?;
+    for (failing, wanted) in [(0, b"".as_slice()), (1, ALIVE)] {
+        let input = Input {
+            bytes: &bytes,
+            failing_reads: &[],
+            failing_writes: &[failing],
+        };
+        let output = serve(alloc, &input)?;
+        assert_eq!(rt; output.served, Served::WriteFault);
+        assert_eq!(rt; output.written.as_slice(), wanted);
     }
-}
-
-/// The first place at which something else comes of them, or how long they are.
-fn first_other_cut(alloc: Global) -> Result<usize, Fail> {
-    for end in 0..BOTH.len() {
-        let told = serve(alloc, &Input::of(&BOTH[..end]), &mut NoGate)?;
-        if told.as_slice() != cut_at(end) {
-            return Ok(end);
-        }
-    }
-    Ok(BOTH.len())
-}
-
-/// So many copies of these bytes behind others.
-fn repeated(alloc: Global, front: &[u8], bytes: &[u8], count: u64) -> Result<Vec<u8>, AllocError> {
-    let mut all = Vec::from_slice(alloc, front)?;
-    for _ in 0..count {
-        all.extend_from_slice(bytes)?;
-    }
-    Ok(all)
-}
-
-const ALIVE: &[u8] =
-    b"HTTP/1.1 200 OK\r\nContent-Length: 14\r\nContent-Type: application/json\r\n\r\n{\"alive\":true}";
-
-const LAST: &[u8] =
-    b"HTTP/1.1 200 OK\r\nConnection: close\r\nContent-Length: 14\r\nContent-Type: application/json\r\n\r\n{\"alive\":true}";
-
-/// Whether the thousandth reply to many pings closes.
-fn the_thousandth_closes(alloc: Global) -> Result<bool, Fail> {
-    let input = repeated(alloc, b"", PING, 1_001)?;
-    let mut wanted = repeated(alloc, b"Full|", ALIVE, 999)?;
-    wanted.extend_from_slice(LAST)?;
-    Ok(serve(alloc, &Input::of(&input), &mut NoGate)? == wanted)
+    Ok(())
 }
 
 #[test]
-fn a_stream_may_end_at_each_byte_and_has_a_thousand_replies(rt: HostRuntime) -> Result<(), Fail> {
-    assert_eq!(rt; first_other_cut(rt.alloc())?, BOTH.len());
-    assert!(rt; the_thousandth_closes(rt.alloc())?);
+fn a_failed_read_ends_what_was_answered(rt: HostRuntime) -> Result<(), Fail> {
+    let alloc = rt.alloc();
+    let bytes = both(alloc, PING, STATUS)?;
+    let replies = both(alloc, ALIVE, NO_TASK)?;
+    for (failing, wanted) in [(0, b"".as_slice()), (1, replies.as_slice())] {
+        let input = Input {
+            bytes: &bytes,
+            failing_reads: &[failing],
+            failing_writes: &[],
+        };
+        let output = serve(alloc, &input)?;
+        assert_eq!(rt; output.served, Served::ReadFault);
+        assert_eq!(rt; output.written.as_slice(), wanted);
+    }
+    Ok(())
+}
+
+#[test]
+fn a_stream_may_end_at_each_byte(rt: HostRuntime) -> Result<(), Fail> {
+    let alloc = rt.alloc();
+    let input = both(alloc, PING, STATUS)?;
+    for end in 0..input.len() {
+        let output = serve(alloc, &Input::of(&input[..end]))?;
+        let served = if end == 0 || end == PING.len() {
+            Served::Closed
+        } else {
+            Served::EndedInside
+        };
+        let replies = if end < PING.len() {
+            b"".as_slice()
+        } else {
+            ALIVE
+        };
+        assert_eq!(rt; output.served, served, "cut at {end}");
+        assert_eq!(rt; output.written.as_slice(), replies, "cut at {end}");
+    }
+    Ok(())
+}
+
+#[test]
+fn each_stream_ends_as_it_has_to(rt: HostRuntime) -> Result<(), Fail> {
+    let rows: [(&[u8], Served, &[u8]); 6] = [
+        (
+            b"POST /api/queue/v1/task/x/cancel HTTP/1.1\r\nContent-Length: 1048577\r\n\r\n",
+            Served::WireFault(Wire::BodyTooLarge),
+            b"HTTP/1.1 413 Payload Too Large\r\nConnection: close\r\nContent-Length: 72\r\nContent-Type: application/json\r\n\r\n{\"code\":\"PayloadTooLarge\",\"details\":{},\"message\":\"the body is too long\"}",
+        ),
+        (
+            b"POST /api/queue/v1/task/x/cancel HTTP/1.1\r\nTransfer-Encoding: chunked\r\n\r\n",
+            Served::WireFault(Wire::NoLength),
+            b"HTTP/1.1 411 Length Required\r\nConnection: close\r\nContent-Length: 69\r\nContent-Type: application/json\r\n\r\n{\"code\":\"LengthRequired\",\"details\":{},\"message\":\"a length is needed\"}",
+        ),
+        (
+            b"GET\r\n\r\n",
+            Served::WireFault(Wire::HeadFault),
+            b"HTTP/1.1 400 Bad Request\r\nConnection: close\r\nContent-Length: 57\r\nContent-Type: application/json\r\n\r\n{\"code\":\"BadHead\",\"details\":{},\"message\":\"not a request\"}",
+        ),
+        (b"\r\n", Served::Closed, b""),
+        (
+            b"GET /api/queue/v1/task/AAAAAAAAQACAAAAAAAAAAQ/status HTTP/1.1\r\nConnection: close\r\n\r\nGET /api/queue/v1/ping HTTP/1.1\r\n\r\n",
+            Served::Closed,
+            b"HTTP/1.1 404 Not Found\r\nConnection: close\r\nContent-Length: 119\r\nContent-Type: application/json\r\n\r\n{\"code\":\"ResourceNotFound\",\"details\":{\"kind\":\"task\",\"name\":\"AAAAAAAAQACAAAAAAAAAAQ\"},\"message\":\"nothing has that name\"}",
+        ),
+        (
+            b"GET /api/queue/v1/ping HTTP/1.1\r\nAuthorization: x\r\n\r\n",
+            Served::Closed,
+            b"HTTP/1.1 401 Unauthorized\r\nContent-Length: 106\r\nContent-Type: application/json\r\n\r\n{\"code\":\"AuthenticationFailed\",\"details\":{\"reason\":\"BadHeader\"},\"message\":\"the caller is not who it says\"}",
+        ),
+    ];
+    for (input, served, written) in rows {
+        let output = serve(rt.alloc(), &Input::of(input))?;
+        assert_eq!(rt; output.served, served);
+        assert_eq!(rt; output.written.as_slice(), written);
+    }
+    Ok(())
+}
+
+#[test]
+fn the_thousandth_reply_closes(rt: HostRuntime) -> Result<(), Fail> {
+    let alloc = rt.alloc();
+    let mut input = Vec::new(alloc);
+    let mut replies = Vec::new(alloc);
+    for place in 0..1_001 {
+        input.extend_from_slice(PING)?;
+        if place < 999 {
+            replies.extend_from_slice(ALIVE)?;
+        }
+    }
+    replies.extend_from_slice(
+        b"HTTP/1.1 200 OK\r\nConnection: close\r\nContent-Length: 14\r\nContent-Type: application/json\r\n\r\n{\"alive\":true}",
+    )?;
+    let output = serve(alloc, &Input::of(&input))?;
+    assert_eq!(rt; output.served, Served::Full);
+    assert_eq!(rt; output.written.len(), replies.len());
+    assert!(rt; output.written == replies);
     Ok(())
 }
 
@@ -296,35 +287,21 @@ impl Desk for Busy {
     ghost legal = { λ busy opening seen mine stood. stood.0 };
 }
 
-/// What comes of a ping at this desk, and how many asks are left.
-fn ask_busy(alloc: Global, desk: &mut Busy) -> Result<(Vec<u8>, u64), AllocError>
-    requires { REQUESTS ≤ desk.old.left }
-{
-    let told = serve_over(alloc, &Input::of(PING), desk, &mut NoGate)?;
-    Ok((told, desk.left()))
-}
-
-/// The same of a farm that begins and can be asked a thousand times.
-fn ask_between(alloc: Global) -> Result<(Vec<u8>, u64), Fail> {
-    let others = SlugId::read(b"AAAAAAAAQACAAAAAAAAAAA").ok_or("a slugid")?;
-    match read_farm(alloc, b"") {
-        Ok(config) => {
-            let mut desk = Busy {
-                farm: Bare::new(alloc, config),
-                others,
-                left: 1_000,
-            };
-            Ok(ask_busy(alloc, &mut desk)?)
-        }
-        Err(_) => Err(Fail::from("no farm")),
-    }
-}
-
 #[test]
 fn others_may_ask_between(rt: HostRuntime) -> Result<(), Fail> {
-    let (told, left) = ask_between(rt.alloc())?;
-    assert!(rt; told.as_slice() == ONE);
-    assert_eq!(rt; left, 999);
+    let alloc = rt.alloc();
+    let Some(others) = SlugId::read(b"AAAAAAAAQACAAAAAAAAAAA") else {
+        return Err(Fail::from("no slugid"));
+    };
+    let mut desk = Busy {
+        farm: Bare::new(alloc, config(alloc)?),
+        others,
+        left: 1_000,
+    };
+    let output = serve_over(alloc, &Input::of(PING), &mut desk, &mut NoGate)?;
+    assert_eq!(rt; output.served, Served::Closed);
+    assert_eq!(rt; output.written.as_slice(), ALIVE);
+    assert_eq!(rt; desk.left(), 999);
     Ok(())
 }
 
@@ -345,33 +322,45 @@ impl Gate for Notebook {
     }
 }
 
-/// What it keeps, as a text.
-fn kept_by(alloc: Global, gate: &Notebook) -> Result<String, AllocError> {
-    if gate.is_lost {
-        return Err(AllocError);
-    }
-    format!(in alloc; "{:?}", gate.kept.as_slice())
-}
-
-/// What the gate is told where two pings are served, of which this write fails.
-fn told_of(alloc: Global, fails: &str) -> Result<String, Fail> {
-    let pings = repeated(alloc, b"", PING, 2)?;
+/// What the gate is told where this input is served.
+fn told_of(alloc: Global, input: &Input) -> Result<Vec<When>, Fail> {
+    let mut desk = Solo::new(Bare::new(alloc, config(alloc)?));
     let mut gate = Notebook {
         kept: Vec::new(alloc),
         is_lost: false,
     };
-    let _ = serve(alloc, &input_of(&pings, fails), &mut gate)?;
-    Ok(kept_by(alloc, &gate)?)
+    let _ = serve_over(alloc, input, &mut desk, &mut gate)?;
+    if gate.is_lost {
+        return Err(Fail::from("memory ran out"));
+    }
+    Ok(gate.kept)
 }
 
 #[test]
-fn the_gate_is_told_of_each_ask_and_of_each_reply_that_is_written(
-    rt: HostRuntime,
-) -> Result<(), Fail> {
-    assert_eq!(rt;
-        told_of(rt.alloc(), "-")?.as_str(),
-        "[Asked(0), Answered(0), Asked(1), Answered(1)]"
-    );
-    assert_eq!(rt; told_of(rt.alloc(), "write 0")?.as_str(), "[Asked(0)]");
+fn the_gate_is_told_of_each_ask_and_reply(rt: HostRuntime) -> Result<(), Fail> {
+    let alloc = rt.alloc();
+    let pings = both(alloc, PING, PING)?;
+    let told = told_of(alloc, &Input::of(&pings))?;
+    let wanted = [
+        When::Asked(0),
+        When::Answered(0),
+        When::Asked(1),
+        When::Answered(1),
+    ];
+    assert_eq!(rt; told.as_slice(), wanted.as_slice());
+    Ok(())
+}
+
+#[test]
+fn the_gate_is_not_told_of_a_reply_that_failed(rt: HostRuntime) -> Result<(), Fail> {
+    let alloc = rt.alloc();
+    let pings = both(alloc, PING, PING)?;
+    let input = Input {
+        bytes: &pings,
+        failing_reads: &[],
+        failing_writes: &[0],
+    };
+    let told = told_of(alloc, &input)?;
+    assert_eq!(rt; told.as_slice(), [When::Asked(0)].as_slice());
     Ok(())
 }

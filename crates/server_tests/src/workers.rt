@@ -5,16 +5,18 @@ ghost use Rattle.shared_desk.specs.Standing.{fresh_token};
 ghost use Rattle.farm_machine.specs.State.{State};
 
 use farm_core::{Bare, bare_farms_cross_threads};
-use farm_files::read_farm;
+use farm_machine::config::Config;
+use farm_machine::grants::Grants;
 use farm_server::NoGate;
 use farm_serving::{Ended, MemoryListener, Returned, Worker, serve};
-use farm_text::{ListClock, ListDraws};
+use farm_text::{ListClock, ListDraws, Text};
+use hawk_auth::ClientBook;
+use hook_fire::HookBook;
 use http_wire::{Joined, MemoryLink, MemorySink, MemorySource};
+use role_expand::RoleSet;
 use shared_desk::{Shared, Token};
 use std::alloc::{AllocError, Global};
-use std::sync::Wait;
 use std::test::Fail;
-use std::thread::Threads;
 
 const PING: &[u8] = b"GET /api/queue/v1/ping HTTP/1.1\r\n\r\n";
 
@@ -28,52 +30,20 @@ mod gates;
 /// A worker with a door in memory.
 type MemoryWorker = Worker<MemoryListener, ListClock, ListDraws, NoGate>;
 
-/// What comes over a link, and which of its reads and writes fail.
-#[derive(Clone, Copy)]
-struct Input<'a> {
-    pieces: &'a [&'a [u8]],
-    failing_reads: &'a [u64],
-    failing_writes: &'a [u64],
-}
-
-/// These bytes, one behind the other.
-fn joined(alloc: Global, pieces: &[&[u8]]) -> Result<Vec<u8>, AllocError> {
+/// A link with these bytes to read, of which the reads and writes of these numbers fail.
+fn link(
+    alloc: Global,
+    pieces: &[&[u8]],
+    reads: &[u64],
+    writes: &[u64],
+) -> Result<MemoryLink, AllocError> {
     let mut bytes = Vec::new(alloc);
     for piece in pieces {
         bytes.extend_from_slice(piece)?;
     }
-    Ok(bytes)
-}
-
-/// A link over which this comes.
-fn link(alloc: Global, input: &Input) -> Result<MemoryLink, AllocError> {
-    let bytes = joined(alloc, input.pieces)?;
-    let reads = Vec::from_slice(alloc, input.failing_reads)?;
-    let writes = Vec::from_slice(alloc, input.failing_writes)?;
-    let sink = MemorySink::new(alloc, 1_000, writes)?;
-    let source = MemorySource::new(bytes, reads, 8_192);
+    let source = MemorySource::new(bytes, Vec::from_slice(alloc, reads)?, 8_192);
+    let sink = MemorySink::new(alloc, 1_000, Vec::from_slice(alloc, writes)?)?;
     Ok(Joined { source, sink })
-}
-
-/// A link over which these bytes come, and of which nothing fails.
-fn good_link(alloc: Global, pieces: &[&[u8]]) -> Result<MemoryLink, AllocError> {
-    link(
-        alloc,
-        &Input {
-            pieces,
-            failing_reads: &[],
-            failing_writes: &[],
-        },
-    )
-}
-
-/// Links over which this comes.
-fn links(alloc: Global, inputs: &[Input]) -> Result<Vec<MemoryLink>, AllocError> {
-    let mut links = Vec::new(alloc);
-    for input in inputs {
-        links.push(link(alloc, input)?)?;
-    }
-    Ok(links)
 }
 
 /// A worker at whose door these links come, the last of them first, and whose accepts of these numbers fail.
@@ -82,13 +52,35 @@ fn worker(
     coming: Vec<MemoryLink>,
     failing: &[u64],
 ) -> Result<MemoryWorker, AllocError> {
-    let failing = Vec::from_slice(alloc, failing)?;
-    let door = MemoryListener::new(alloc, coming, failing, Vec::new(alloc))?;
     Ok(Worker {
-        door,
+        door: MemoryListener::new(
+            alloc,
+            coming,
+            Vec::from_slice(alloc, failing)?,
+            Vec::new(alloc),
+        )?,
         clock: ListClock::new(Vec::new(alloc)),
         draws: ListDraws::new(Vec::new(alloc)),
         gate: NoGate,
+    })
+}
+
+/// A configuration without roles.
+fn config(alloc: Global) -> Result<Config, Fail> {
+    let roles = RoleSet::build(alloc, Vec::new(alloc))
+        .ok()
+        .ok_or("no roles")?;
+    let clients = ClientBook::build(alloc, Vec::new(alloc))
+        .ok()
+        .ok_or("no clients")?;
+    Ok(Config {
+        host: Text::from_str(alloc, "localhost")?,
+        port: 8080,
+        claim_timeout: 1200,
+        max_tasks: 1_000_000,
+        roles: Grants::new(alloc, roles)?,
+        clients,
+        hooks: HookBook::new(alloc),
     })
 }
 
@@ -96,155 +88,100 @@ fn worker(
 fn desk(alloc: Global) -> Result<(Shared<Bare>, Token<Bare>), Fail>
     ensures { IfOk result (λ made. (made.1.desk ≡ made.0.desk) × (made.1.left ≡ 9223372036854775808)) }
 {
-    let Ok(config) = read_farm(alloc, b"") else {
-        return Err(Fail::new("no farm"));
-    };
-    match Shared::new(alloc, Bare::new(alloc, config)) {
+    match Shared::new(alloc, Bare::new(alloc, config(alloc)?)) {
         Ok(made) => Ok(made),
         Err(_) => Err(Fail::new("no memory")),
     }
 }
 
-/// How many replies at the beginning of what was written over a link say that the server is alive, and stay open.
-fn pings_of(back: &Returned) -> u64 {
-    let mut rest = back.link.sink.written();
-    let mut pings = 0u64;
-    for _ in 0..back.asked {
+/// Whether so many messages were asked over the link that came back, and so many replies at its beginning say that the server
+/// is alive, and stay open.
+fn was_alive(back: &Returned, asked: u64, pings: u64) -> bool {
+    let written = back.link.sink.written();
+    let mut rest = written;
+    for _ in 0..pings {
         match rest.strip_prefix(ALIVE) {
             Some(after) => rest = after,
-            None => return pings,
+            None => return false,
         }
-        pings = pings.saturating_add(1);
     }
-    pings
-}
-
-/// Of each link that came back to a worker's door, how many messages were asked over it, and how many such replies there are.
-fn links_told(alloc: Global, worker: &MemoryWorker) -> Result<String, AllocError> {
-    let mut told = String::from_str(alloc, ":")?;
-    for back in worker.door.returned() {
-        let one = format!(in alloc; " {}/{}", pings_of(back), back.asked)?;
-        told.push_str(&one)?;
-    }
-    Ok(told)
-}
-
-/// How many messages were asked, how many accepts, reads and writes failed, how many messages were no requests, for how many there was no
-/// memory, and how many asks a desk counted.
-fn ended_told(alloc: Global, ended: &Ended, asked: u64) -> Result<String, AllocError> {
-    format!(in alloc;
-        "{} {} {} {} {} {} {asked}",
-        ended.served,
-        ended.accept_faults,
-        ended.read_faults,
-        ended.write_faults,
-        ended.wire_faults,
-        ended.no_memory
-    )
-}
-
-/// That, and then the same of the links of each worker.
-fn told(
-    alloc: Global,
-    ended: &Ended,
-    asked: u64,
-    workers: &[MemoryWorker],
-) -> Result<String, AllocError> {
-    let mut told = ended_told(alloc, ended, asked)?;
-    for worker in workers {
-        let links = links_told(alloc, worker)?;
-        told.push_str(&links)?;
-    }
-    Ok(told)
-}
-
-/// What comes of workers at a desk, each of whom accepts so many times.
-fn serve_at<R: Threads + Wait + Sync>(
-    rt: &R,
-    alloc: Global,
-    shared: &Shared<Bare>,
-    token: Token<Bare>,
-    workers: &mut [MemoryWorker],
-    connections: u64,
-) -> Result<String, AllocError>
-    requires own { token.desk ≡ shared.now.desk }
-    requires left { length workers.old * (connections * REQUESTS) ≤ token.left }
-{
-    bare_farms_cross_threads();
-    let (token, ended) = serve(rt, alloc, shared, token, workers, connections);
-    told(alloc, &ended, token.asked(), workers)
-}
-
-/// The same at a desk of an empty farm.
-fn serve_all<R: Threads + Wait + Sync>(
-    rt: &R,
-    alloc: Global,
-    workers: &mut [MemoryWorker],
-    connections: u64,
-) -> Result<String, Fail>
-    requires { length workers.old * (connections * REQUESTS) ≤ 9223372036854775808 }
-{
-    let (shared, token) = desk(alloc)?;
-    Ok(serve_at(rt, alloc, &shared, token, workers, connections)?)
-}
-
-/// The links of one worker, the last of them first: the first read of one fails, and the second write of another.
-const INPUTS: &[Input<'static>] = &[
-    Input {
-        pieces: &[b"no request\r\n\r\n"],
-        failing_reads: &[],
-        failing_writes: &[],
-    },
-    Input {
-        pieces: &[PING, PING],
-        failing_reads: &[],
-        failing_writes: &[1],
-    },
-    Input {
-        pieces: &[PING],
-        failing_reads: &[1],
-        failing_writes: &[],
-    },
-    Input {
-        pieces: &[PING, PING, LAST_PING, PING],
-        failing_reads: &[],
-        failing_writes: &[],
-    },
-];
-
-/// What comes of one worker with these links, whose second accept fails.
-fn one_served<R: Threads + Wait + Sync>(rt: &R, alloc: Global) -> Result<String, Fail> {
-    let coming = links(alloc, INPUTS)?;
-    let mut workers = [worker(alloc, coming, &[1])?];
-    serve_all(rt, alloc, &mut workers, 6)
-}
-
-/// A worker at whose door two links come: one with this many pings, then one with a single ping.
-fn pinged(alloc: Global, pings: &[&[u8]]) -> Result<MemoryWorker, AllocError> {
-    let one = good_link(alloc, &[PING])?;
-    let more = good_link(alloc, pings)?;
-    worker(alloc, vec![in alloc; one, more]?, &[])
-}
-
-/// What comes of four workers, of whom each next one has a ping more.
-fn four_served<R: Threads + Wait + Sync>(rt: &R, alloc: Global) -> Result<String, Fail> {
-    let mut workers = [
-        pinged(alloc, &[PING])?,
-        pinged(alloc, &[PING, PING])?,
-        pinged(alloc, &[PING, PING, PING])?,
-        pinged(alloc, &[PING, PING, PING, PING])?,
-    ];
-    serve_all(rt, alloc, &mut workers, 3)
+    back.asked == asked
 }
 
 #[test]
-fn one_worker_serves_and_four_do(rt: HostRuntime) -> Result<(), Fail> {
-    let one = one_served(&rt, rt.alloc())?;
-    assert_eq!(rt; one.as_str(), "6 2 1 1 1 0 6: 2/3 1/1 1/2 0/0");
-    let four = four_served(&rt, rt.alloc())?;
+fn one_worker(rt: HostRuntime) -> Result<(), Fail> {
+    let alloc = rt.alloc();
+    let (shared, token) = desk(alloc)?;
+    let mut coming = Vec::new(alloc);
+    coming.push(link(alloc, &[b"no request\r\n\r\n"], &[], &[])?)?;
+    coming.push(link(alloc, &[PING, PING], &[], &[1])?)?;
+    coming.push(link(alloc, &[PING], &[1], &[])?)?;
+    coming.push(link(alloc, &[PING, PING, LAST_PING, PING], &[], &[])?)?;
+    let mut workers = [worker(alloc, coming, &[1])?];
+    bare_farms_cross_threads();
+    let (token, ended) = serve(&rt, alloc, &shared, token, &mut workers, 6);
     assert_eq!(rt;
-        four.as_str(),
-        "14 4 0 0 0 0 14: 1/1 1/1: 2/2 1/1: 3/3 1/1: 4/4 1/1"
+        ended,
+        Ended {
+            served: 6,
+            accept_faults: 2,
+            read_faults: 1,
+            write_faults: 1,
+            wire_faults: 1,
+            no_memory: 0,
+        }
     );
+    assert_eq!(rt; token.asked(), 6);
+    let back = workers[0].door.returned();
+    assert!(rt; back.len() == 4);
+    assert!(rt; was_alive(&back[0], 3, 2) && was_alive(&back[1], 1, 1));
+    assert!(rt; was_alive(&back[2], 2, 1) && back[3].asked == 0);
+    Ok(())
+}
+
+/// A worker at whose door two links come: one with this many pings, then one with a single ping.
+fn pinged(alloc: Global, pings: u64) -> Result<MemoryWorker, AllocError> {
+    let mut bytes = Vec::new(alloc);
+    for _ in 0..pings {
+        bytes.extend_from_slice(PING)?;
+    }
+    let mut coming = Vec::new(alloc);
+    coming.push(link(alloc, &[PING], &[], &[])?)?;
+    coming.push(link(alloc, &[bytes.as_slice()], &[], &[])?)?;
+    worker(alloc, coming, &[])
+}
+
+/// Whether two links came back, over which this many pings were answered, and then one.
+fn was_pinged(worker: &MemoryWorker, pings: u64) -> bool {
+    let back = worker.door.returned();
+    back.len() == 2 && was_alive(&back[0], pings, pings) && was_alive(&back[1], 1, 1)
+}
+
+#[test]
+fn four_workers(rt: HostRuntime) -> Result<(), Fail> {
+    let alloc = rt.alloc();
+    let (shared, token) = desk(alloc)?;
+    let mut workers = [
+        pinged(alloc, 1)?,
+        pinged(alloc, 2)?,
+        pinged(alloc, 3)?,
+        pinged(alloc, 4)?,
+    ];
+    bare_farms_cross_threads();
+    let (token, ended) = serve(&rt, alloc, &shared, token, &mut workers, 3);
+    assert_eq!(rt;
+        ended,
+        Ended {
+            served: 14,
+            accept_faults: 4,
+            read_faults: 0,
+            write_faults: 0,
+            wire_faults: 0,
+            no_memory: 0,
+        }
+    );
+    assert_eq!(rt; token.asked(), 14);
+    assert!(rt; was_pinged(&workers[0], 1) && was_pinged(&workers[1], 2));
+    assert!(rt; was_pinged(&workers[2], 3) && was_pinged(&workers[3], 4));
     Ok(())
 }

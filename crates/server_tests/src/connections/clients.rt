@@ -1,79 +1,298 @@
 //! Calls that clients sign, over connections in memory. The MACs and the hash were made by Python's hmac and hashlib.
-use super::rows::first_other_of;
-use std::alloc::{AllocError, Global};
-use std::test::Fail;
+use super::tasks::{CREATED, FIRST_STATUS, FIRST_TASK, PLAIN, STATUS, THREE_SCOPES, written_at};
+use super::*;
+use hawk_auth::Client;
+use hook_fire::HookBook;
+use role_expand::Role;
+use scope_sets::Scope;
 
-/// A farm, and its clients: one that makes tasks, one with the scope `a` alone, one that is over, one that is disabled, and one whose role
-/// gives too much. Their tokens are the same, so that a MAC is good for any of them.
-const CLIENTS: &str = r#"[farm]
-host = "Farm.Example"
-[[client]]
-id = "maker"
-token = "0123456789012345678901234567"
-scopes = ["queue:create-task:project:none", "queue:scheduler-id:-", "queue:create-task:lowest:prov/wt"]
-expires = "2024-01-01T00:00:00.001Z"
-[[client]]
-id = "limited"
-token = "0123456789012345678901234567"
-scopes = ["a"]
-expires = "2024-01-01T00:15:01.001Z"
-[[client]]
-id = "old"
-token = "0123456789012345678901234567"
-scopes = ["*"]
-expires = "2024-01-01T00:00:00Z"
-[[client]]
-id = "off"
-token = "0123456789012345678901234567"
-scopes = ["*"]
-expires = "2024-01-01T00:00:00.001Z"
-disabled = true
-[[client]]
-id = "many"
-token = "0123456789012345678901234567"
-scopes = []
-expires = "2024-01-01T00:00:00.001Z"
-[[role]]
-id = "client-id:many"
-"#;
+const PING: &str = "GET /api/queue/v1/ping";
 
-/// The file of that farm, in which the role of the last client has ten thousand scopes.
-fn file(alloc: Global) -> Result<String, AllocError> {
-    let mut file = String::from_str(alloc, CLIENTS)?;
-    file.push_str("scopes = [")?;
-    for place in 0..10_000u32 {
-        let scope = format!(in alloc; "'s{place}',")?;
-        file.push_str(&scope)?;
-    }
-    file.push_str("]\n")?;
-    Ok(file)
+/// The token of each client here, so that a MAC is good for any of them.
+const TOKEN: &str = "0123456789012345678901234567";
+
+/// The MAC of a ping without a hash and an ext.
+const PING_MAC: &str = "MiMK5w0yxc5JmrQZNMwVTN9Ag9h+ltyrchYGizZ1MxA=";
+
+/// The hash of the smallest definition as `application/json`, and the MAC of its createTask with that hash.
+const HASH: &str = r#", hash="yfjHG7pFXsPAyOH5n9pKTpqyBJaub+9k4+m1GfE+m8g=""#;
+
+const CREATE_MAC: &str = "bSpuHhdIGhwDPwSDDeJ5WCadSRC3j/iisGIjY6OHSHE=";
+
+/// A call of a client on a connection of its own, and the reply to it.
+#[derive(Clone, Copy)]
+struct Signed<'a> {
+    /// The moment that the clock tells.
+    at: u64,
+    id: &'a str,
+    /// The method and the target.
+    request: &'a str,
+    /// The attributes of the header that may be left out.
+    more: &'a str,
+    mac: &'a str,
+    /// The end of the body, behind the smallest definition but for its last brace; a ping or a status has no body.
+    body: &'a str,
+    /// The status of the reply, with its reason.
+    status: &'a str,
+    /// The body of the reply, in which `@` stands for the first task's status while it is pending.
+    reply: &'a str,
 }
 
-/// Clients are let in by their signatures, or told what they lack. The last moment does not fall, so the last ping is as late as the one
-/// before.
-const LET_IN: &str =
-    r#"0|PUT /api/queue/v1/task/AAAAAAAAQACAAAAAAAAAAA~hawk id="maker", ts="1704067200", nonce="n1", hash="yfjHG7pFXsPAyOH5n9pKTpqyBJaub+9k4+m1GfE+m8g=", mac="bSpuHhdIGhwDPwSDDeJ5WCadSRC3j/iisGIjY6OHSHE="|{"created":"2024-01-01T00:00:00.000Z","deadline":"2024-01-02T00:00:00.000Z","metadata":{"description":"d","name":"n","owner":"o@example.com","source":"https://example.com/"},"payload":{},"taskQueueId":"prov/wt"}|200 OK|{"status":{"deadline":"2024-01-02T00:00:00.000Z","expires":"2025-01-01T00:00:00.000Z","projectId":"none","provisionerId":"prov","retriesLeft":5,"runs":[{"reasonCreated":"scheduled","runId":0,"scheduled":"2024-01-01T00:00:00.000Z","state":"pending"}],"schedulerId":"-","state":"pending","taskGroupId":"AAAAAAAAQACAAAAAAAAAAA","taskId":"AAAAAAAAQACAAAAAAAAAAA","taskQueueId":"prov/wt","workerType":"wt"}}
-0|PUT /api/queue/v1/task/AAAAAAAAQACAAAAAAAAAAA~hawk id="maker", ts="1704067200", nonce="n1", hash="yfjHG7pFXsPAyOH5n9pKTpqyBJaub+9k4+m1GfE+m8g=", mac="bSpuHhdIGhwDPwSDDeJ5WCadSRC3j/iisGIjY6OHSHE="|{"created":"2024-01-01T00:00:00.000Z","deadline":"2024-01-02T00:00:00.000Z","metadata":{"description":"d","name":"n","owner":"o@example.com","source":"https://example.com/"},"payload":{},"taskQueueId":"prov/wt","payload":{"a":1}}|401 Unauthorized|{"code":"AuthenticationFailed","details":{"reason":"BadHash"},"message":"the caller is not who it says"}
-0|GET /api/queue/v1/ping~hawk id="many", ts="1704067200", nonce="n1", mac="MiMK5w0yxc5JmrQZNMwVTN9Ag9h+ltyrchYGizZ1MxA="||403 Forbidden|{"code":"ExpansionLimit","details":{"limit":10000},"message":"too many scopes are derivable"}
-0|GET /api/queue/v1/task/AAAAAAAAQACAAAAAAAAAAA/status~hawk id="limited", ts="1704067200", nonce="n1", mac="hDam0VJ1lyBJE65jiq2mfJEzPUeJDbsRbaGUe66d3gs="||403 Forbidden|{"code":"InsufficientScopes","details":{"missing":"queue:status:AAAAAAAAQACAAAAAAAAAAA"},"message":"scopes are missing"}
-0|GET /api/queue/v1/ping~hawk id="limited", ts="1704067200", nonce="n1", mac="MiMK5w0yxc5JmrQZNMwVTN9Ag9h+ltyrchYGizZ1MxA="||200 OK|{"alive":true}
-900999|GET /api/queue/v1/ping~hawk id="limited", ts="1704067200", nonce="n1", mac="MiMK5w0yxc5JmrQZNMwVTN9Ag9h+ltyrchYGizZ1MxA="||200 OK|{"alive":true}
-901000|GET /api/queue/v1/ping~hawk id="limited", ts="1704067200", nonce="n1", mac="MiMK5w0yxc5JmrQZNMwVTN9Ag9h+ltyrchYGizZ1MxA="||401 Unauthorized|{"code":"AuthenticationFailed","details":{"now":1704068101,"reason":"Skew","ts":1704067200},"message":"the caller is not who it says"}
-0|GET /api/queue/v1/ping~hawk id="limited", ts="1704067200", nonce="n1", mac="MiMK5w0yxc5JmrQZNMwVTN9Ag9h+ltyrchYGizZ1MxA="||401 Unauthorized|{"code":"AuthenticationFailed","details":{"now":1704068101,"reason":"Skew","ts":1704067200},"message":"the caller is not who it says"}"#;
+/// A ping that is let in.
+fn ping(id: &str) -> Signed<'_> {
+    Signed {
+        at: CREATED,
+        id,
+        request: PING,
+        more: "",
+        mac: PING_MAC,
+        body: "",
+        status: "200 OK",
+        reply: "{\"alive\":true}",
+    }
+}
 
-/// Clients are refused for a reason.
-const REFUSED: &str =
-    r#"0|GET /api/queue/v1/ping~hawk id="nobody", ts="1704067200", nonce="n1", mac="MiMK5w0yxc5JmrQZNMwVTN9Ag9h+ltyrchYGizZ1MxA="||401 Unauthorized|{"code":"AuthenticationFailed","details":{"reason":"UnknownClient"},"message":"the caller is not who it says"}
-0|GET /api/queue/v1/ping~hawk id="off", ts="1704067200", nonce="n1", mac="MiMK5w0yxc5JmrQZNMwVTN9Ag9h+ltyrchYGizZ1MxA="||401 Unauthorized|{"code":"AuthenticationFailed","details":{"reason":"Disabled"},"message":"the caller is not who it says"}
-0|GET /api/queue/v1/ping~hawk id="old", ts="1704067200", nonce="n1", mac="MiMK5w0yxc5JmrQZNMwVTN9Ag9h+ltyrchYGizZ1MxA="||401 Unauthorized|{"code":"AuthenticationFailed","details":{"reason":"Expired"},"message":"the caller is not who it says"}
-0|GET /api/queue/v1/ping~hawk id="limited", ts="1704067200", nonce="n1", mac="bSpuHhdIGhwDPwSDDeJ5WCadSRC3j/iisGIjY6OHSHE="||401 Unauthorized|{"code":"AuthenticationFailed","details":{"reason":"BadMac"},"message":"the caller is not who it says"}
-0|GET /api/queue/v1/ping~hawk id="limited", ts="1704067200", nonce="n1", ext="some-app-ext-data", mac="ZtLk8cG8z3r5Ne5FgR58ikk8grxxfKUyZL0XYC1paDk="||401 Unauthorized|{"code":"AuthenticationFailed","details":{"reason":"BadExt"},"message":"the caller is not who it says"}
-0|GET /api/queue/v1/ping~hawk id="limited", ts="1704067200", nonce="n1", ext="eyJhdXRob3JpemVkU2NvcGVzIjpbIioiXX0=", mac="oo5G0ru6JYtmVZ1s0ikUysreEC9x4tgk/4wsaYjpm8Y="||401 Unauthorized|{"code":"AuthenticationFailed","details":{"missing":{"AllOf":["*"]},"reason":"Oversteps"},"message":"the caller is not who it says"}"#;
+/// A ping that is refused.
+fn refused<'a>(id: &'a str, reply: &'a str) -> Signed<'a> {
+    Signed {
+        status: "401 Unauthorized",
+        reply,
+        ..ping(id)
+    }
+}
+
+/// The bytes of a request.
+fn request_of(alloc: Global, call: &Signed) -> Result<String, AllocError> {
+    let front = if call.body.is_empty() { "" } else { PLAIN };
+    let length = front.len() + call.body.len();
+    format!(in alloc;
+        "{} HTTP/1.1\r\nAuthorization: hawk id=\"{}\", ts=\"1704067200\", nonce=\"n1\"{}, mac=\"{}\"\r\nContent-Type: Application/JSON; charset=utf-8\r\nContent-Length: {length}\r\n\r\n{front}{}",
+        call.request, call.id, call.more, call.mac, call.body
+    )
+}
+
+/// The bytes of its reply.
+fn reply_of(alloc: Global, call: &Signed) -> Result<String, AllocError> {
+    let body = match call.reply.split_once('@') {
+        Some((before, behind)) => format!(in alloc; "{before}{STATUS}{behind}")?,
+        None => String::from_str(alloc, call.reply)?,
+    };
+    let length = body.len();
+    format!(in alloc;
+        "HTTP/1.1 {}\r\nContent-Length: {length}\r\nContent-Type: application/json\r\n\r\n{body}",
+        call.status
+    )
+}
+
+/// Scopes of these texts.
+fn scopes(alloc: Global, texts: &[&str]) -> Result<Vec<Scope>, Fail> {
+    let mut scopes = Vec::new(alloc);
+    for text in texts {
+        scopes.push(Scope::new(String::from_str(alloc, text)?).ok_or("a scope")?)?;
+    }
+    Ok(scopes)
+}
+
+/// A client with these scopes, that expires at this moment.
+fn client(
+    alloc: Global,
+    id: &str,
+    texts: &[&str],
+    expires: u64,
+    disabled: bool,
+) -> Result<Client, Fail> {
+    Ok(Client {
+        id: Text::from_str(alloc, id)?,
+        token: Text::from_str(alloc, TOKEN)?,
+        scopes: scopes(alloc, texts)?,
+        expires: Moment::from_millis(expires).ok_or("a moment")?,
+        disabled,
+    })
+}
+
+/// Clients: one that makes tasks, one with the scope `a` alone, one that is over, one that is disabled, and one whose role gives too much.
+fn clients(alloc: Global) -> Result<ClientBook, Fail> {
+    let mut clients = Vec::new(alloc);
+    clients.push(client(alloc, "maker", &THREE_SCOPES, CREATED + 1, false)?)?;
+    clients.push(client(alloc, "limited", &["a"], CREATED + 901_001, false)?)?;
+    clients.push(client(alloc, "old", &["*"], CREATED, false)?)?;
+    clients.push(client(alloc, "off", &["*"], CREATED + 1, true)?)?;
+    clients.push(client(alloc, "many", &[], CREATED + 1, false)?)?;
+    Ok(ClientBook::build(alloc, clients).ok().ok_or("clients")?)
+}
+
+/// The role of the last client, with ten thousand scopes.
+fn roles(alloc: Global) -> Result<RoleSet, Fail> {
+    let mut scopes = Vec::new(alloc);
+    for place in 0..10_000u32 {
+        scopes.push(Scope::new(format!(in alloc; "s{place}")?).ok_or("a scope")?)?;
+    }
+    let id = String::from_str(alloc, "client-id:many")?;
+    let roles = vec![in alloc; Role { id, scopes }]?;
+    Ok(RoleSet::build(alloc, roles).ok().ok_or("roles")?)
+}
+
+/// A farm with these clients.
+fn farm(alloc: Global) -> Result<Solo<Bare>, Fail> {
+    let config = Config {
+        host: Text::from_str(alloc, "Farm.Example")?,
+        port: 8080,
+        claim_timeout: 1200,
+        max_tasks: 1_000_000,
+        roles: Grants::new(alloc, roles(alloc)?)?,
+        clients: clients(alloc)?,
+        hooks: HookBook::new(alloc),
+    };
+    Ok(Solo::new(Bare::new(alloc, config)))
+}
+
+/// Whether a desk gives the reply to a call.
+fn is_answered(alloc: Global, desk: &mut Solo<Bare>, call: &Signed) -> Result<bool, Fail> {
+    let at = Moment::from_millis(call.at).ok_or("a moment")?;
+    let request = request_of(alloc, call)?;
+    let written = written_at(alloc, desk, request.as_str().as_bytes(), at)?;
+    let wanted = reply_of(alloc, call)?;
+    Ok(written.as_slice() == wanted.as_str().as_bytes())
+}
+
+/// The MAC of a status of the first task.
+const STATUS_MAC: &str = "hDam0VJ1lyBJE65jiq2mfJEzPUeJDbsRbaGUe66d3gs=";
+
+/// The MAC of a ping with the ext `some-app-ext-data`.
+const BAD_EXT_MAC: &str = "ZtLk8cG8z3r5Ne5FgR58ikk8grxxfKUyZL0XYC1paDk=";
+
+/// The ext `{"authorizedScopes":["*"]}` in base64, and the MAC of a ping with it.
+const ALL_SCOPES: &str = r#", ext="eyJhdXRob3JpemVkU2NvcGVzIjpbIioiXX0=""#;
+
+const ALL_SCOPES_MAC: &str = "oo5G0ru6JYtmVZ1s0ikUysreEC9x4tgk/4wsaYjpm8Y=";
+
+const UNKNOWN: &str =
+    r#"{"code":"AuthenticationFailed","details":{"reason":"UnknownClient"},"message":"the caller is not who it says"}"#;
+
+const DISABLED: &str =
+    r#"{"code":"AuthenticationFailed","details":{"reason":"Disabled"},"message":"the caller is not who it says"}"#;
+
+const EXPIRED: &str =
+    r#"{"code":"AuthenticationFailed","details":{"reason":"Expired"},"message":"the caller is not who it says"}"#;
+
+const FORGED: &str =
+    r#"{"code":"AuthenticationFailed","details":{"reason":"BadMac"},"message":"the caller is not who it says"}"#;
+
+const BAD_EXT: &str =
+    r#"{"code":"AuthenticationFailed","details":{"reason":"BadExt"},"message":"the caller is not who it says"}"#;
+
+const NOT_THE_BODY: &str =
+    r#"{"code":"AuthenticationFailed","details":{"reason":"BadHash"},"message":"the caller is not who it says"}"#;
+
+const OVERSTEPS: &str =
+    r#"{"code":"AuthenticationFailed","details":{"missing":{"AllOf":["*"]},"reason":"Oversteps"},"message":"the caller is not who it says"}"#;
+
+const SKEW: &str =
+    r#"{"code":"AuthenticationFailed","details":{"now":1704068101,"reason":"Skew","ts":1704067200},"message":"the caller is not who it says"}"#;
+
+const LIMIT: &str =
+    r#"{"code":"ExpansionLimit","details":{"limit":10000},"message":"too many scopes are derivable"}"#;
+
+const LACKS: &str =
+    r#"{"code":"InsufficientScopes","details":{"missing":"queue:status:AAAAAAAAQACAAAAAAAAAAA"},"message":"scopes are missing"}"#;
+
+/// The createTask of the first task, signed with its hash.
+fn makes() -> Signed<'static> {
+    Signed {
+        request: FIRST_TASK,
+        more: HASH,
+        mac: CREATE_MAC,
+        body: "}",
+        reply: "{\"status\":@}",
+        ..ping("maker")
+    }
+}
+
+/// A body that is not the one which was signed.
+fn another_body() -> Signed<'static> {
+    Signed {
+        body: ",\"payload\":{\"a\":1}}",
+        status: "401 Unauthorized",
+        reply: NOT_THE_BODY,
+        ..makes()
+    }
+}
+
+/// A ping of the client with the scope `a` alone, refused, with this ext and this MAC.
+fn refused_ext<'a>(more: &'a str, mac: &'a str, reply: &'a str) -> Signed<'a> {
+    Signed {
+        more,
+        mac,
+        ..refused("limited", reply)
+    }
+}
+
+/// A ping of that client at this moment.
+fn ping_at(at: u64) -> Signed<'static> {
+    Signed {
+        at,
+        ..ping("limited")
+    }
+}
+
+/// A call of a client that is denied.
+fn denied<'a>(id: &'a str, request: &'a str, mac: &'a str, reply: &'a str) -> Signed<'a> {
+    Signed {
+        request,
+        mac,
+        status: "403 Forbidden",
+        reply,
+        ..ping(id)
+    }
+}
+
+/// The place of the first call that a desk answers otherwise, or how many there are.
+fn first_other_at(alloc: Global, desk: &mut Solo<Bare>, calls: &[Signed]) -> Result<usize, Fail> {
+    for (place, call) in calls.iter().enumerate() {
+        if !is_answered(alloc, desk, call)? {
+            return Ok(place);
+        }
+    }
+    Ok(calls.len())
+}
+
+/// The same of a new farm with the clients.
+fn first_other(alloc: Global, calls: &[Signed]) -> Result<usize, Fail> {
+    let mut desk = farm(alloc)?;
+    first_other_at(alloc, &mut desk, calls)
+}
 
 #[test]
-fn clients_are_let_in_by_their_signatures_or_refused(rt: HostRuntime) -> Result<(), Fail> {
-    let file = file(rt.alloc())?;
-    assert_eq!(rt; first_other_of(rt.alloc(), file.as_str(), LET_IN)?, "none");
-    assert_eq!(rt; first_other_of(rt.alloc(), file.as_str(), REFUSED)?, "none");
+fn clients_are_let_in_by_their_signatures(rt: HostRuntime) -> Result<(), Fail> {
+    // The last moment does not fall, so the last ping is as late as the one before.
+    let late = Signed {
+        at: CREATED + 901_000,
+        ..refused("limited", SKEW)
+    };
+    let calls = [
+        makes(),
+        another_body(),
+        denied("many", PING, PING_MAC, LIMIT),
+        denied("limited", FIRST_STATUS, STATUS_MAC, LACKS),
+        ping_at(CREATED),
+        ping_at(CREATED + 900_999),
+        late,
+        refused("limited", SKEW),
+    ];
+    assert_eq!(rt; first_other(rt.alloc(), &calls)?, 8);
+    Ok(())
+}
+
+#[test]
+fn clients_are_refused_for_a_reason(rt: HostRuntime) -> Result<(), Fail> {
+    let calls = [
+        refused("nobody", UNKNOWN),
+        refused("off", DISABLED),
+        refused("old", EXPIRED),
+        refused_ext("", CREATE_MAC, FORGED),
+        refused_ext(r#", ext="some-app-ext-data""#, BAD_EXT_MAC, BAD_EXT),
+        refused_ext(ALL_SCOPES, ALL_SCOPES_MAC, OVERSTEPS),
+    ];
+    assert_eq!(rt; first_other(rt.alloc(), &calls)?, 6);
     Ok(())
 }

@@ -1,18 +1,13 @@
 //! Requests over connections in memory, line by line, with the replies that are wanted.
-ghost use Rattle.std.specs.Prelude.{◌≤◌};
-ghost use Rattle.farm_server.specs.declared.served.TheConstants.{REQUESTS};
-
+use super::tasks::{CREATED, farm, written_at};
 use super::*;
-
-/// 2024-01-01T00:00:00.000Z.
-const CREATED: u64 = 1_704_067_200_000;
 
 /// A line of a conversation, cut at its bars.
 #[derive(Clone, Copy)]
 struct Row<'a> {
-    /// How many milliseconds after the creation the request comes, or nothing, where the clock tells the first moment of all.
-    after: &'a str,
-    /// Its method and target, and behind a `~` its Authorization field, if it has one.
+    /// How many milliseconds after the creation the request comes.
+    after: u64,
+    /// Its method and target.
     request: &'a str,
     body: &'a str,
     /// The status of the reply, with its reason.
@@ -27,7 +22,7 @@ fn row_of(line: &str) -> Option<Row<'_>> {
     let (body, rest) = rest.split_once('|')?;
     let (status, reply) = rest.split_once('|')?;
     Some(Row {
-        after,
+        after: after.parse().ok()?,
         request,
         body,
         status,
@@ -35,132 +30,82 @@ fn row_of(line: &str) -> Option<Row<'_>> {
     })
 }
 
-/// The moment at which it comes.
-fn moment(after: &str) -> Option<Moment> {
-    if after.is_empty() {
-        return Some(Moment::FIRST);
-    }
-    let after: u64 = after.parse().ok()?;
-    Moment::from_millis(CREATED.checked_add(after)?)
-}
-
-/// The head of a request, but for its length.
-fn head_of(alloc: Global, request: &str) -> Result<String, AllocError> {
-    match request.split_once('~') {
-        Some((request, field)) => format!(in alloc;
-            "{request} HTTP/1.1\r\nAuthorization: {field}\r\nContent-Type: Application/JSON; charset=utf-8\r\n"
-        ),
-        None => format!(in alloc; "{request} HTTP/1.1\r\n"),
-    }
-}
-
-/// The bytes of a request.
-fn request_of(alloc: Global, request: &str, body: &str) -> Result<String, AllocError> {
-    let head = head_of(alloc, request)?;
-    let length = body.len();
-    format!(in alloc; "{head}Content-Length: {length}\r\n\r\n{body}")
-}
-
-/// The bytes of a reply.
-fn reply_of(alloc: Global, status: &str, body: &str) -> Result<String, AllocError> {
-    let length = body.len();
+/// The bytes of a row's request.
+fn request_of(alloc: Global, row: &Row) -> Result<String, AllocError> {
+    let length = row.body.len();
     format!(in alloc;
-        "HTTP/1.1 {status}\r\nContent-Length: {length}\r\nContent-Type: application/json\r\n\r\n{body}"
+        "{} HTTP/1.1\r\nContent-Length: {length}\r\n\r\n{}",
+        row.request, row.body
     )
 }
 
-/// What is written where the request of a link is served at these moments.
-fn written_over<K: Desk<Question = Question, Answer = Asked, Law = Farm>>(
-    alloc: Global,
-    link: &mut MemoryLink,
-    desk: &mut K,
-    moments: Vec<Moment>,
-) -> Result<Vec<u8>, AllocError>
-    requires { REQUESTS ≤ K.spare desk.old }
-{
-    let mut clock = ListClock::new(moments);
-    let mut draws = ListDraws::new(Vec::new(alloc));
-    let _ = serve_connection(alloc, link, desk, &mut clock, &mut draws, &mut NoGate);
-    Vec::from_slice(alloc, link.sink.written())
+/// The bytes of its reply.
+fn reply_of(alloc: Global, row: &Row) -> Result<String, AllocError> {
+    let length = row.reply.len();
+    format!(in alloc;
+        "HTTP/1.1 {}\r\nContent-Length: {length}\r\nContent-Type: application/json\r\n\r\n{}",
+        row.status, row.reply
+    )
 }
 
-/// What a desk writes where a request comes at this moment.
-fn answer(
-    alloc: Global,
-    desk: &mut Solo<Bare>,
-    at: Moment,
-    request: &str,
-    body: &str,
-) -> Result<Vec<u8>, Fail> {
-    if desk.left() < 1_000 {
-        return Err(Fail::from("no asks are left"));
-    }
-    let bytes = request_of(alloc, request, body)?;
-    let moments = vec![in alloc; at]?;
-    let mut link = link_of(alloc, &Input::of(bytes.as_str().as_bytes()))?;
-    Ok(written_over(alloc, &mut link, desk, moments)?)
-}
-
-/// Whether this is the reply of a row, of which a star stands for any body.
-fn is_reply(alloc: Global, written: &[u8], row: Row<'_>) -> Result<bool, AllocError> {
-    if row.reply == "*" {
-        let front = format!(in alloc; "HTTP/1.1 {}\r\n", row.status)?;
-        return Ok(written.starts_with(front.as_bytes()));
-    }
-    let wanted = reply_of(alloc, row.status, row.reply)?;
-    Ok(written == wanted.as_bytes())
-}
-
-/// Whether a desk gives the reply of a line to its request.
-fn is_answered(alloc: Global, desk: &mut Solo<Bare>, line: &str) -> Result<bool, Fail> {
-    let row = row_of(line).ok_or("a row")?;
-    let at = moment(row.after).ok_or("a moment")?;
-    let written = answer(alloc, desk, at, row.request, row.body)?;
-    Ok(is_reply(alloc, &written, row)?)
+/// Whether a desk gives the reply of a row to its request.
+fn is_answered(alloc: Global, desk: &mut Solo<Bare>, row: &Row) -> Result<bool, Fail> {
+    let millis = CREATED.checked_add(row.after).ok_or("a moment")?;
+    let at = Moment::from_millis(millis).ok_or("a moment")?;
+    let request = request_of(alloc, row)?;
+    let written = written_at(alloc, desk, request.as_str().as_bytes(), at)?;
+    let wanted = reply_of(alloc, row)?;
+    Ok(written.as_slice() == wanted.as_str().as_bytes())
 }
 
 /// The first line of a conversation that is answered otherwise, or `none`.
 fn first_other<'a>(alloc: Global, desk: &mut Solo<Bare>, talk: &'a str) -> Result<&'a str, Fail> {
     for line in talk.split('\n') {
-        if !is_answered(alloc, desk, line)? {
+        let row = row_of(line).ok_or("a row")?;
+        if !is_answered(alloc, desk, &row)? {
             return Ok(line);
         }
     }
     Ok("none")
 }
 
-/// The same of a conversation with a new farm that this file sets up.
-pub(super) fn first_other_of<'a>(
+/// The same of a conversation in two halves.
+fn first_other_of_two<'a>(
     alloc: Global,
-    file: &str,
-    talk: &'a str,
+    desk: &mut Solo<Bare>,
+    first: &'a str,
+    second: &'a str,
 ) -> Result<&'a str, Fail> {
-    match read_farm(alloc, file.as_bytes()) {
-        Ok(config) => {
-            let mut desk = Solo::new(Bare::new(alloc, config));
-            first_other(alloc, &mut desk, talk)
-        }
-        Err(_) => Err(Fail::from("the file has a fault")),
+    let other = first_other(alloc, desk, first)?;
+    if other != "none" {
+        return Ok(other);
     }
+    first_other(alloc, desk, second)
 }
 
-/// The same of a farm that takes so many tasks, where whoever gives no credentials has these scopes.
+/// The first line of a conversation with a new farm that is answered otherwise, or `none`. The farm takes so many tasks, and whoever gives no
+/// credentials has these scopes. A desk is owned here and in the next function alone, so that the proofs of the tests are short.
 pub(super) fn first_other_at<'a>(
     alloc: Global,
-    scopes: &str,
+    scopes: &[&str],
     max_tasks: u32,
     talk: &'a str,
 ) -> Result<&'a str, Fail> {
-    let file = format!(in alloc;
-        "farm.max_tasks = {max_tasks}\nrole = [{{ id = 'anonymous', scopes = [{scopes}] }}]\n"
-    )?;
-    first_other_of(alloc, file.as_str(), talk)
+    let mut desk = farm(alloc, scopes, max_tasks)?;
+    first_other(alloc, &mut desk, talk)
 }
 
-/// A farm that allows all.
-const OPEN_TO_ALL: &str = "role = [{ id = 'anonymous', scopes = ['*'] }]";
+/// The same of a farm that takes a million tasks and allows all, and of two halves.
+pub(super) fn first_other_in<'a>(
+    alloc: Global,
+    first: &'a str,
+    second: &'a str,
+) -> Result<&'a str, Fail> {
+    let mut desk = farm(alloc, &["*"], 1_000_000)?;
+    first_other_of_two(alloc, &mut desk, first, second)
+}
 
-/// The same of that farm.
+/// The same of one part.
 pub(super) fn first_otherwise<'a>(alloc: Global, talk: &'a str) -> Result<&'a str, Fail> {
-    first_other_of(alloc, OPEN_TO_ALL, talk)
+    first_other_at(alloc, &["*"], 1_000_000, talk)
 }

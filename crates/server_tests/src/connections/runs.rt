@@ -1,14 +1,19 @@
-//! The runs of one task over connections in memory. The replies were written by hand after the queue service's reference, and by a model of
-//! it.
+//! The runs of one task over connections in memory. The replies were written by hand after the queue service's reference, and by a model of it.
 use super::rows::first_otherwise;
-use std::alloc::{AllocError, Global};
-use std::test::Fail;
+use super::tasks::{CREATED, farm, written_at};
+use super::*;
 
 /// A worker takes the task, and then it is made again.
 const AGAIN: &str =
     r#"0|PUT /api/queue/v1/task/AAAAAAAAQACAAAAAAAAAAA|{"created":"2024-01-01T00:00:00.000Z","deadline":"2024-01-02T00:00:00.000Z","metadata":{"description":"d","name":"n","owner":"o@example.com","source":"https://example.com/"},"payload":{},"taskQueueId":"prov/wt"}|200 OK|{"status":{"deadline":"2024-01-02T00:00:00.000Z","expires":"2025-01-01T00:00:00.000Z","projectId":"none","provisionerId":"prov","retriesLeft":5,"runs":[{"reasonCreated":"scheduled","runId":0,"scheduled":"2024-01-01T00:00:00.000Z","state":"pending"}],"schedulerId":"-","state":"pending","taskGroupId":"AAAAAAAAQACAAAAAAAAAAA","taskId":"AAAAAAAAQACAAAAAAAAAAA","taskQueueId":"prov/wt","workerType":"wt"}}
 10000|POST /api/queue/v1/claim-work/prov%2Fwt|{"workerGroup":"g","workerId":"w"}|200 OK|{"tasks":[{"runId":0,"status":{"deadline":"2024-01-02T00:00:00.000Z","expires":"2025-01-01T00:00:00.000Z","projectId":"none","provisionerId":"prov","retriesLeft":5,"runs":[{"reasonCreated":"scheduled","runId":0,"scheduled":"2024-01-01T00:00:00.000Z","started":"2024-01-01T00:00:10.000Z","state":"running","takenUntil":"2024-01-01T00:20:10.000Z","workerGroup":"g","workerId":"w"}],"schedulerId":"-","state":"running","taskGroupId":"AAAAAAAAQACAAAAAAAAAAA","taskId":"AAAAAAAAQACAAAAAAAAAAA","taskQueueId":"prov/wt","workerType":"wt"},"takenUntil":"2024-01-01T00:20:10.000Z","task":{"created":"2024-01-01T00:00:00.000Z","deadline":"2024-01-02T00:00:00.000Z","dependencies":[],"expires":"2025-01-01T00:00:00.000Z","extra":{},"metadata":{"description":"d","name":"n","owner":"o@example.com","source":"https://example.com/"},"payload":{},"priority":"lowest","projectId":"none","provisionerId":"prov","requires":"all-completed","retries":5,"routes":[],"schedulerId":"-","scopes":[],"tags":{},"taskGroupId":"AAAAAAAAQACAAAAAAAAAAA","taskQueueId":"prov/wt","workerType":"wt"},"workerGroup":"g","workerId":"w"}]}
 11000|PUT /api/queue/v1/task/AAAAAAAAQACAAAAAAAAAAA|{"created":"2024-01-01T00:00:00.000Z","deadline":"2024-01-02T00:00:00.000Z","metadata":{"description":"d","name":"n","owner":"o@example.com","source":"https://example.com/"},"payload":{},"taskQueueId":"prov/wt"}|200 OK|{"status":{"deadline":"2024-01-02T00:00:00.000Z","expires":"2025-01-01T00:00:00.000Z","projectId":"none","provisionerId":"prov","retriesLeft":5,"runs":[{"reasonCreated":"scheduled","runId":0,"scheduled":"2024-01-01T00:00:00.000Z","started":"2024-01-01T00:00:10.000Z","state":"running","takenUntil":"2024-01-01T00:20:10.000Z","workerGroup":"g","workerId":"w"}],"schedulerId":"-","state":"running","taskGroupId":"AAAAAAAAQACAAAAAAAAAAA","taskId":"AAAAAAAAQACAAAAAAAAAAA","taskQueueId":"prov/wt","workerType":"wt"}}"#;
+
+#[test]
+fn a_task_that_runs_is_made_again(rt: HostRuntime) -> Result<(), Fail> {
+    assert_eq!(rt; first_otherwise(rt.alloc(), AGAIN)?, "none");
+    Ok(())
+}
 
 /// A claim is kept and lapses at its end; then the clock goes back.
 const LAPSE: &str =
@@ -18,17 +23,35 @@ const LAPSE: &str =
 2409999|POST /api/queue/v1/task/AAAAAAAAQACAAAAAAAAAAA/runs/0/completed||409 Conflict|{"code":"RequestConflict","details":{"rule":3,"status":{"deadline":"2024-01-02T00:00:00.000Z","expires":"2025-01-01T00:00:00.000Z","projectId":"none","provisionerId":"prov","retriesLeft":4,"runs":[{"reasonCreated":"scheduled","reasonResolved":"claim-expired","resolved":"2024-01-01T00:40:09.999Z","runId":0,"scheduled":"2024-01-01T00:00:00.000Z","started":"2024-01-01T00:00:10.000Z","state":"exception","takenUntil":"2024-01-01T00:40:09.999Z","workerGroup":"g","workerId":"w"},{"reasonCreated":"retry","runId":1,"scheduled":"2024-01-01T00:40:09.999Z","state":"pending"}],"schedulerId":"-","state":"pending","taskGroupId":"AAAAAAAAQACAAAAAAAAAAA","taskId":"AAAAAAAAQACAAAAAAAAAAA","taskQueueId":"prov/wt","workerType":"wt"}},"message":"the state forbids it"}
 0|GET /api/queue/v1/task/AAAAAAAAQACAAAAAAAAAAA/status||200 OK|{"status":{"deadline":"2024-01-02T00:00:00.000Z","expires":"2025-01-01T00:00:00.000Z","projectId":"none","provisionerId":"prov","retriesLeft":4,"runs":[{"reasonCreated":"scheduled","reasonResolved":"claim-expired","resolved":"2024-01-01T00:40:09.999Z","runId":0,"scheduled":"2024-01-01T00:00:00.000Z","started":"2024-01-01T00:00:10.000Z","state":"exception","takenUntil":"2024-01-01T00:40:09.999Z","workerGroup":"g","workerId":"w"},{"reasonCreated":"retry","runId":1,"scheduled":"2024-01-01T00:40:09.999Z","state":"pending"}],"schedulerId":"-","state":"pending","taskGroupId":"AAAAAAAAQACAAAAAAAAAAA","taskId":"AAAAAAAAQACAAAAAAAAAAA","taskQueueId":"prov/wt","workerType":"wt"}}"#;
 
+#[test]
+fn a_claim_lapses_at_its_end(rt: HostRuntime) -> Result<(), Fail> {
+    assert_eq!(rt; first_otherwise(rt.alloc(), LAPSE)?, "none");
+    Ok(())
+}
+
 /// A claim lapses, and no retry is left.
 const LAST: &str =
     r#"0|PUT /api/queue/v1/task/AAAAAAAAQACAAAAAAAAAAA|{"created":"2024-01-01T00:00:00.000Z","deadline":"2024-01-02T00:00:00.000Z","metadata":{"description":"d","name":"n","owner":"o@example.com","source":"https://example.com/"},"payload":{},"retries":0,"taskQueueId":"prov/wt"}|200 OK|{"status":{"deadline":"2024-01-02T00:00:00.000Z","expires":"2025-01-01T00:00:00.000Z","projectId":"none","provisionerId":"prov","retriesLeft":0,"runs":[{"reasonCreated":"scheduled","runId":0,"scheduled":"2024-01-01T00:00:00.000Z","state":"pending"}],"schedulerId":"-","state":"pending","taskGroupId":"AAAAAAAAQACAAAAAAAAAAA","taskId":"AAAAAAAAQACAAAAAAAAAAA","taskQueueId":"prov/wt","workerType":"wt"}}
 10000|POST /api/queue/v1/claim-work/prov%2Fwt|{"workerGroup":"g","workerId":"w"}|200 OK|{"tasks":[{"runId":0,"status":{"deadline":"2024-01-02T00:00:00.000Z","expires":"2025-01-01T00:00:00.000Z","projectId":"none","provisionerId":"prov","retriesLeft":0,"runs":[{"reasonCreated":"scheduled","runId":0,"scheduled":"2024-01-01T00:00:00.000Z","started":"2024-01-01T00:00:10.000Z","state":"running","takenUntil":"2024-01-01T00:20:10.000Z","workerGroup":"g","workerId":"w"}],"schedulerId":"-","state":"running","taskGroupId":"AAAAAAAAQACAAAAAAAAAAA","taskId":"AAAAAAAAQACAAAAAAAAAAA","taskQueueId":"prov/wt","workerType":"wt"},"takenUntil":"2024-01-01T00:20:10.000Z","task":{"created":"2024-01-01T00:00:00.000Z","deadline":"2024-01-02T00:00:00.000Z","dependencies":[],"expires":"2025-01-01T00:00:00.000Z","extra":{},"metadata":{"description":"d","name":"n","owner":"o@example.com","source":"https://example.com/"},"payload":{},"priority":"lowest","projectId":"none","provisionerId":"prov","requires":"all-completed","retries":0,"routes":[],"schedulerId":"-","scopes":[],"tags":{},"taskGroupId":"AAAAAAAAQACAAAAAAAAAAA","taskQueueId":"prov/wt","workerType":"wt"},"workerGroup":"g","workerId":"w"}]}
 1210000|GET /api/queue/v1/task/AAAAAAAAQACAAAAAAAAAAA/status||200 OK|{"status":{"deadline":"2024-01-02T00:00:00.000Z","expires":"2025-01-01T00:00:00.000Z","projectId":"none","provisionerId":"prov","retriesLeft":0,"runs":[{"reasonCreated":"scheduled","reasonResolved":"claim-expired","resolved":"2024-01-01T00:20:10.000Z","runId":0,"scheduled":"2024-01-01T00:00:00.000Z","started":"2024-01-01T00:00:10.000Z","state":"exception","takenUntil":"2024-01-01T00:20:10.000Z","workerGroup":"g","workerId":"w"}],"schedulerId":"-","state":"exception","taskGroupId":"AAAAAAAAQACAAAAAAAAAAA","taskId":"AAAAAAAAQACAAAAAAAAAAA","taskQueueId":"prov/wt","workerType":"wt"}}"#;
 
+#[test]
+fn without_retries_a_lapsed_claim_ends_the_task(rt: HostRuntime) -> Result<(), Fail> {
+    assert_eq!(rt; first_otherwise(rt.alloc(), LAST)?, "none");
+    Ok(())
+}
+
 /// A claim and the deadline end together.
 const DEADLINE_FIRST: &str =
     r#"0|PUT /api/queue/v1/task/AAAAAAAAQACAAAAAAAAAAA|{"created":"2024-01-01T00:00:00.000Z","deadline":"2024-01-01T00:20:10.000Z","metadata":{"description":"d","name":"n","owner":"o@example.com","source":"https://example.com/"},"payload":{},"taskQueueId":"prov/wt"}|200 OK|{"status":{"deadline":"2024-01-01T00:20:10.000Z","expires":"2024-12-31T00:20:10.000Z","projectId":"none","provisionerId":"prov","retriesLeft":5,"runs":[{"reasonCreated":"scheduled","runId":0,"scheduled":"2024-01-01T00:00:00.000Z","state":"pending"}],"schedulerId":"-","state":"pending","taskGroupId":"AAAAAAAAQACAAAAAAAAAAA","taskId":"AAAAAAAAQACAAAAAAAAAAA","taskQueueId":"prov/wt","workerType":"wt"}}
 10000|POST /api/queue/v1/claim-work/prov%2Fwt|{"workerGroup":"g","workerId":"w"}|200 OK|{"tasks":[{"runId":0,"status":{"deadline":"2024-01-01T00:20:10.000Z","expires":"2024-12-31T00:20:10.000Z","projectId":"none","provisionerId":"prov","retriesLeft":5,"runs":[{"reasonCreated":"scheduled","runId":0,"scheduled":"2024-01-01T00:00:00.000Z","started":"2024-01-01T00:00:10.000Z","state":"running","takenUntil":"2024-01-01T00:20:10.000Z","workerGroup":"g","workerId":"w"}],"schedulerId":"-","state":"running","taskGroupId":"AAAAAAAAQACAAAAAAAAAAA","taskId":"AAAAAAAAQACAAAAAAAAAAA","taskQueueId":"prov/wt","workerType":"wt"},"takenUntil":"2024-01-01T00:20:10.000Z","task":{"created":"2024-01-01T00:00:00.000Z","deadline":"2024-01-01T00:20:10.000Z","dependencies":[],"expires":"2024-12-31T00:20:10.000Z","extra":{},"metadata":{"description":"d","name":"n","owner":"o@example.com","source":"https://example.com/"},"payload":{},"priority":"lowest","projectId":"none","provisionerId":"prov","requires":"all-completed","retries":5,"routes":[],"schedulerId":"-","scopes":[],"tags":{},"taskGroupId":"AAAAAAAAQACAAAAAAAAAAA","taskQueueId":"prov/wt","workerType":"wt"},"workerGroup":"g","workerId":"w"}]}
 1210000|GET /api/queue/v1/task/AAAAAAAAQACAAAAAAAAAAA/status||200 OK|{"status":{"deadline":"2024-01-01T00:20:10.000Z","expires":"2024-12-31T00:20:10.000Z","projectId":"none","provisionerId":"prov","retriesLeft":5,"runs":[{"reasonCreated":"scheduled","reasonResolved":"deadline-exceeded","resolved":"2024-01-01T00:20:10.000Z","runId":0,"scheduled":"2024-01-01T00:00:00.000Z","started":"2024-01-01T00:00:10.000Z","state":"exception","takenUntil":"2024-01-01T00:20:10.000Z","workerGroup":"g","workerId":"w"}],"schedulerId":"-","state":"exception","taskGroupId":"AAAAAAAAQACAAAAAAAAAAA","taskId":"AAAAAAAAQACAAAAAAAAAAA","taskQueueId":"prov/wt","workerType":"wt"}}"#;
+
+#[test]
+fn a_deadline_comes_before_a_claim(rt: HostRuntime) -> Result<(), Fail> {
+    assert_eq!(rt; first_otherwise(rt.alloc(), DEADLINE_FIRST)?, "none");
+    Ok(())
+}
 
 /// A task has one retry, and fails twice so that it may be run again.
 const RETRY: &str =
@@ -39,38 +62,56 @@ const RETRY: &str =
 13000|POST /api/queue/v1/task/AAAAAAAAQACAAAAAAAAAAA/runs/1/exception|{"reason":"intermittent-task"}|200 OK|{"status":{"deadline":"2024-01-02T00:00:00.000Z","expires":"2025-01-01T00:00:00.000Z","projectId":"none","provisionerId":"prov","retriesLeft":0,"runs":[{"reasonCreated":"scheduled","reasonResolved":"intermittent-task","resolved":"2024-01-01T00:00:11.000Z","runId":0,"scheduled":"2024-01-01T00:00:00.000Z","started":"2024-01-01T00:00:10.000Z","state":"exception","takenUntil":"2024-01-01T00:20:10.000Z","workerGroup":"g","workerId":"w"},{"reasonCreated":"task-retry","reasonResolved":"intermittent-task","resolved":"2024-01-01T00:00:13.000Z","runId":1,"scheduled":"2024-01-01T00:00:11.000Z","started":"2024-01-01T00:00:12.000Z","state":"exception","takenUntil":"2024-01-01T00:20:12.000Z","workerGroup":"g","workerId":"w"}],"schedulerId":"-","state":"exception","taskGroupId":"AAAAAAAAQACAAAAAAAAAAA","taskId":"AAAAAAAAQACAAAAAAAAAAA","taskQueueId":"prov/wt","workerType":"wt"}}"#;
 
 #[test]
-fn runs_are_claimed_kept_lost_and_run_again(rt: HostRuntime) -> Result<(), Fail> {
-    let alloc = rt.alloc();
-    assert_eq!(rt; first_otherwise(alloc, AGAIN)?, "none");
-    assert_eq!(rt; first_otherwise(alloc, LAPSE)?, "none");
-    assert_eq!(rt; first_otherwise(alloc, LAST)?, "none");
-    assert_eq!(rt; first_otherwise(alloc, DEADLINE_FIRST)?, "none");
-    assert_eq!(rt; first_otherwise(alloc, RETRY)?, "none");
+fn an_intermittent_fault_is_retried_once(rt: HostRuntime) -> Result<(), Fail> {
+    assert_eq!(rt; first_otherwise(rt.alloc(), RETRY)?, "none");
     Ok(())
 }
 
-/// A task without retries is made.
-const MAKING: &str =
-    r#"0|PUT /api/queue/v1/task/AAAAAAAAQACAAAAAAAAAAA|{"created":"2024-01-01T00:00:00.000Z","deadline":"2024-01-02T00:00:00.000Z","metadata":{"description":"d","name":"n","owner":"o@example.com","source":"https://example.com/"},"payload":{},"retries":0,"taskQueueId":"prov/wt"}|200 OK|*"#;
+/// A task without retries.
+const ONCE: &str =
+    r#"{"created":"2024-01-01T00:00:00.000Z","deadline":"2024-01-02T00:00:00.000Z","metadata":{"description":"d","name":"n","owner":"o@example.com","source":"https://example.com/"},"payload":{},"retries":0,"taskQueueId":"prov/wt"}"#;
 
-/// A worker takes the pending run of the task.
-const CLAIM: &str =
-    r#"0|POST /api/queue/v1/claim-work/prov/wt|{"workerGroup":"g","workerId":"w"}|200 OK|*"#;
+const MAKE: &str = "PUT /api/queue/v1/task/AAAAAAAAQACAAAAAAAAAAA";
 
-/// It is run again.
-const RERUN: &str = "\n0|POST /api/queue/v1/task/AAAAAAAAQACAAAAAAAAAAA/rerun||200 OK|*";
+const CLAIM: &str = "POST /api/queue/v1/claim-work/prov/wt";
 
-/// The lines in which it is made and runs fifty times, and each run fails.
-fn fifty(alloc: Global) -> Result<String, AllocError> {
-    let mut talk = String::from_str(alloc, MAKING)?;
-    for run in 0..50_u32 {
-        let again = if run == 0 { "" } else { RERUN };
-        let round = format!(in alloc;
-            "{again}\n{CLAIM}\n0|POST /api/queue/v1/task/AAAAAAAAQACAAAAAAAAAAA/runs/{run}/failed||200 OK|*"
-        )?;
-        talk.push_str(&round)?;
+const RERUN: &str = "POST /api/queue/v1/task/AAAAAAAAQACAAAAAAAAAAA/rerun";
+
+const WORKER: &str = r#"{"workerGroup":"g","workerId":"w"}"#;
+
+const DONE: &[u8] = b"HTTP/1.1 200 OK\r\n";
+
+/// What a desk writes to a request at the moment of the task's making.
+fn answer(
+    alloc: Global,
+    desk: &mut Solo<Bare>,
+    request: &str,
+    body: &str,
+) -> Result<Vec<u8>, Fail> {
+    let at = Moment::from_millis(CREATED).ok_or("a moment")?;
+    let length = body.len();
+    let bytes = format!(in alloc; "{request} HTTP/1.1\r\nContent-Length: {length}\r\n\r\n{body}")?;
+    written_at(alloc, desk, bytes.as_str().as_bytes(), at)
+}
+
+/// Whether a request is answered with success.
+fn is_done(alloc: Global, desk: &mut Solo<Bare>, request: &str, body: &str) -> Result<bool, Fail> {
+    let written = answer(alloc, desk, request, body)?;
+    Ok(written.as_slice().starts_with(DONE))
+}
+
+/// The report that a run failed.
+fn report_of(alloc: Global, run: u32) -> Result<String, AllocError> {
+    format!(in alloc; "POST /api/queue/v1/task/AAAAAAAAQACAAAAAAAAAAA/runs/{run}/failed")
+}
+
+/// Whether a worker may take the pending run, of this number, and tell that it failed.
+fn fails(alloc: Global, desk: &mut Solo<Bare>, run: u32) -> Result<bool, Fail> {
+    if !is_done(alloc, desk, CLAIM, WORKER)? {
+        return Ok(false);
     }
-    Ok(talk)
+    let report = report_of(alloc, run)?;
+    is_done(alloc, desk, report.as_str(), "")
 }
 
 /// A run that failed.
@@ -91,48 +132,120 @@ fn fifty_runs(alloc: Global) -> Result<String, AllocError> {
     Ok(text)
 }
 
-/// The status of the task once it ran fifty times.
-fn fifty_told(alloc: Global) -> Result<String, AllocError> {
+/// The reply of this status whose body has the task's status between these texts, once it ran fifty times.
+fn fifty_told(alloc: Global, status: &str, front: &str, back: &str) -> Result<String, AllocError> {
     let runs = fifty_runs(alloc)?;
+    let body = format!(in alloc;
+        r#"{front}{{"deadline":"2024-01-02T00:00:00.000Z","expires":"2025-01-01T00:00:00.000Z","projectId":"none","provisionerId":"prov","retriesLeft":0,"runs":[{runs}],"schedulerId":"-","state":"failed","taskGroupId":"AAAAAAAAQACAAAAAAAAAAA","taskId":"AAAAAAAAQACAAAAAAAAAAA","taskQueueId":"prov/wt","workerType":"wt"}}{back}"#
+    )?;
+    let length = body.len();
     format!(in alloc;
-        r#"{{"deadline":"2024-01-02T00:00:00.000Z","expires":"2025-01-01T00:00:00.000Z","projectId":"none","provisionerId":"prov","retriesLeft":0,"runs":[{runs}],"schedulerId":"-","state":"failed","taskGroupId":"AAAAAAAAQACAAAAAAAAAAA","taskId":"AAAAAAAAQACAAAAAAAAAAA","taskQueueId":"prov/wt","workerType":"wt"}}"#
+        "HTTP/1.1 {status}\r\nContent-Length: {length}\r\nContent-Type: application/json\r\n\r\n{body}"
     )
 }
 
-/// A line in which `$` stands for that status.
-fn line_of(alloc: Global, line: &str) -> Result<String, AllocError> {
-    match line.split_once('$') {
-        Some((before, behind)) => {
-            let status = fifty_told(alloc)?;
-            format!(in alloc; "{before}{status}{behind}")
+/// How many of the fifty runs of the task that was made fail, with a rerun after each but the last.
+fn rounds(alloc: Global, desk: &mut Solo<Bare>) -> Result<u32, Fail> {
+    for run in 0..50_u32 {
+        if !fails(alloc, desk, run)? {
+            return Ok(run);
         }
-        None => String::from_str(alloc, line),
+        if run < 49 && !is_done(alloc, desk, RERUN, "")? {
+            return Ok(run);
+        }
     }
+    Ok(50)
 }
 
-/// A task that ran fifty times: it is run no more, the last report may be told again, and it is listed.
-const AFTER_FIFTY: &str =
-    r#"0|POST /api/queue/v1/task/AAAAAAAAQACAAAAAAAAAAA/rerun||409 Conflict|{"code":"RequestConflict","details":{"rule":6,"status":$},"message":"the state forbids it"}
-0|POST /api/queue/v1/task/AAAAAAAAQACAAAAAAAAAAA/runs/49/failed||200 OK|{"status":$}
-0|GET /api/queue/v1/task-group/AAAAAAAAQACAAAAAAAAAAA/list||200 OK|{"taskGroupId":"AAAAAAAAQACAAAAAAAAAAA","tasks":[{"status":$,"task":{"created":"2024-01-01T00:00:00.000Z","deadline":"2024-01-02T00:00:00.000Z","dependencies":[],"expires":"2025-01-01T00:00:00.000Z","extra":{},"metadata":{"description":"d","name":"n","owner":"o@example.com","source":"https://example.com/"},"payload":{},"priority":"lowest","projectId":"none","provisionerId":"prov","requires":"all-completed","retries":0,"routes":[],"schedulerId":"-","scopes":[],"tags":{},"taskGroupId":"AAAAAAAAQACAAAAAAAAAAA","taskQueueId":"prov/wt","workerType":"wt"}}]}
-0|GET /api/queue/v1/task/AAAAAAAAQACAAAAAAAAAAA/dependents||200 OK|{"taskId":"AAAAAAAAQACAAAAAAAAAAA","tasks":[]}
-0|GET /api/queue/v1/task/AAAAAAAAQACAAAAAAAAAAA||200 OK|{"created":"2024-01-01T00:00:00.000Z","deadline":"2024-01-02T00:00:00.000Z","dependencies":[],"expires":"2025-01-01T00:00:00.000Z","extra":{},"metadata":{"description":"d","name":"n","owner":"o@example.com","source":"https://example.com/"},"payload":{},"priority":"lowest","projectId":"none","provisionerId":"prov","requires":"all-completed","retries":0,"routes":[],"schedulerId":"-","scopes":[],"tags":{},"taskGroupId":"AAAAAAAAQACAAAAAAAAAAA","taskQueueId":"prov/wt","workerType":"wt"}
-0|GET /api/queue/v1/pending/prov/wt||200 OK|{"pendingTasks":0,"provisionerId":"prov","taskQueueId":"prov/wt","workerType":"wt"}"#;
-
-/// It is made, runs fifty times, and then is asked these.
-fn fifty_and_after(alloc: Global) -> Result<String, AllocError> {
-    let mut talk = fifty(alloc)?;
-    for line in AFTER_FIFTY.split('\n') {
-        let line = line_of(alloc, line)?;
-        talk.push_str("\n")?;
-        talk.push_str(&line)?;
+/// What a desk writes to a request once a task ran fifty times there.
+fn fifty_and(alloc: Global, desk: &mut Solo<Bare>, request: &str) -> Result<Vec<u8>, Fail> {
+    if !is_done(alloc, desk, MAKE, ONCE)? {
+        return Err(Fail::from("the task is not made"));
     }
-    Ok(talk)
+    if rounds(alloc, desk)? != 50 {
+        return Err(Fail::from("it did not run fifty times"));
+    }
+    answer(alloc, desk, request, "")
+}
+
+/// The same of a new farm.
+fn after_fifty(alloc: Global, request: &str) -> Result<Vec<u8>, Fail> {
+    let mut desk = farm(alloc, &["*"], 1_000_000)?;
+    fifty_and(alloc, &mut desk, request)
 }
 
 #[test]
 fn a_task_runs_fifty_times_at_most(rt: HostRuntime) -> Result<(), Fail> {
-    let talk = fifty_and_after(rt.alloc())?;
-    assert_eq!(rt; first_otherwise(rt.alloc(), talk.as_str())?, "none");
+    let alloc = rt.alloc();
+    let refused = after_fifty(alloc, RERUN)?;
+    let wanted = fifty_told(
+        alloc,
+        "409 Conflict",
+        r#"{"code":"RequestConflict","details":{"rule":6,"status":"#,
+        r#"},"message":"the state forbids it"}"#,
+    )?;
+    assert_eq!(rt; refused.as_slice(), wanted.as_str().as_bytes());
+    Ok(())
+}
+
+#[test]
+fn the_last_of_fifty_runs_is_told_of_again(rt: HostRuntime) -> Result<(), Fail> {
+    let alloc = rt.alloc();
+    let report = report_of(alloc, 49)?;
+    let told = after_fifty(alloc, report.as_str())?;
+    let wanted = fifty_told(alloc, "200 OK", r#"{"status":"#, "}")?;
+    assert_eq!(rt; told.as_slice(), wanted.as_str().as_bytes());
+    Ok(())
+}
+
+/// The task in full form.
+const FULL: &str =
+    r#"{"created":"2024-01-01T00:00:00.000Z","deadline":"2024-01-02T00:00:00.000Z","dependencies":[],"expires":"2025-01-01T00:00:00.000Z","extra":{},"metadata":{"description":"d","name":"n","owner":"o@example.com","source":"https://example.com/"},"payload":{},"priority":"lowest","projectId":"none","provisionerId":"prov","requires":"all-completed","retries":0,"routes":[],"schedulerId":"-","scopes":[],"tags":{},"taskGroupId":"AAAAAAAAQACAAAAAAAAAAA","taskQueueId":"prov/wt","workerType":"wt"}"#;
+
+#[test]
+fn fifty_runs_are_listed(rt: HostRuntime) -> Result<(), Fail> {
+    let alloc = rt.alloc();
+    let listed = after_fifty(
+        alloc,
+        "GET /api/queue/v1/task-group/AAAAAAAAQACAAAAAAAAAAA/list",
+    )?;
+    let back = format!(in alloc; r#","task":{FULL}}}]}}"#)?;
+    let wanted = fifty_told(
+        alloc,
+        "200 OK",
+        r#"{"taskGroupId":"AAAAAAAAQACAAAAAAAAAAA","tasks":[{"status":"#,
+        back.as_str(),
+    )?;
+    assert_eq!(rt; listed.as_slice(), wanted.as_str().as_bytes());
+    Ok(())
+}
+
+/// A reply with success and this body.
+fn success(alloc: Global, body: &str) -> Result<String, AllocError> {
+    let length = body.len();
+    format!(in alloc;
+        "HTTP/1.1 200 OK\r\nContent-Length: {length}\r\nContent-Type: application/json\r\n\r\n{body}"
+    )
+}
+
+#[test]
+fn who_ran_fifty_times_is_told(rt: HostRuntime) -> Result<(), Fail> {
+    let alloc = rt.alloc();
+    let rows = [
+        (
+            "GET /api/queue/v1/task/AAAAAAAAQACAAAAAAAAAAA/dependents",
+            r#"{"taskId":"AAAAAAAAQACAAAAAAAAAAA","tasks":[]}"#,
+        ),
+        ("GET /api/queue/v1/task/AAAAAAAAQACAAAAAAAAAAA", FULL),
+        (
+            "GET /api/queue/v1/pending/prov/wt",
+            r#"{"pendingTasks":0,"provisionerId":"prov","taskQueueId":"prov/wt","workerType":"wt"}"#,
+        ),
+    ];
+    for (request, body) in rows {
+        let told = after_fifty(alloc, request)?;
+        let wanted = success(alloc, body)?;
+        assert_eq!(rt; told.as_slice(), wanted.as_str().as_bytes());
+    }
     Ok(())
 }

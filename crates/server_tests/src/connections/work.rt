@@ -1,6 +1,6 @@
 //! Two workers over connections in memory, of whom one dies, with replies by a model of the rules that was written apart from this program.
 use super::rows::first_otherwise;
-use std::test::Fail;
+use super::*;
 
 /// Each row: how many milliseconds after the first task is made, the request, its body, and the reply's status and body.
 const TALK: &str =

@@ -1,8 +1,7 @@
 //! Workers whose gates hold one until another has answered: this is so only where they run beside each other.
-ghost use Rattle.std.specs.Prelude.{None, ◌*◌, ◌≤◌, length};
-ghost use Rattle.farm_server.specs.declared.served.TheConstants.{REQUESTS};
+ghost use Rattle.std.specs.Prelude.{None};
 
-use super::{PING, desk, good_link};
+use super::{PING, desk, link};
 use farm_core::bare_farms_cross_threads;
 use farm_server::{Gate, When};
 use farm_serving::{Ended, MemoryListener, Worker, serve};
@@ -46,25 +45,16 @@ fn await_sign(sign: &AtomicBool) -> bool {
     false
 }
 
-/// A door at which one link comes, with one ping.
-fn door(alloc: Global) -> Result<MemoryListener, AllocError> {
-    let link = good_link(alloc, &[PING])?;
-    let coming = vec![in alloc; link]?;
-    MemoryListener::new(alloc, coming, Vec::new(alloc), Vec::new(alloc))
-}
-
-/// A worker with such a door whose gate is held or gives the sign.
-type TurnedWorker<'a> = Worker<MemoryListener, ListClock, ListDraws, Turnstile<'a>>;
-
-/// A worker at this door.
+/// A worker at whose door one link comes, with one ping, and whose gate is held or gives the sign.
 fn turned<'a>(
     alloc: Global,
-    door: MemoryListener,
     sign: &'a AtomicBool,
     is_held: bool,
-) -> TurnedWorker<'a> {
-    Worker {
-        door,
+) -> Result<Worker<MemoryListener, ListClock, ListDraws, Turnstile<'a>>, AllocError> {
+    let mut coming = Vec::new(alloc);
+    coming.push(link(alloc, &[PING], &[], &[])?)?;
+    Ok(Worker {
+        door: MemoryListener::new(alloc, coming, Vec::new(alloc), Vec::new(alloc))?,
         clock: ListClock::new(Vec::new(alloc)),
         draws: ListDraws::new(Vec::new(alloc)),
         gate: Turnstile {
@@ -72,45 +62,38 @@ fn turned<'a>(
             is_held,
             came_in_time: false,
         },
-    }
+    })
 }
 
-/// Lets workers serve a ping each: how many messages were asked, and whether the sign came in time.
-fn serve_each<R: Threads + Wait + Sync>(
-    rt: &R,
-    alloc: Global,
-    workers: &mut [TurnedWorker<'_>],
-) -> Result<(u64, bool), Fail>
-    requires { length workers.old * (1 * REQUESTS) ≤ 9223372036854775808 }
-{
-    let (shared, token) = desk(alloc)?;
-    bare_farms_cross_threads();
-    let (_, Ended { served, .. }) = serve(rt, alloc, &shared, token, workers, 1);
-    Ok((
-        served,
-        workers.iter().any(|worker| worker.gate.came_in_time),
-    ))
-}
-
-/// The same where the first or the second of them is held until the other has answered.
+/// Lets two workers serve a ping each, the first or the second of which is held until the other has answered: how many messages were
+/// asked, and whether the sign came in time.
 fn ask_through_gates<R: Threads + Wait + Sync>(
     rt: &R,
     alloc: Global,
     is_first_held: bool,
 ) -> Result<(u64, bool), Fail> {
     let sign = AtomicBool::new(false);
-    let first = door(alloc)?;
-    let second = door(alloc)?;
+    let (shared, token) = desk(alloc)?;
     let mut workers = [
-        turned(alloc, first, &sign, is_first_held),
-        turned(alloc, second, &sign, !is_first_held),
+        turned(alloc, &sign, is_first_held)?,
+        turned(alloc, &sign, !is_first_held)?,
     ];
-    serve_each(rt, alloc, &mut workers)
+    bare_farms_cross_threads();
+    let (_, Ended { served, .. }) = serve(rt, alloc, &shared, token, &mut workers, 1);
+    Ok((
+        served,
+        workers.iter().any(|worker| worker.gate.came_in_time),
+    ))
 }
 
 #[test]
-fn one_of_two_workers_waits_for_the_other(rt: HostRuntime) -> Result<(), Fail> {
-    assert!(rt; ask_through_gates(&rt, rt.alloc(), true)? == (2, true));
-    assert!(rt; ask_through_gates(&rt, rt.alloc(), false)? == (2, true));
+fn the_first_of_two_workers_waits_for_the_second(rt: HostRuntime) -> Result<(), Fail> {
+    assert_eq!(rt; ask_through_gates(&rt, rt.alloc(), true)?, (2, true));
+    Ok(())
+}
+
+#[test]
+fn the_second_of_two_workers_waits_for_the_first(rt: HostRuntime) -> Result<(), Fail> {
+    assert_eq!(rt; ask_through_gates(&rt, rt.alloc(), false)?, (2, true));
     Ok(())
 }
