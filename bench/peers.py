@@ -9,6 +9,7 @@ import signal
 import socket
 import subprocess
 import sys
+import threading
 import time
 
 PATH = "/api/queue/v1"
@@ -137,6 +138,21 @@ class Peer:
 
     def __exit__(self, *_):
         self.close()
+
+
+def all_replies(address, messages):
+    """What comes back on one connection for these messages, which are sent while replies are read, until the farm closes it."""
+    with socket.create_connection(address, timeout=60) as peer:
+        sender = threading.Thread(target=peer.sendall, args=(messages,))
+        sender.start()
+        pieces = []
+        while True:
+            piece = peer.recv(1 << 20)
+            if not piece:
+                break
+            pieces.append(piece)
+        sender.join()
+    return b"".join(pieces)
 
 
 def closes(head):

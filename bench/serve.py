@@ -8,7 +8,8 @@ for so many seconds (else 3): pings and signed pings on one connection and on fo
 which is on the disk before it is answered, from one client and from four. A connection serves 1,000 requests, and is then made anew.
 Below them stand what the clients here reach with a loop in the server's place that reads and writes as many bytes, how often a record of the size
 that a change had can be written and synced, and its gate too, as the program does it, and what the clients reach with both, one after the other: a loop
-that writes and syncs so before it replies. A farm that took no time of its own would come to that. Each client is a process; a client in Python takes some
+that writes and syncs so before it replies. A farm that took no time of its own would come to that. Changes that are sent ahead, a thousand on a connection, wait for no client: they
+show what the farm itself comes to. Each client is a process; a client in Python takes some
 twenty microseconds a call, so pings tell no more than that the program is not slower.
 """
 import json
@@ -23,6 +24,7 @@ import peers
 
 PROGRAM = os.path.abspath(sys.argv[1])
 SECONDS = float(sys.argv[2]) if len(sys.argv) > 2 else 3.0
+CYCLES = 333
 
 
 class Line:
@@ -30,6 +32,9 @@ class Line:
 
     def __init__(self, address):
         self.address, self.peer, self.times = address, peers.Peer(address), []
+
+    def close(self):
+        self.peer.close()
 
     def ask(self, message):
         begin = time.perf_counter()
@@ -69,6 +74,28 @@ def changes(first):
                 raise SystemExit("a task was created, and none could be claimed")
             line.ask(peers.completion(work[0]["status"]["taskId"], work[0]["runId"]))
             number += 1
+
+    return client
+
+
+def changes_sent_ahead(first):
+    """The same changes, which a connection brings all at once, a thousand requests with a ping at the end: no client is waited for between two."""
+
+    def client(line, place, until):
+        queue, worker = "prov/wt%d" % place, "w"
+        body, number = peers.definition(queue), first + place * 100000
+        while time.perf_counter() < until:
+            sent = []
+            for number in range(number, number + CYCLES):
+                sent += [peers.creation(number, body), peers.claim(queue, worker), peers.completion(peers.task_id(number), 0)]
+            number += 1
+            line.close()
+            begin = time.perf_counter()
+            replies = peers.all_replies(line.address, b"".join(sent + [peers.PING]))
+            each = (time.perf_counter() - begin) / len(sent)
+            if replies.count(b"HTTP/1.1 200 ") != len(sent) + 1:
+                raise SystemExit("a thousand requests were sent ahead, and %d were answered with 200" % replies.count(b"HTTP/1.1 200 "))
+            line.times += [each] * len(sent)
 
     return client
 
@@ -182,6 +209,10 @@ def main():
                 times = measure(changes(clients * 10000), farm.address, clients)
                 made += len(times)
                 row("create, claim, complete: a change each", clients, times)
+            for clients in (1, 4):
+                times = measure(changes_sent_ahead(500000 + clients * 10000), farm.address, clients)
+                made += len(times)
+                row("the same, a thousand requests sent ahead", clients, times)
             size = max(2, (os.path.getsize(disk) - before) // made)
         row("a record of %d bytes and its gate on the disk alone" % size, 1, disk_alone(folder, size))
         for clients in (1, 4):

@@ -16,3 +16,8 @@ pub mod DueMoves
 pub mod WaitMoves
 pub mod DueRoom
 pub mod WaitRoom
+pub mod BehindLemmas
+pub mod GivenLemmas
+pub mod WalkLemmas
+pub mod NextLemmas
+pub mod NamedLemmas

@@ -31,7 +31,7 @@ other-name xs ys ne = by (bytes_eq xs ys) refl where
   by true is = absurd (ne (same-name xs ys is))
   by false is = is
 
-tail-apart : (queue : Queue) (queues : List Queue) → AreNamedApart (queue ∷ queues) → AreNamedApart queues
+pub tail-apart : (queue : Queue) (queues : List Queue) → AreNamedApart (queue ∷ queues) → AreNamedApart queues
 tail-apart queue queues apart = λ one other p q same. let e : suc one ≡ suc other = apart (suc one) (suc other) (omega arith) (omega arith) same in omega arith
 
 -- ---- how many rows wait in a queue
@@ -117,7 +117,7 @@ placed-held places (Some e ∷ rows) zero entry placed is = let same : e ≡ ent
 placed-held places (None ∷ rows) (suc row) entry placed is = placed-held places rows row entry placed is
 placed-held places (Some e ∷ rows) (suc row) entry placed is = placed-held places rows row entry placed.1 is
 
-lex-goes : (a b c d row there : ℕ) → (nat_lt a c || ((a == c) && (nat_lt b d || ((b == d) && nat_lt there row)))) ≡ false
+pub lex-goes : (a b c d row there : ℕ) → (nat_lt a c || ((a == c) && (nat_lt b d || ((b == d) && nat_lt there row)))) ≡ false
     → ((nat_lt a c || ((a == c) && nat_lt b d)) ≡ false) × ((nat_lt c a || ((c == a) && nat_lt d b)) ≡ false → row ≤ there)
 lex-goes a b c d row there is = (grind (arith, nat_tests), λ same. grind (arith, nat_tests))
 
@@ -139,7 +139,7 @@ module _ (queues : List Queue) (rows : List (Option Entry)) (heaps : List (Vec T
 
   module _ (place : ℕ) (apart : AreNamedApart queues) (within : place < length queues) (named : name_at place queues ≡ name) where
     -- who waits in the queue has its turn in the heap
-    in-heap : (row : ℕ) (entry : Entry) → IsHeld rows row entry → bytes_eq (name_at entry.queue queues) name ≡ true → IsIn (entry_turn entry row) (heap_at place heaps)
+    pub in-heap : (row : ℕ) (entry : Entry) → IsHeld rows row entry → bytes_eq (name_at entry.queue queues) name ≡ true → IsIn (entry_turn entry row) (heap_at place heaps)
     in-heap row entry is same =
         let lt = placed-held (length queues) rows row entry placed is in
         let at : entry.queue ≡ place = apart entry.queue place lt within (same-name (name_at entry.queue queues) name same ∙ sym named) in

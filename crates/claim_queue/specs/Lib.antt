@@ -7,3 +7,6 @@ pub mod Heaps
 pub mod Counts
 pub mod DueHeaps
 pub mod WaitHeaps
+pub mod Walks
+pub mod Behind
+pub mod Named

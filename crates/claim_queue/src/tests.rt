@@ -163,6 +163,56 @@ fn take_best<L: Ledger>(rt: &impl Abort, alloc: Global, blank: Blank) -> Result<
     Ok(())
 }
 
+/// In one queue wait rows 0 to 9, of every priority and added in no order; in another row 10.
+fn fill_ten<L: Ledger>(
+    pending: &mut Pending,
+    queue: &Text,
+    other: &Text,
+    steps: &mut Steps<L>,
+) -> bool {
+    wait(pending, 10, other, Priority::Highest, 2, steps)
+        && wait(pending, 0, queue, Priority::Low, 12, steps)
+        && wait(pending, 1, queue, Priority::Highest, 30, steps)
+        && wait(pending, 2, queue, Priority::VeryLow, 1, steps)
+        && wait(pending, 3, queue, Priority::Medium, 7, steps)
+        && wait(pending, 4, queue, Priority::Highest, 5, steps)
+        && wait(pending, 5, queue, Priority::Lowest, 0, steps)
+        && wait(pending, 6, queue, Priority::High, 40, steps)
+        && wait(pending, 7, queue, Priority::VeryHigh, 41, steps)
+        && wait(pending, 8, queue, Priority::Medium, 6, steps)
+        && wait(pending, 9, queue, Priority::Low, 11, steps)
+}
+
+#[test]
+fn the_first_rows_come_by_priority_and_then_by_number(rt: HostRuntime) -> Result<(), Fail> {
+    walk_ten::<Brand>(&rt, rt.alloc(), Blank::new(1))
+}
+
+fn walk_ten<L: Ledger>(rt: &impl Abort, alloc: Global, blank: Blank) -> Result<(), Fail>
+    requires name { blank.name ≡ L.name }
+    requires parts { blank.parts ≡ L.parts }
+    requires some { 0 < blank.parts }
+{
+    let steps = &mut Steps::<L>::new(blank);
+    let queue = Text::from_str(alloc, "prov/wt")?;
+    let other = Text::from_str(alloc, "prov/other")?;
+    let mut pending = Pending::new(alloc);
+    assert!(rt; pending.count(&queue) == 0);
+    assert!(rt; pending.firsts(&queue).next(steps) == None);
+    pending.reserve(&queue, 10, 11)?;
+    pending.reserve(&other, 1, 11)?;
+    assert!(rt; fill_ten(&mut pending, &queue, &other, steps));
+    let mut firsts = pending.firsts(&queue);
+    for row in [4, 1, 7, 6, 8, 3, 9, 0, 2, 5] {
+        assert!(rt; firsts.next(steps) == Some(row));
+    }
+    assert!(rt; firsts.next(steps) == None);
+    assert!(rt; pending.count(&queue) == 10);
+    assert!(rt; pending.best(&queue, steps) == Some(4));
+    assert!(rt; pending.firsts(&other).next(steps) == Some(10));
+    Ok(())
+}
+
 #[test]
 fn each_queue_has_room_of_its_own(rt: HostRuntime) -> Result<(), Fail> {
     wait_by_room::<Brand>(&rt, rt.alloc(), Blank::new(1))

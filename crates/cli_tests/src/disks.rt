@@ -1,6 +1,7 @@
 //! Runs over houses in memory with a disk.
 
-use crate::houses::{Case, Outcome, PING, house_of, outcome_in};
+use crate::houses::{Case, Outcome, house_of, outcome_in};
+use crate::rows::{is_outcome, unescaped, words_of};
 use disk_base::MemoryDisk;
 use farm_cli::memory_house::MemoryHouse;
 use farm_cli::status::Status;
@@ -37,11 +38,11 @@ pub(crate) fn house_with(
     if bytes.len() > 8192 {
         return Err(AllocError);
     }
-    let mut calls = Vec::new(alloc);
-    calls.push(failing)?;
+    let calls = vec![in alloc; failing]?;
+    let name = String::from_str(alloc, "farm.disk")?;
     let disk = MemoryDisk::new(alloc, bytes, 8192, 64, calls)?;
     let house = house_of(alloc, case)?;
-    Ok(house.with_disk(String::from_str(alloc, "farm.disk")?, disk))
+    Ok(house.with_disk(name, disk))
 }
 
 /// How a run over such a disk ended.
@@ -57,13 +58,46 @@ fn outcome_over(
 }
 
 /// The line of `check` over a disk of these bytes.
-pub(crate) fn checked(
+fn checked(
     rt: &(impl Threads + Wait + Sync),
     alloc: Global,
     bytes: &[u8],
 ) -> Result<Vec<u8>, AllocError> {
     let words = &["check", "farm.toml", "--disk", "farm.disk"];
-    Ok(outcome_over(rt, alloc, &case(words, &[]), bytes, NONE)?.output)
+    let done = outcome_over(rt, alloc, &case(words, &[]), bytes, NONE)?;
+    Ok(done.output)
+}
+
+/// Of how many images this is the line of `check`, and of how many it is not.
+fn check_all(
+    rt: &(impl Threads + Wait + Sync),
+    alloc: Global,
+    images: &[Vec<u8>],
+    line: &[u8],
+) -> Result<(u64, u64), AllocError> {
+    let mut same = 0u64;
+    let mut others = 0u64;
+    for image in images {
+        if checked(rt, alloc, image)?.as_slice() == line {
+            same = same.saturating_add(1);
+        } else {
+            others = others.saturating_add(1);
+        }
+    }
+    Ok((same, others))
+}
+
+/// Whether there are images of the disk that came back to a house, and this is the line of `check` of each.
+pub(crate) fn each_is_checked(
+    rt: &(impl Threads + Wait + Sync),
+    alloc: Global,
+    house: &MemoryHouse,
+    line: &[u8],
+) -> Result<bool, Fail> {
+    let disk = house.returned_disk().ok_or("the disk")?;
+    let images = disk.images(alloc, &[0, 0xa5])?;
+    let (same, others) = check_all(rt, alloc, &images, line)?;
+    Ok(same > 0 && others == 0)
 }
 
 /// What makes a task, with a deadline a day after the first moment that the clock tells.
@@ -72,67 +106,84 @@ pub(crate) const CREATION: &[u8] =
 
 pub(crate) const ANSWER: &[&str] = &["answer", "farm.toml", "--disk", "farm.disk"];
 
-#[test]
-fn a_disk_keeps_what_was_acknowledged(rt: HostRuntime) -> Result<(), Fail> {
-    let alloc = rt.alloc();
-    let empty: &[u8] = b"ok roles=1 clients=0 hooks=0 records=0 tasks=0\n";
-    assert_eq!(rt; checked(&rt, alloc, &[])?.as_slice(), empty);
+/// What `check` tells of a disk that keeps one task.
+pub(crate) const ONE: &[u8] = b"ok roles=1 clients=0 hooks=0 records=1 tasks=1\n";
 
+/// Whether a task is made, and each image of the disk keeps it.
+fn keep(
+    rt: &(impl Threads + Wait + Sync),
+    alloc: Global,
+    case: &Case,
+    house: &mut MemoryHouse,
+) -> Result<[bool; 3], Fail> {
+    let done = outcome_in(rt, alloc, case, house)?;
+    let is_done = done.status == Status::Done;
+    let is_made = done.output.as_slice().starts_with(b"HTTP/1.1 200 OK\r\n");
+    Ok([is_done, is_made, each_is_checked(rt, alloc, house, ONE)?])
+}
+
+/// The same over an empty disk.
+fn keeps(rt: &(impl Threads + Wait + Sync), alloc: Global) -> Result<[bool; 3], Fail> {
     let case = case(ANSWER, CREATION);
     let mut house = house_with(alloc, &case, &[], NONE)?;
-    let done = outcome_in(&rt, alloc, &case, &mut house)?;
-    assert_eq!(rt; done.status, Status::Done);
-    assert!(rt; done.output.as_slice().starts_with(b"HTTP/1.1 200 OK\r\n"));
-    let disk = house.returned_disk().ok_or("the disk")?;
-    let images = disk.images(alloc, &[0, 0xa5])?;
-    assert!(rt; !images.is_empty());
-    let one: &[u8] = b"ok roles=1 clients=0 hooks=0 records=1 tasks=1\n";
-    for image in &images {
-        assert_eq!(rt; checked(&rt, alloc, image)?.as_slice(), one);
+    keep(rt, alloc, &case, &mut house)
+}
+
+#[test]
+fn a_disk_keeps_what_was_acknowledged(rt: HostRuntime) -> Result<(), Fail> {
+    let empty: &[u8] = b"ok roles=1 clients=0 hooks=0 records=0 tasks=0\n";
+    assert!(rt; checked(&rt, rt.alloc(), &[])?.as_slice() == empty);
+    assert_eq!(rt; keeps(&rt, rt.alloc())?, [true, true, true]);
+    Ok(())
+}
+
+/// An open gate, and a length that the file does not have.
+const DAMAGED: &[u8] = &[0xa5, 0, 0, 0, 9, 1, 2, 3];
+
+/// The bytes of a disk of this name: it is damaged, or empty.
+pub(crate) fn disk_of(name: &str) -> &'static [u8] {
+    if name == "damaged" { DAMAGED } else { &[] }
+}
+
+/// The words, the disk, the input, the call of the disk that fails, the status, the output and the notes. The opening of an empty disk is four
+/// calls, so the sixth call is the first sync after it.
+const FAULTS: &str =
+    r#"answer farm.toml --disk farm.disk||PUT /api/queue/v1/task/AAAAAAAAQACAAAAAAAAAAA HTTP/1.1\r\nContent-Length: 211\r\n\r\n{"created":"1970-01-01T00:00:00.000Z","deadline":"1970-01-02T00:00:00.000Z","metadata":{"description":"d","name":"n","owner":"o@example.com","source":"https://example.com/"},"payload":{},"taskQueueId":"prov/wt"}GET /api/queue/v1/ping HTTP/1.1\r\n\r\n|5|4|HTTP/1.1 500 Internal Server Error\r\nContent-Length: 61\r\nContent-Type: application/json\r\n\r\n{"code":"DiskFault","details":{},"message":"the disk failed"}HTTP/1.1 500 Internal Server Error\r\nContent-Length: 66\r\nContent-Type: application/json\r\n\r\n{"code":"Halted","details":{},"message":"the disk failed earlier"}|the disk failed: farm.disk\n
+answer farm.toml --disk farm.disk||GET /api/queue/v1/ping HTTP/1.1\r\n\r\n|1|4||*
+answer farm.toml --disk other.disk||GET /api/queue/v1/ping HTTP/1.1\r\n\r\n|1000000|4||the disk failed: other.disk: entity not found\n
+answer farm.toml --disk farm.disk|damaged|GET /api/queue/v1/ping HTTP/1.1\r\n\r\n|1000000|9||the disk is damaged: farm.disk: at byte 0\n
+check farm.toml --disk farm.disk|damaged||1000000|9||*"#;
+
+/// Whether such a row holds.
+fn fault_holds(rt: &(impl Threads + Wait + Sync), alloc: Global, row: &str) -> Result<bool, Fail> {
+    let (line, rest) = row.split_once('|').ok_or("the words")?;
+    let (disk, rest) = rest.split_once('|').ok_or("the disk")?;
+    let (input, rest) = rest.split_once('|').ok_or("the input")?;
+    let (failing, rest) = rest.split_once('|').ok_or("a call")?;
+    let (code, told) = rest.split_once('|').ok_or("the status")?;
+    let failing = failing.parse().ok().ok_or("a number")?;
+    let input = unescaped(alloc, input)?;
+    let words = words_of(alloc, line)?;
+    let done = outcome_over(rt, alloc, &case(&words, &input), disk_of(disk), failing)?;
+    is_outcome(alloc, &done, code, told)
+}
+
+/// The first of some such rows that does not hold, or `none`.
+fn first_other<'a>(
+    rt: &(impl Threads + Wait + Sync),
+    alloc: Global,
+    rows: &'a str,
+) -> Result<&'a str, Fail> {
+    for row in rows.split('\n') {
+        if !fault_holds(rt, alloc, row)? {
+            return Ok(row);
+        }
     }
-    Ok(())
+    Ok("none")
 }
 
-// The opening of an empty disk is four calls, so the sixth call is the first sync after it.
 #[test]
-fn a_disk_that_fails_ends_with_4(rt: HostRuntime) -> Result<(), Fail> {
-    let alloc = rt.alloc();
-    let mut input = Vec::new(alloc);
-    input.extend_from_slice(CREATION)?;
-    input.extend_from_slice(PING)?;
-    let failed = outcome_over(&rt, alloc, &case(ANSWER, input.as_slice()), &[], 5)?;
-    assert_eq!(rt; failed.status.code(), 4);
-    let output: &[u8] =
-        b"HTTP/1.1 500 Internal Server Error\r\nContent-Length: 61\r\nContent-Type: application/json\r\n\r\n{\"code\":\"DiskFault\",\"details\":{},\"message\":\"the disk failed\"}HTTP/1.1 500 Internal Server Error\r\nContent-Length: 66\r\nContent-Type: application/json\r\n\r\n{\"code\":\"Halted\",\"details\":{},\"message\":\"the disk failed earlier\"}";
-    assert_eq!(rt; failed.output.as_slice(), output);
-    let note: &[u8] = b"the disk failed: farm.disk\n";
-    assert_eq!(rt; failed.notes.as_slice(), note);
-
-    let unread = outcome_over(&rt, alloc, &case(ANSWER, PING), &[], 1)?;
-    assert_eq!(rt; unread.status.code(), 4);
-    assert_eq!(rt; unread.output.len(), 0);
-
-    let other = &["answer", "farm.toml", "--disk", "other.disk"];
-    let missing = outcome_over(&rt, alloc, &case(other, PING), &[], NONE)?;
-    assert_eq!(rt; missing.status.code(), 4);
-    assert_eq!(rt; missing.output.len(), 0);
-    let reason: &[u8] = b"the disk failed: other.disk: entity not found\n";
-    assert_eq!(rt; missing.notes.as_slice(), reason);
-    Ok(())
-}
-
-// An open gate, and a length that the file does not have.
-#[test]
-fn a_damaged_disk_ends_with_9(rt: HostRuntime) -> Result<(), Fail> {
-    let alloc = rt.alloc();
-    let bytes: &[u8] = &[0xa5, 0, 0, 0, 9, 1, 2, 3];
-    let answered = outcome_over(&rt, alloc, &case(ANSWER, PING), bytes, NONE)?;
-    assert_eq!(rt; answered.status.code(), 9);
-    assert_eq!(rt; answered.output.len(), 0);
-    let note: &[u8] = b"the disk is damaged: farm.disk: at byte 0\n";
-    assert_eq!(rt; answered.notes.as_slice(), note);
-    let check = &["check", "farm.toml", "--disk", "farm.disk"];
-    let checked = outcome_over(&rt, alloc, &case(check, &[]), bytes, NONE)?;
-    assert_eq!(rt; checked.status.code(), 9);
+fn a_disk_that_fails_ends_with_4_and_a_damaged_one_with_9(rt: HostRuntime) -> Result<(), Fail> {
+    assert_eq!(rt; first_other(&rt, rt.alloc(), FAULTS)?, "none");
     Ok(())
 }

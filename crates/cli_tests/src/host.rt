@@ -1,5 +1,5 @@
 //! The house of the system, over files of this machine.
-use causes::FaultCount;
+use causes::{Failed, FaultCount};
 use farm_cli::host_house::HostHouse;
 use farm_cli::house::House;
 use farm_text::Draws;
@@ -7,23 +7,62 @@ use http_wire::Source;
 use std::io::ErrorKind;
 use std::test::Fail;
 
-#[test]
-fn the_system_lends_files_and_draws(rt: HostRuntime) -> Result<(), Fail> {
-    let mut house = HostHouse::new(rt, &mut FaultCount::new())?;
-    assert_eq!(rt; house.reason(), None);
-    assert!(rt; house.farm_file("no/such/farm.toml").is_err());
-    assert_eq!(rt; house.reason(), Some(ErrorKind::NotFound));
-    let mut folder = house.farm_file("/")?;
-    assert!(rt; folder.read(&mut [0u8; 1]).is_err());
-    house.back_farm_file(folder);
-    assert_eq!(rt; house.reason(), Some(ErrorKind::IsADirectory));
-    let mut file = house.farm_file("/dev/null")?;
-    assert_eq!(rt; file.read(&mut [0u8; 1])?, 0);
-    house.back_farm_file(file);
+/// What comes of reading a byte of a farm file of this name, which goes back to the house.
+fn read_byte(house: &mut HostHouse, name: &str) -> &'static str {
+    match house.farm_file(name) {
+        Ok(file) => {
+            let mut file = file;
+            let read = file.read(&mut [0u8; 1]);
+            house.back_farm_file(file);
+            match read {
+                Ok(0) => "empty",
+                Ok(_) => "a byte",
+                Err(Failed) => "unread",
+            }
+        }
+        Err(Failed) => "refused",
+    }
+}
+
+/// The same of a file that is missing, of a folder and of an empty file, and the reasons that a house gives before them, after the first and
+/// after the second.
+fn read_files(house: &mut HostHouse) -> ([&'static str; 3], [Option<ErrorKind>; 3]) {
+    let none = house.reason();
+    let missing = read_byte(house, "no/such/farm.toml");
+    let first = house.reason();
+    let folder = read_byte(house, "/");
+    let second = house.reason();
+    let empty = read_byte(house, "/dev/null");
+    ([missing, folder, empty], [none, first, second])
+}
+
+/// Whether two draws of a house, which go back to it, give different ids.
+fn draw_apart(house: &mut HostHouse) -> bool {
     let mut draws = house.draws();
     let mut others = house.draws();
-    assert_ne!(rt; draws.draw().uuid(), others.draw().uuid());
+    let is_other = draws.draw().uuid() != others.draw().uuid();
     house.back_draws(draws);
     house.back_draws(others);
+    is_other
+}
+
+/// All of that, of the house of the system.
+fn lend(rt: HostRuntime) -> Result<([&'static str; 3], [Option<ErrorKind>; 3], bool), Fail> {
+    let mut house = HostHouse::new(rt, &mut FaultCount::new())?;
+    let (files, reasons) = read_files(&mut house);
+    Ok((files, reasons, draw_apart(&mut house)))
+}
+
+#[test]
+fn the_system_lends_files_and_draws(rt: HostRuntime) -> Result<(), Fail> {
+    let (files, reasons, is_other) = lend(rt)?;
+    let wanted = [
+        None,
+        Some(ErrorKind::NotFound),
+        Some(ErrorKind::IsADirectory),
+    ];
+    assert!(rt; files == ["refused", "unread", "empty"]);
+    assert!(rt; reasons == wanted);
+    assert!(rt; is_other);
     Ok(())
 }

@@ -3,11 +3,10 @@
 use farm_cli::memory_house::MemoryHouse;
 use farm_cli::run;
 use farm_cli::status::Status;
-use farm_text::{ListClock, ListDraws};
-use http_wire::{Joined, MemorySink, MemorySource};
+use farm_text::{ListClock, ListDraws, Moment};
+use http_wire::{Joined, MemoryLink, MemorySink, MemorySource};
 use std::alloc::{AllocError, Global};
 use std::sync::Wait;
-use std::test::Fail;
 use std::thread::Threads;
 
 /// A command line, what a house has for it, and which reads and writes fail, by their numbers from 0 on.
@@ -43,26 +42,42 @@ pub(crate) struct Outcome {
     pub(crate) notes: Vec<u8>,
 }
 
-/// A house with a farm file `farm.toml`, and room for some replies and a note.
-pub(crate) fn house_of(alloc: Global, case: &Case) -> Result<MemoryHouse, AllocError> {
-    let farm_file = MemorySource::new(
-        case.farm.to_vec(alloc)?,
-        case.failing_farm_reads.to_vec(alloc)?,
-        8,
-    );
-    let console = Joined {
-        source: MemorySource::new(
-            case.input.to_vec(alloc)?,
-            case.failing_reads.to_vec(alloc)?,
-            8192,
-        ),
-        sink: MemorySink::new(alloc, 1024, case.failing_writes.to_vec(alloc)?)?,
-    };
-    let notes = MemorySink::new(alloc, 1024, Vec::new(alloc))?;
-    let clock = ListClock::new(Vec::new(alloc));
-    let draws = ListDraws::new(Vec::new(alloc));
+/// A console with the input of a case, and room for so many bytes of replies.
+fn console(alloc: Global, case: &Case, room: usize) -> Result<MemoryLink, AllocError> {
+    let input = case.input.to_vec(alloc)?;
+    let reads = case.failing_reads.to_vec(alloc)?;
+    let writes = case.failing_writes.to_vec(alloc)?;
+    let sink = MemorySink::new(alloc, room, writes)?;
+    let source = MemorySource::new(input, reads, 8192);
+    Ok(Joined { source, sink })
+}
+
+/// A farm file of a case.
+fn farm_file(alloc: Global, case: &Case) -> Result<MemorySource, AllocError> {
+    let bytes = case.farm.to_vec(alloc)?;
+    let reads = case.failing_farm_reads.to_vec(alloc)?;
+    Ok(MemorySource::new(bytes, reads, 8))
+}
+
+/// A house with a farm file `farm.toml`, room for so many bytes of replies and for a note, and a clock that tells these moments.
+pub(crate) fn house_at(
+    alloc: Global,
+    case: &Case,
+    moments: Vec<Moment>,
+    room: usize,
+) -> Result<MemoryHouse, AllocError> {
     let farm_name = String::from_str(alloc, "farm.toml")?;
+    let notes = MemorySink::new(alloc, 1024, Vec::new(alloc))?;
+    let farm_file = farm_file(alloc, case)?;
+    let console = console(alloc, case, room)?;
+    let clock = ListClock::new(moments);
+    let draws = ListDraws::new(Vec::new(alloc));
     Ok(MemoryHouse::new(alloc, farm_name, farm_file, console, notes, clock, draws))
+}
+
+/// A house with room for some replies, and a clock that tells the first moment.
+pub(crate) fn house_of(alloc: Global, case: &Case) -> Result<MemoryHouse, AllocError> {
+    house_at(alloc, case, Vec::new(alloc), 1024)
 }
 
 /// Runs a case.
@@ -75,6 +90,15 @@ pub(crate) fn outcome_of(
     outcome_in(rt, alloc, case, &mut house)
 }
 
+/// The words of a case.
+fn words_of(alloc: Global, case: &Case) -> Result<Vec<String>, AllocError> {
+    let mut words = Vec::new(alloc);
+    for word in case.words {
+        words.push(String::from_str(alloc, word)?)?;
+    }
+    Ok(words)
+}
+
 /// Runs a case over this house.
 pub(crate) fn outcome_in(
     rt: &(impl Threads + Wait + Sync),
@@ -82,19 +106,23 @@ pub(crate) fn outcome_in(
     case: &Case,
     house: &mut MemoryHouse,
 ) -> Result<Outcome, AllocError> {
-    let mut words = Vec::new(alloc);
-    for word in case.words {
-        words.push(String::from_str(alloc, word)?)?;
-    }
-    let status = run::run(rt, alloc, words.as_slice(), house);
-    let mut output = Vec::new(alloc);
-    if let Some(console) = house.returned_console() {
-        output.extend_from_slice(console.sink.written())?;
-    }
-    let mut notes = Vec::new(alloc);
-    if let Some(sink) = house.returned_notes() {
-        notes.extend_from_slice(sink.written())?;
-    }
+    let words = words_of(alloc, case)?;
+    let status = run::run(rt, alloc, &words, house);
+    outcome_with(alloc, status, house)
+}
+
+/// The outcome of a run that ended so, with what was written to a house.
+fn outcome_with(alloc: Global, status: Status, house: &MemoryHouse) -> Result<Outcome, AllocError> {
+    let output = match house.returned_console() {
+        Some(console) => console.sink.written(),
+        None => &[],
+    };
+    let notes = match house.returned_notes() {
+        Some(notes) => notes.written(),
+        None => &[],
+    };
+    let output = Vec::from_slice(alloc, output)?;
+    let notes = Vec::from_slice(alloc, notes)?;
     Ok(Outcome {
         status,
         output,

@@ -1,14 +1,15 @@
 //! A task whose run is lost, over a disk: what `check` counts of each image.
 
-use crate::disks::{ANSWER, OPEN_TO_ALL, checked};
+use crate::disks::{ANSWER, case, each_is_checked};
+use crate::houses::{Case, Outcome, house_at, outcome_in};
 use disk_base::MemoryDisk;
 use farm_cli::memory_house::MemoryHouse;
-use farm_cli::run;
 use farm_cli::status::Status;
-use farm_text::{ListClock, ListDraws, Moment};
-use http_wire::{Joined, MemorySink, MemorySource};
+use farm_text::Moment;
 use std::alloc::Global;
+use std::sync::Wait;
 use std::test::Fail;
+use std::thread::Threads;
 
 /// A task is made, claimed, kept for longer, and reported when the claim has ended.
 const INPUT: &[u8] =
@@ -22,58 +23,58 @@ const MOMENTS: &[u64] = &[
     1_704_069_609_999,
 ];
 
-/// The clock that tells them.
-fn clock(alloc: Global) -> Result<ListClock, Fail> {
+/// Those moments.
+fn moments(alloc: Global) -> Result<Vec<Moment>, Fail> {
     let mut moments = Vec::new(alloc);
     for millis in MOMENTS {
         moments.push(Moment::from_millis(*millis).ok_or("a moment")?)?;
     }
-    Ok(ListClock::new(moments))
+    Ok(moments)
 }
 
 /// A house with a farm that is open to all, an empty disk and this input.
-fn house(alloc: Global) -> Result<MemoryHouse, Fail> {
-    let farm_file = MemorySource::new(OPEN_TO_ALL.to_vec(alloc)?, Vec::new(alloc), 8192);
-    let console = Joined {
-        source: MemorySource::new(INPUT.to_vec(alloc)?, Vec::new(alloc), 8192),
-        sink: MemorySink::new(alloc, 8192, Vec::new(alloc))?,
-    };
-    let house = MemoryHouse::new(
-        alloc,
-        String::from_str(alloc, "farm.toml")?,
-        farm_file,
-        console,
-        MemorySink::new(alloc, 1024, Vec::new(alloc))?,
-        clock(alloc)?,
-        ListDraws::new(Vec::new(alloc)),
-    );
+fn house(alloc: Global, case: &Case) -> Result<MemoryHouse, Fail> {
+    let moments = moments(alloc)?;
+    let name = String::from_str(alloc, "farm.disk")?;
     let disk = MemoryDisk::new(alloc, &[], 8192, 64, Vec::new(alloc))?;
-    Ok(house.with_disk(String::from_str(alloc, "farm.disk")?, disk))
+    let house = house_at(alloc, case, moments, 8192)?;
+    Ok(house.with_disk(name, disk))
+}
+
+/// Whether the first reply is a success, some reply is a conflict, and nothing failed.
+fn is_told(done: &Outcome) -> Result<[bool; 3], Fail> {
+    let replies = str::from_utf8(done.output.as_slice())?;
+    Ok([
+        done.status == Status::Done,
+        replies.starts_with("HTTP/1.1 200 OK\r\n"),
+        replies.contains("HTTP/1.1 409 Conflict\r\n"),
+    ])
+}
+
+/// The same of a run over this house, and whether each image of its disk keeps four records of one task.
+fn lose(
+    rt: &(impl Threads + Wait + Sync),
+    alloc: Global,
+    case: &Case,
+    house: &mut MemoryHouse,
+) -> Result<([bool; 3], bool), Fail> {
+    let done = outcome_in(rt, alloc, case, house)?;
+    let line = b"ok roles=1 clients=0 hooks=0 records=4 tasks=1\n";
+    Ok((is_told(&done)?, each_is_checked(rt, alloc, house, line)?))
+}
+
+/// The same of a house of its own.
+fn loses(rt: &(impl Threads + Wait + Sync), alloc: Global) -> Result<([bool; 3], bool), Fail> {
+    let case = case(ANSWER, INPUT);
+    let mut house = house(alloc, &case)?;
+    lose(rt, alloc, &case, &mut house)
 }
 
 // Four records: the task is made, claimed and kept for longer, and then the end of its claim is a tick. The report is refused, so it is none.
 #[test]
 fn a_lost_run_is_four_records(rt: HostRuntime) -> Result<(), Fail> {
-    let alloc = rt.alloc();
-    let mut words = Vec::new(alloc);
-    for word in ANSWER {
-        words.push(String::from_str(alloc, word)?)?;
-    }
-    let mut house = house(alloc)?;
-    assert_eq!(rt;
-        run::run(&rt, alloc, words.as_slice(), &mut house),
-        Status::Done
-    );
-    let console = house.returned_console().ok_or("the console")?;
-    let replies = str::from_utf8(console.sink.written())?;
-    assert!(rt; replies.starts_with("HTTP/1.1 200 OK\r\n"));
-    assert!(rt; replies.contains("HTTP/1.1 409 Conflict\r\n"));
-    let disk = house.returned_disk().ok_or("the disk")?;
-    let images = disk.images(alloc, &[0, 0xa5])?;
-    assert!(rt; !images.is_empty());
-    let line: &[u8] = b"ok roles=1 clients=0 hooks=0 records=4 tasks=1\n";
-    for image in &images {
-        assert_eq!(rt; checked(&rt, alloc, image)?.as_slice(), line);
-    }
+    let (replies, is_kept) = loses(&rt, rt.alloc())?;
+    assert_eq!(rt; replies, [true, true, true]);
+    assert!(rt; is_kept);
     Ok(())
 }

@@ -103,7 +103,7 @@ fn parts(row: &str) -> Result<Row<'_>, Fail> {
 }
 
 /// The words of a line.
-fn words_of(alloc: Global, line: &str) -> Result<Vec<&str>, AllocError> {
+pub(crate) fn words_of(alloc: Global, line: &str) -> Result<Vec<&str>, AllocError> {
     let mut words = Vec::new(alloc);
     for word in line.split(' ') {
         if !word.is_empty() {
@@ -113,24 +113,46 @@ fn words_of(alloc: Global, line: &str) -> Result<Vec<&str>, AllocError> {
     Ok(words)
 }
 
-/// Whether a row holds: a run with its words, farm file and input, of which this fails, has this status, output and notes.
-pub(crate) fn holds(
+/// Whether these words, this farm file and this input, of which what the row says fails, come to what it says.
+fn row_holds(
     rt: &(impl Threads + Wait + Sync),
     alloc: Global,
-    row: &str,
+    row: Row<'_>,
+    words: &[&str],
+    farm: &[u8],
+    input: &[u8],
 ) -> Result<bool, Fail> {
+    let case = Case {
+        words,
+        farm,
+        failing_farm_reads: failing(row.fails, "farm"),
+        input,
+        failing_reads: failing(row.fails, "read"),
+        failing_writes: failing(row.fails, "write"),
+    };
+    comes_to(rt, alloc, &case, row.code, row.told)
+}
+
+/// Whether a row holds: a run with its words, farm file and input, of which this fails, has this status, output and notes.
+fn holds(rt: &(impl Threads + Wait + Sync), alloc: Global, row: &str) -> Result<bool, Fail> {
     let row = parts(row)?;
     let line = unescaped(alloc, row.words)?;
     let farm = unescaped(alloc, row.farm)?;
     let input = unescaped(alloc, row.input)?;
     let words = words_of(alloc, str::from_utf8(line.as_slice())?)?;
-    let case = Case {
-        words: words.as_slice(),
-        farm: farm.as_slice(),
-        failing_farm_reads: failing(row.fails, "farm"),
-        input: input.as_slice(),
-        failing_reads: failing(row.fails, "read"),
-        failing_writes: failing(row.fails, "write"),
-    };
-    comes_to(rt, alloc, &case, row.code, row.told)
+    row_holds(rt, alloc, row, &words, &farm, &input)
+}
+
+/// The first of some rows that does not hold, or `none`.
+pub(crate) fn first_other<'a>(
+    rt: &(impl Threads + Wait + Sync),
+    alloc: Global,
+    rows: &'a str,
+) -> Result<&'a str, Fail> {
+    for row in rows.split('\n') {
+        if !holds(rt, alloc, row)? {
+            return Ok(row);
+        }
+    }
+    Ok("none")
 }

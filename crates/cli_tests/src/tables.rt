@@ -1,7 +1,7 @@
 //! Runs over houses in memory: what is written, what is noted, and the status. A row has the words, the farm file, the input, what fails, the
 //! status, the output and the notes, cut by bars; `*` is any text, but not the empty one.
 
-use crate::rows::holds;
+use crate::rows::first_other;
 use std::test::Fail;
 
 /// Commands over farm files. The line of `bulk` is a worked row; `bench/bulk_model.py` prints it, too.
@@ -55,33 +55,10 @@ sign --id dh37fgj492je --token werxhqb98rpaxn39848xrunpaw3489ruxnpa98w4rxn --met
 bulk --seed 0 --tasks 100001||GET /api/queue/v1/ping HTTP/1.1\r\n\r\n|-|2||*"#;
 
 #[test]
-fn commands_do_what_they_say(rt: HostRuntime) -> Result<(), Fail> {
-    for row in COMMANDS.lines() {
-        assert!(rt; holds(&rt, rt.alloc(), row)?, "{row}");
-    }
-    Ok(())
-}
-
-#[test]
-fn requests_are_signed(rt: HostRuntime) -> Result<(), Fail> {
-    for row in SIGNED.lines() {
-        assert!(rt; holds(&rt, rt.alloc(), row)?, "{row}");
-    }
-    Ok(())
-}
-
-#[test]
-fn what_is_refused_is_told(rt: HostRuntime) -> Result<(), Fail> {
-    for row in REFUSED.lines() {
-        assert!(rt; holds(&rt, rt.alloc(), row)?, "{row}");
-    }
-    Ok(())
-}
-
-#[test]
-fn untaken_words(rt: HostRuntime) -> Result<(), Fail> {
-    for row in UNTAKEN.lines() {
-        assert!(rt; holds(&rt, rt.alloc(), row)?, "{row}");
-    }
+fn commands_do_what_they_say_or_tell_why_not(rt: HostRuntime) -> Result<(), Fail> {
+    assert_eq!(rt; first_other(&rt, rt.alloc(), COMMANDS)?, "none");
+    assert_eq!(rt; first_other(&rt, rt.alloc(), SIGNED)?, "none");
+    assert_eq!(rt; first_other(&rt, rt.alloc(), REFUSED)?, "none");
+    assert_eq!(rt; first_other(&rt, rt.alloc(), UNTAKEN)?, "none");
     Ok(())
 }

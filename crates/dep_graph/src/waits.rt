@@ -91,8 +91,31 @@ impl Waits {
         self.ready.put(place, shown(task, lacking));
     }
 
-    /// Counts again for each of these, which depend on one that came from there to here.
+    /// Counts again for each of these, which depend on one that came from there to here. Where it serves them as before nothing is counted: a task's
+    /// claims and retries cost the same whoever waits for it.
     pub(crate) fn count_each(&mut self, tasks: &Tasks, rows: &[u32], step: Step)
+        requires own { HaveOwnRows tasks.now.tasks }
+        requires long { length self.old.lacking.items ≡ length tasks.now.tasks }
+        requires fit { length tasks.now.tasks ≤ length self.old.ready }
+        requires distinct { IsDistinct ◌==◌ rows.now }
+        requires fits { (place : ℕ) (task : Task) → slice_get tasks.now.tasks place ≡ Some task → is_in rows.now task.row ≡ true
+            → (lacking : ℕ) × (lacking < 2 ^ 63) × IsMoved true task.needs step.before step.now (slice_index self.old.lacking.items place) lacking }
+        requires shown { ShowReady tasks.now.tasks self.old.lacking.items self.old.ready }
+        ensures counted { (place : ℕ) (task : Task) → slice_get tasks.now.tasks place ≡ Some task
+            → IsMoved (is_in rows.now task.row) task.needs step.before step.now (slice_index self.old.lacking.items place) (slice_index self.new.lacking.items place) }
+        ensures shown { ShowReady tasks.now.tasks self.new.lacking.items self.new.ready }
+        ensures long { length self.new.lacking.items ≡ length self.old.lacking.items }
+        ensures fit { length self.new.ready ≡ length self.old.ready }
+        ensures capacity { vec_capacity self.new.lacking ≡ vec_capacity self.old.lacking }
+    {
+        if changes_nothing(step) {
+            return;
+        }
+        self.count_all(tasks, rows, step);
+    }
+
+    /// Counts again for each of these.
+    fn count_all(&mut self, tasks: &Tasks, rows: &[u32], step: Step)
         requires own { HaveOwnRows tasks.now.tasks }
         requires long { length self.old.lacking.items ≡ length tasks.now.tasks }
         requires fit { length tasks.now.tasks ≤ length self.old.ready }
@@ -114,6 +137,14 @@ impl Waits {
             }
         }
     }
+}
+
+/// Whether a task serves those that depend on it as it did before.
+fn changes_nothing(step: Step) -> bool
+    ensures { result ≡ true → (step.now.was_completed ≡ step.before.was_completed) × (step.now.was_resolved ≡ step.before.was_resolved) }
+{
+    step.before.was_completed == step.now.was_completed
+        && step.before.was_resolved == step.now.was_resolved
 }
 
 /// How many do not meet what is required, where so many did not before one of those that are counted came further.

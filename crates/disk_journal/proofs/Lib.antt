@@ -6,3 +6,4 @@ pub mod OpenLemmas
 pub mod LawLemmas
 pub mod MendLemmas
 pub mod KeepsLemmas
+pub mod WalkLemmas

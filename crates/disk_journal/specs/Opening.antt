@@ -11,11 +11,12 @@ pub record IsStill (old new : Contents) : Type 0 where
   pub same : new.bytes ≡ old.bytes
   pub stops : StopsAddNothing old new
 
--- A count never falls, a fault of the disk came only where it rose, and what is no fault leaves it as it was.
+-- A count never falls, a fault of the disk came only where it rose, and what is no fault of the disk leaves it as it was.
 pub record HasOpenCause {T : Type 0} (before now : ℕ) (result : Result T OpenFault) : Type 0 where
   pub later : before ≤ now
   pub failed : IsErrOf result Disk → Rose before now
   pub kept : OnOk result (now ≡ before)
+  pub spared : (fault : OpenFault) → fault ≢ Disk → IsErrOf result fault → now ≡ before
 
 -- The gate behind the bodies was closed where it was not.
 pub record Mends {T E : Type 0} (end : ℕ) (file : List ℕ) (old new : Contents) (result : Result T E) : Type 0 where

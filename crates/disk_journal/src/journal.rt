@@ -1,5 +1,5 @@
 //! A journal on a disk, and an append to it.
-ghost use Rattle.std.specs.Prelude.{◌≡◌, ◌<◌, ◌≤◌, ◌^◌, ℕ, List, [], ◌∷◌, Option, option_to_list, OnOk, OnErr, IfOk, IfErr};
+ghost use Rattle.std.specs.Prelude.{◌≡◌, ◌≢◌, ◌<◌, ◌≤◌, ◌^◌, ℕ, List, [], ◌∷◌, Option, option_to_list, OnOk, OnErr, IfOk, IfErr};
 ghost use Rattle.causes.specs.Causes.{HasCause, Rose};
 ghost use Rattle.disk_base.specs.Contents.{StopsLeave};
 ghost use Rattle.disk_journal.specs.declared.fault.OpenFault.TheVariants.{Disk, Damaged};
@@ -7,6 +7,7 @@ ghost use Rattle.disk_journal.specs.Records.{Opens, IsDamaged, placed};
 ghost use Rattle.disk_journal.specs.Images.{IsImage, IsWithin};
 ghost use Rattle.disk_journal.specs.Journals.{disk_after};
 ghost use Rattle.disk_journal.specs.Keeping.{IsReady, Keeps};
+ghost use Rattle.disk_journal.specs.Opening.{IsStill};
 
 use crate::bodies::Bodies;
 use crate::fault::{DiskFault, OpenFault};
@@ -33,7 +34,7 @@ impl<D: Disk> Journal<D> {
     ghost use Rattle.disk_journal.specs.Opened.{opened_bodies, opened_places};
 
     /// Opens the journal on a disk: syncs, reads all bytes once, follows the open records, and closes the gate behind them where it
-    /// is not. An `Err` hands the disk back.
+    /// is not. An `Err` hands the disk back, and a damaged one as it was.
     ///
     /// A stop in it leaves what a stop at its start might have left, or the same bodies, or these and the one pending behind them.
     pub fn open(alloc: Global, disk: D) -> Result<(Self, Bodies), (OpenFault, D)>
@@ -41,9 +42,11 @@ impl<D: Disk> Journal<D> {
         ensures places { IfOk result (λ o. opened_places o.1 ≡ placed 0 (opened_bodies o.1)) }
         ensures ready { D.tells → IfOk result (λ o. IsReady [] (D.contents o.0.disk) o.0.end (opened_bodies o.1)) }
         ensures damaged { D.tells → (place : ℕ) → IfErr result (λ e. e.0 ≡ Damaged place → IsDamaged [] (D.contents disk).bytes place) }
+        ensures untouched { D.tells → (place : ℕ) → IfErr result (λ e. e.0 ≡ Damaged place → IsStill (D.contents disk) (D.contents e.1)) }
         ensures any_moment { D.tells → (bodies : List (List ℕ)) (pending : Option (List ℕ)) → IsImage [] bodies pending (D.contents disk).bytes
             → StopsLeave (D.contents disk) (D.contents (disk_after (λ j. j.disk) result)) (IsWithin [] bodies (option_to_list pending)) }
         ensures cause { IfErr result (λ e. e.0 ≡ Disk → Rose (D.faults disk) (D.faults e.1)) }
+        ensures spared { IfErr result (λ e. e.0 ≢ Disk → D.faults e.1 ≡ D.faults disk) }
         ensures later { D.faults disk ≤ D.faults (disk_after (λ j. j.disk) result) }
         ensures kept { IfOk result (λ o. D.faults o.0.disk ≡ D.faults disk) }
     {

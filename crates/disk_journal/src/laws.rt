@@ -1,5 +1,5 @@
 //! Laws of the definitions. The functions do nothing: their contracts are the laws.
-ghost use Rattle.std.specs.Prelude.{◌≡◌, ℕ, List, [], ◌++◌, take, Option, None};
+ghost use Rattle.std.specs.Prelude.{◌≡◌, ℕ, ◌⊎◌, List, [], ◌++◌, take, Option, None};
 ghost use Rattle.disk_journal.specs.Records.{Opens, IsDamaged};
 ghost use Rattle.disk_journal.specs.Images.{IsImage, IsWithin};
 
@@ -10,6 +10,11 @@ pub fn files_open_once()
     ensures bodies { (head file : List ℕ) (bodies others : List (List ℕ)) → Opens head file bodies → Opens head file others → bodies ≡ others }
     ensures place { (head file : List ℕ) (place other : ℕ) → IsDamaged head file place → IsDamaged head file other → place ≡ other }
     ensures whole { (head file : List ℕ) (bodies : List (List ℕ)) (place : ℕ) → Opens head file bodies → IsDamaged head file place → ⊥ }
+{}
+
+/// A law: each file with such a head opens to some bodies, or is damaged at some place.
+pub fn each_file_opens_or_is_damaged()
+    ensures { (head rest : List ℕ) → ((bodies : List (List ℕ)) × Opens head (head ++ rest) bodies) ⊎ ((place : ℕ) × IsDamaged head (head ++ rest) place) }
 {}
 
 /// A law: what a stop may leave of a journal opens to its bodies, so it is never damaged, and what a stop in appends or in an opening

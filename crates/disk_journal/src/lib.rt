@@ -22,4 +22,4 @@ pub use fault::{DiskFault, OpenFault};
 pub use frames::{Frame, Framed, TickFrame};
 pub use framing::{BODY_LIMIT, frame, frame_tick};
 pub use journal::Journal;
-pub use laws::{files_open_once, images_open, the_body_limit};
+pub use laws::{each_file_opens_or_is_damaged, files_open_once, images_open, the_body_limit};

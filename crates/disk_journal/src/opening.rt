@@ -7,7 +7,7 @@ ghost use Rattle.disk_journal.specs.Records.{Opens, IsDamaged, placed};
 ghost use Rattle.disk_journal.specs.Images.{IsImage, IsWithin};
 ghost use Rattle.disk_journal.specs.Keeping.{IsReady};
 ghost use Rattle.disk_journal.specs.Opened.{opened_bodies, opened_places};
-ghost use Rattle.disk_journal.specs.Opening.{Mends, HasOpenCause};
+ghost use Rattle.disk_journal.specs.Opening.{IsStill, Mends, HasOpenCause};
 
 use crate::bodies::Bodies;
 use crate::fault::OpenFault;
@@ -37,6 +37,7 @@ pub(crate) fn open_disk<D: Disk>(alloc: Global, disk: &mut D) -> Result<(u64, Bo
     ensures places { IfOk result (λ o. opened_places o.1 ≡ placed 0 (opened_bodies o.1)) }
     ensures ready { D.tells → IfOk result (λ o. IsReady [] (D.contents disk.new) o.0 (opened_bodies o.1)) }
     ensures damaged { D.tells → (place : ℕ) → result ≡ Err (Damaged place) → IsDamaged [] (D.contents disk.old).bytes place }
+    ensures untouched { D.tells → (place : ℕ) → result ≡ Err (Damaged place) → IsStill (D.contents disk.old) (D.contents disk.new) }
     ensures any_moment { D.tells → (bodies : List (List ℕ)) (pending : Option (List ℕ)) → IsImage [] bodies pending (D.contents disk.old).bytes
         → StopsLeave (D.contents disk.old) (D.contents disk.new) (IsWithin [] bodies (option_to_list pending)) }
     ensures cause { HasOpenCause (D.faults disk.old) (D.faults disk.new) result }

@@ -4,7 +4,6 @@ use jsone_expr::nodes::Node;
 use jsone_expr::tokens::{Key, Span};
 use jsone_expr::{ParseFault, parse};
 use std::alloc::{AllocError, Global};
-use std::test::Fail;
 
 mod limits;
 
@@ -283,14 +282,26 @@ fn shown(alloc: Global, text: &[u8], nodes: &[Node]) -> Result<Vec<u8>, AllocErr
     Ok(out)
 }
 
+/// Whether the nodes are shown so.
+fn are_shown(alloc: Global, text: &[u8], nodes: &[Node], wanted: &str) -> bool {
+    match shown(alloc, text, nodes) {
+        Ok(out) => out.get(1..) == Some(wanted.as_bytes()),
+        Err(_) => false,
+    }
+}
+
 /// Whether the text has this tree.
-fn has_tree(alloc: Global, text: &[u8], wanted: &[u8]) -> Result<bool, AllocError> {
-    match parse(alloc, text) {
-        Ok(tree) => {
-            let out = shown(alloc, tree.text, &tree.nodes)?;
-            Ok(out.get(1..) == Some(wanted))
-        }
-        Err(_) => Ok(false),
+fn has_tree(alloc: Global, text: &str, wanted: &str) -> bool {
+    match parse(alloc, text.as_bytes()) {
+        Ok(tree) => are_shown(alloc, tree.text, &tree.nodes, wanted),
+        Err(_) => false,
+    }
+}
+
+fn is_tree_row(alloc: Global, row: &str) -> bool {
+    match row.split_once(" ~ ") {
+        Some((text, wanted)) => has_tree(alloc, text, wanted),
+        None => false,
     }
 }
 
@@ -301,50 +312,62 @@ fn fault(alloc: Global, text: &[u8]) -> Option<ParseFault> {
     }
 }
 
-#[test]
-fn texts_have_their_trees(rt: HostRuntime) -> Result<(), Fail> {
-    for line in TREES.lines() {
-        let (text, wanted) = line.split_once(" ~ ").ok_or("no row")?;
-        assert!(rt;
-            has_tree(rt.alloc(), text.as_bytes(), wanted.as_bytes())?,
-            "{text}"
-        );
+/// Whether a text goes wrong at this place.
+fn is_fault(alloc: Global, text: &[u8], place: usize) -> bool {
+    fault(alloc, text) == Some(ParseFault::Syntax(place))
+}
+
+fn is_fault_row(alloc: Global, row: &str) -> bool {
+    match row.split_once(" ~ ") {
+        Some((text, place)) => match place.parse::<usize>() {
+            Ok(place) => is_fault(alloc, text.as_bytes(), place),
+            Err(_) => false,
+        },
+        None => false,
     }
-    Ok(())
 }
 
 #[test]
-fn texts_go_wrong_at_their_places(rt: HostRuntime) -> Result<(), Fail> {
-    for line in FAULTS.lines() {
-        let (text, place) = line.split_once(" ~ ").ok_or("no row")?;
-        let place = place.parse::<usize>().ok().ok_or("no place")?;
-        assert!(rt;
-            fault(rt.alloc(), text.as_bytes()) == Some(ParseFault::Syntax(place)),
-            "{text}"
-        );
+fn texts_have_their_trees(rt: HostRuntime) {
+    for row in TREES.lines() {
+        assert!(rt; is_tree_row(rt.alloc(), row), "{row}");
     }
-    assert!(rt; fault(rt.alloc(), b"1\n+\r*") == Some(ParseFault::Syntax(4)));
-    assert!(rt; fault(rt.alloc(), b"a\xff") == Some(ParseFault::Syntax(1)));
-    Ok(())
 }
 
-/// The places of the nodes behind left sides.
-fn left_places(alloc: Global, text: &[u8]) -> Result<Vec<usize>, Fail> {
-    let mut places = Vec::new(alloc);
-    let tree = parse(alloc, text).ok().ok_or("no tree")?;
-    for (place, node) in tree.nodes.iter().enumerate() {
+#[test]
+fn texts_go_wrong_at_their_places(rt: HostRuntime) {
+    for row in FAULTS.lines() {
+        assert!(rt; is_fault_row(rt.alloc(), row), "{row}");
+    }
+    assert!(rt; is_fault(rt.alloc(), b"1\n+\r*", 4));
+    assert!(rt; is_fault(rt.alloc(), b"a\xff", 1));
+}
+
+/// Whether these are the places of the nodes behind left sides.
+fn are_left(nodes: &[Node], places: &[usize]) -> bool {
+    let mut rest = places;
+    for (place, node) in nodes.iter().enumerate() {
         if let Node::Left(_) = node {
-            places.push(place)?;
+            match rest.split_first() {
+                Some((first, more)) if *first == place => rest = more,
+                _ => return false,
+            }
         }
     }
-    Ok(places)
+    rest.is_empty()
+}
+
+fn has_left(alloc: Global, text: &str, places: &[usize]) -> bool {
+    match parse(alloc, text.as_bytes()) {
+        Ok(tree) => are_left(&tree.nodes, places),
+        Err(_) => false,
+    }
 }
 
 #[test]
-fn a_left_side_has_a_node_behind_it(rt: HostRuntime) -> Result<(), Fail> {
+fn a_left_side_has_a_node_behind_it(rt: HostRuntime) {
     // a _|| b _&& c && ||
-    assert!(rt; left_places(rt.alloc(), b"a||b&&c")?.as_slice() == [1, 3].as_slice());
+    assert!(rt; has_left(rt.alloc(), "a||b&&c", &[1, 3]));
     // a _* b * _+ c +
-    assert!(rt; left_places(rt.alloc(), b"a*b+c")?.as_slice() == [1, 4].as_slice());
-    Ok(())
+    assert!(rt; has_left(rt.alloc(), "a*b+c", &[1, 4]));
 }

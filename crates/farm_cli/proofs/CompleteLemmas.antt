@@ -208,7 +208,7 @@ opens_soundly {S} views old new before now name disk status Did sound (inr (inl 
 
     by : (fault : OpenFault) → IsRefusedFor views ran.given ran.back fault → status ≡ status_of_fault fault → status ≡ NoMemory
     by faults.Disk why is = absurd (sound.well ran.back met.1 (subst (λ (d : S). Rose (views.disk_faults d) (views.disk_faults ran.back)) met.0 why))
-    by (faults.Damaged place) why is = absurd (sound.sound place (subst (λ (d : S). IsFarmDamaged (views.disk_contents d).bytes place) met.0 (why sound.tells)))
+    by (faults.Damaged place) why is = absurd (sound.sound place (subst (λ (d : S). IsFarmDamaged (views.disk_contents d).bytes place) met.0 (why.1 sound.tells)))
     by faults.NoMemory why is = is
 opens_soundly views old new before now name disk status Did sound (inr (inr ran)) = absurd (rw (sound.has.disks, sound.has.there) at ran.could)
 

@@ -8,7 +8,7 @@ use Rattle.causes.specs.Logs.{LogGrows}
 use Rattle.causes.proofs.LogsLemmas.{LogGrows-none, LogGrows-then}
 use Rattle.farm_text.specs.Told.{IsNewBeside}
 use Rattle.farm_serving.specs.Connections.{Station}
-use Rattle.farm_cli.specs.Crew.{IsStill, IsBeside, AreCrew, IsWholeCrew, IsDoorFailed}
+use Rattle.farm_cli.specs.Crew.{IsStill, IsBeside, AreCrew, IsWholeCrew, IsKeptCrew, IsDoorFailed}
 
 -- a log beside which another one is new is told no longer, or that one is new beside it still
 beside_later : {A : Type 0} (before after other : Option (List A)) → LogGrows before after [] → IsNewBeside before other → IsNewBeside after other
@@ -68,6 +68,15 @@ IsWholeCrew-made tells count lent first others row is still beside some counted 
   counted = ap (λ ws. length (map tells ws)) is ∙ (ap suc (length-map others tells ∙ counted) ∙ omega (arith, some));
   kept = kept;
 }
+
+pub IsKeptCrew-made : {W : Type 0} (tells : W → Station) (lent : Station) (first : W) (others row : List W) → row ≡ first ∷ others → IsStill lent (tells first) → All (IsBeside (tells first)) (map tells others)
+    → (tells first).faults ≡ lent.faults → IsKeptCrew lent (map tells row)
+unfolding AreCrew-made
+IsKeptCrew-made tells lent first others row is still beside kept = record { is_crew = AreCrew-made tells lent first others row is still beside; kept = kept }
+
+-- every worker that was asked for stands, so no twin failed
+pub IsKeptCrew-whole : (count : ℕ) (lent : Station) (crew : List Station) → IsWholeCrew count lent crew → IsKeptCrew lent crew
+IsKeptCrew-whole count lent crew whole = record { is_crew = whole.is_crew; kept = whole.kept }
 
 pub IsDoorFailed-made : {W : Type 0} (tells : W → Station) (lent : Station) (first : W) (others row : List W) → row ≡ first ∷ others → IsStill lent (tells first) → All (IsBeside (tells first)) (map tells others)
     → Rose lent.faults (tells first).faults → IsDoorFailed lent (map tells row)

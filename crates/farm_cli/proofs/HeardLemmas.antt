@@ -12,7 +12,7 @@ use Rattle.farm_serving.specs.Tally.{of_all, IsTally}
 use Rattle.farm_serving.specs.declared.ended.Ended.{Ended}
 use Rattle.farm_cli.specs.declared.status.Status.{Status}
 use Rattle.farm_cli.specs.declared.status.Status.TheVariants.{Done, Usage, FarmFile, Input, Opening, Disk, Door, Read, Write, NoMemory, Wire, Damaged}
-use Rattle.farm_cli.specs.Crew.{IsDoorFailed}
+use Rattle.farm_cli.specs.Crew.{IsWholeCrew, IsDoorFailed}
 use Rattle.farm_cli.specs.Faults.{WasServed, IsServed, TwinFailed, IsDoorBroken, IsLinkUnread, IsLinkUnwritten, IsLinkCut}
 use Rattle.farm_cli.specs.Heard.{workers_of, station_with, station_of, IsHeard}
 use Rattle.farm_cli.specs.House.{Lendings}
@@ -57,7 +57,10 @@ module _ {F S C N T I D : Type 0} (views : Views F S C N T I D) (old new : Lendi
     could = heard.could;
     crew = heard.lent.first ∷ heard.lent.others;
     doors = heard.lent.doors;
+    clock = heard.lent.clock_given;
+    draws = heard.lent.draws_given;
     parts = served.served.serves.0;
+    began = subst (IsWholeCrew (workers_of service) (station_with views heard.lent.clock_given heard.lent.draws_given heard.door)) (sym served.served.serves.1.began) served.whole;
     became = served.served.serves.1.became;
     worked = served.served.serves.1.worked;
     is_so = so;

@@ -1,5 +1,5 @@
 -- What the calls of a run leave together.
-use Rattle.std.proofs.Common.{◌≡◌, ℕ, ◌+◌, ◌⊎◌, suc, true, false, Bool, List, [], ◌∷◌, length, Option, Some, None, refl, sym, ap, subst, ◌∙◌, inl, inr}
+use Rattle.std.proofs.Common.{◌≡◌, ◌≢◌, ℕ, ◌+◌, ◌⊎◌, suc, true, false, Bool, List, [], ◌∷◌, length, Option, Some, None, refl, sym, ap, subst, ◌∙◌, inl, inr}
 use Rattle.causes.specs.Causes.{Rose}
 use Rattle.disk_journal.specs.declared.fault.OpenFault.{OpenFault}
 use Rattle.disk_journal.specs.declared.fault.OpenFault.TheVariants as faults
@@ -102,10 +102,11 @@ LentOver-from old l0 l6 new name disk disk' console console' clock clock' draws 
 
 -- the fault of an opening has its reason
 pub IsRefusedFor-by : {F S C N T I D : Type 0} (views : Views F S C N T I D) (given back : S) (fault : OpenFault) → (fault ≡ faults.Disk → Rose (views.disk_faults given) (views.disk_faults back))
+    → (fault ≢ faults.Disk → views.disk_faults back ≡ views.disk_faults given)
     → (views.disk_tells → (place : ℕ) → fault ≡ faults.Damaged place → IsFarmDamaged (views.disk_contents given).bytes place) → IsRefusedFor views given back fault
-IsRefusedFor-by views given back faults.Disk rose damaged = rose refl
-IsRefusedFor-by views given back (faults.Damaged place) rose damaged = λ tells. damaged tells place refl
-IsRefusedFor-by views given back faults.NoMemory rose damaged = tt
+IsRefusedFor-by views given back faults.Disk rose spared damaged = rose refl
+IsRefusedFor-by views given back (faults.Damaged place) rose spared damaged = (spared (λ is. cc), λ tells. damaged tells place refl)
+IsRefusedFor-by views given back faults.NoMemory rose spared damaged = spared (λ is. cc)
 
 -- ---- a farm that was opened from a disk
 
@@ -459,6 +460,7 @@ WasUnopened-same views old old' new new' before now name status first last h = r
   fault = h.fault;
   why = h.why;
   stops = h.stops;
+  untouched = h.untouched;
   status_is = h.status_is;
   console = last.console ∙ (h.console ∙ sym first.console);
   clock = last.clock ∙ (h.clock ∙ sym first.clock);

@@ -14,7 +14,8 @@ use Rattle.farm_cli.specs.declared.crew.Lack.{Lack}
 use Rattle.farm_cli.specs.declared.crew.Lack.TheVariants as lacks
 use Rattle.farm_cli.specs.declared.status.Status.{Status}
 use Rattle.farm_cli.specs.declared.status.Status.TheVariants.{Done, Usage, FarmFile, Input, Opening, Disk, Door, Read, Write, NoMemory, Wire, Damaged}
-use Rattle.farm_cli.specs.Crew.{status_of_lack, AreCrew, IsWholeCrew, IsDoorFailed}
+use Rattle.farm_cli.specs.Crew.{status_of_lack, IsWholeCrew, IsKeptCrew, IsDoorFailed}
+use Rattle.farm_cli.proofs.CrewLemmas.{IsKeptCrew-whole}
 use Rattle.farm_cli.specs.Serves.{ready_text, ServesReady, IsUnready, NeverServed, IsLed, ServesAll}
 use Rattle.farm_cli.specs.Writing.{SameReads, SameWrites, WritesText}
 
@@ -49,10 +50,10 @@ IsLed-closed {O} state holds object first new Holds history calls is leads goes 
     subst (λ (o : O). IsLed (state o) new (holds o) Holds history calls) is (record { leads = leads; holds = goes })
 
 -- workers that were lacking served nothing
-pub NeverServed-lack : (at : LinkState) (lent : Station) (crew : List Station) (lack : Lack) (status : Status) → AreCrew lent crew → (lack ≡ lacks.Door → IsDoorFailed lent crew)
+pub NeverServed-lack : (at : LinkState) (lent : Station) (crew : List Station) (lack : Lack) (status : Status) → (lack ≡ lacks.Door → IsDoorFailed lent crew) → (lack ≡ lacks.Memory → IsKeptCrew lent crew)
     → status ≡ status_of_lack lack → NeverServed at at lent crew status
-NeverServed-lack at lent crew lacks.Door status are failed is = rw is (record { left = refl; faults = refl }, record { written = refl; faults = refl }, failed refl)
-NeverServed-lack at lent crew lacks.Memory status are failed is = rw is (record { left = refl; faults = refl }, record { written = refl; faults = refl }, are)
+NeverServed-lack at lent crew lacks.Door status failed kept is = rw is (record { left = refl; faults = refl }, record { written = refl; faults = refl }, failed refl)
+NeverServed-lack at lent crew lacks.Memory status failed kept is = rw is (record { left = refl; faults = refl }, record { written = refl; faults = refl }, kept refl)
 
 -- nobody served, and the object is as it was
 pub ServesAll-never : (count connections : ℕ) (before after : LinkState) (lent : Station) (afters : List Station) (state : State) (Held : History → List Entry → Type 0) (status : Status)
@@ -93,7 +94,7 @@ ServesAll-served count connections before after lent crew afters old new Held Ho
       history = token.seen;
       calls = calls;
       led = led;
-      did = inr (none, rw unready.status_is (unready.unread, unready.broken, subst (AreCrew lent) (sym unready.unused) whole.is_crew));
+      did = inr (none, rw unready.status_is (unready.unread, unready.broken, subst (IsKeptCrew lent) (sym unready.unused) (IsKeptCrew-whole count lent crew whole)));
     }
 
 -- what was taken out as a slice stands there again

@@ -61,6 +61,11 @@ pub record IsWholeCrew (count : ℕ) (lent : Station) (crew : List Station) : Ty
   pub counted : length crew ≡ count
   pub kept : is_crew.first.faults ≡ lent.faults
 
+-- the same of a row that may have fewer workers: no twin failed, so that it is no door that was lacking
+pub record IsKeptCrew (lent : Station) (crew : List Station) : Type 0 where
+  pub is_crew : AreCrew lent crew
+  pub kept : is_crew.first.faults ≡ lent.faults
+
 -- a twin of the first worker's door could not be made, by its count
 pub record IsDoorFailed (lent : Station) (crew : List Station) : Type 0 where
   pub is_crew : AreCrew lent crew

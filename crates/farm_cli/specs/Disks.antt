@@ -9,7 +9,7 @@ use Rattle.farm_machine.specs.Entry.{Entry}
 use Rattle.farm_machine.specs.Law.{Opening}
 use Rattle.farm_machine.specs.Replay.{replayed}
 use Rattle.farm_core.specs.Farm.{HoldsHistory}
-use Rattle.farm_core.specs.Opened.{HasOpened, IsFarmDamaged}
+use Rattle.farm_core.specs.Opened.{HasOpened, IsFarmDamaged, KeepsDamaged}
 use Rattle.farm_core.specs.Records.{AreRecords, Recorded}
 use Rattle.disk_base.specs.Contents.{StopsLeave}
 use Rattle.disk_journal.specs.Images.{IsImage, IsWithin}
@@ -36,14 +36,15 @@ pub record IsMissing {F S C N T I D : Type 0} (old new : Lendings F S C N T I D)
   pub could : CanOpenAmong old.disk name (Err (record {}))
   pub left : LeavesConsole old new
 
--- why a disk has no farm that could be opened: a call of it failed, or what it holds is damaged at this place; want of memory is free
+-- why a disk has no farm that could be opened: a call of it failed; or none did, and what it holds is damaged at this place, or memory ran out
 abbrev pub IsRefusedFor : {F S C N T I D : Type 0} → Views F S C N T I D → S → S → OpenFault → Type 0
 IsRefusedFor views given back faults.Disk = Rose (views.disk_faults given) (views.disk_faults back)
-IsRefusedFor views given back (faults.Damaged place) = views.disk_tells → IsFarmDamaged (views.disk_contents given).bytes place
-IsRefusedFor views given back faults.NoMemory = Unit {0}
+IsRefusedFor views given back (faults.Damaged place) =
+    (views.disk_faults back ≡ views.disk_faults given) × (views.disk_tells → IsFarmDamaged (views.disk_contents given).bytes place)
+IsRefusedFor views given back faults.NoMemory = views.disk_faults back ≡ views.disk_faults given
 
 -- The disk was opened, had no farm that could be opened, and came back; and nothing else was asked for. Over what an earlier farm left, a stop since
--- then leaves what it might have left before, or the same records, or these and the one that was pending behind them.
+-- then leaves what it might have left before, or the same records, or these and the one that was pending behind them. A damaged one keeps what it had.
 pub record WasUnopened {F S C N T I D : Type 0} (views : Views F S C N T I D) (old new : Lendings F S C N T I D) (before now : ℕ) (name : List ℕ) (status : Status) : Type 0 where
   pub openings : now ≡ before
   pub given : S
@@ -53,6 +54,7 @@ pub record WasUnopened {F S C N T I D : Type 0} (views : Views F S C N T I D) (o
   pub why : IsRefusedFor views given back fault
   pub stops : views.disk_tells → (bodies : List (List ℕ)) (pending : Option (List ℕ)) → IsImage [] bodies pending (views.disk_contents given).bytes
       → StopsLeave (views.disk_contents given) (views.disk_contents back) (IsWithin [] bodies (option_to_list pending))
+  pub untouched : views.disk_tells → (place : ℕ) → fault ≡ faults.Damaged place → KeepsDamaged (views.disk_contents given) (views.disk_contents back) place
   pub status_is : status ≡ status_of_fault fault
   pub console : new.console ≡ old.console
   pub clock : new.clock ≡ old.clock

@@ -7,11 +7,13 @@ use Rattle.farm_serving.specs.Connections.{Part, Worked}
 use Rattle.farm_serving.specs.declared.worker.Worker.{Worker}
 use Rattle.farm_cli.specs.declared.status.Status.TheVariants.{Wire}
 use Rattle.farm_cli.specs.Ends.{EndsWith, HasOne, HasConnection, HasRisen, WentWell}
-use Rattle.farm_cli.specs.Heard.{station_of}
+use Rattle.farm_cli.specs.Crew.{IsWholeCrew}
+use Rattle.farm_cli.specs.Heard.{workers_of, station_with, station_of}
 use Rattle.farm_cli.specs.House.{WasLent, CanListen, after_listened, all_left, Lendings}
 use Rattle.farm_cli.specs.Views.{Views}
 
--- The console was lent and came back, workers served at a door and its twins, which came back, and this is so of the console and of their parts.
+-- The console was lent and came back. At the door that the house opened, and at its twins, as many workers as were asked for served, each its part; the doors came back, and
+-- this is so of the console and of the parts.
 pub record WasServed {F S C N T I D : Type 0} (views : Views F S C N T I D) (old new : Lendings F S C N T I D) (service : Service) (IsSo : C → C → List Part → Type 0) : Type 0 where
   pub given : C
   pub back : C
@@ -20,7 +22,10 @@ pub record WasServed {F S C N T I D : Type 0} (views : Views F S C N T I D) (old
   pub could : CanListen old.doors service.listen (Ok door)
   pub crew : List (Worker D T I NoGate)
   pub doors : new.doors ≡ all_left (after_listened old.doors) (map (λ worker. worker.door) crew)
+  pub clock : T
+  pub draws : I
   pub parts : List Part
+  pub began : IsWholeCrew (workers_of service) (station_with views clock draws door) (map (λ part. part.before) parts)
   pub became : map (λ part. part.after) parts ≡ map (station_of views) crew
   pub worked : All (Worked service.connections) parts
   pub is_so : IsSo given back parts

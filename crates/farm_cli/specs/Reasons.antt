@@ -80,10 +80,11 @@ pub record DiskMet {F S C N T I D : Type 0} (views : Views F S C N T I D) (old n
 abbrev pub DiskFailed : {F S C N T I D : Type 0} → Views F S C N T I D → Lendings F S C N T I D → Lendings F S C N T I D → Option Command → Type 0
 DiskFailed views old new said = DiskMet views old new said (λ given back. Rose (views.disk_faults given) (views.disk_faults back))
 
--- what the disk held is no farm's, where it tells what it holds
+-- no call of the disk failed, and what it held is no farm's, where it tells what it holds
 abbrev pub DiskDamaged : {F S C N T I D : Type 0} → Views F S C N T I D → Lendings F S C N T I D → Lendings F S C N T I D → Option Command → Type 0
 DiskDamaged views old new said =
-    (place : ℕ) × DiskMet views old new said (λ given back. views.disk_tells → IsFarmDamaged (views.disk_contents given).bytes place)
+    (place : ℕ) × DiskMet views old new said (λ given back.
+    (views.disk_faults back ≡ views.disk_faults given) × (views.disk_tells → IsFarmDamaged (views.disk_contents given).bytes place))
 
 -- the console was lent and came back, this count of its faults rose, and the other is as it was
 pub record ConsoleFailed {F S C N T I D : Type 0} (faults others : C → ℕ) (old new : Lendings F S C N T I D) : Type 0 where

@@ -13,7 +13,7 @@ use Rattle.farm_serving.specs.Serving.{Serves}
 use Rattle.farm_serving.specs.declared.ended.Ended.{Ended}
 use Rattle.farm_cli.specs.declared.status.Status.{Status}
 use Rattle.farm_cli.specs.declared.status.Status.TheVariants.{Done, Door, Read, Write, NoMemory, Wire}
-use Rattle.farm_cli.specs.Crew.{AreCrew, IsWholeCrew, IsDoorFailed}
+use Rattle.farm_cli.specs.Crew.{IsWholeCrew, IsKeptCrew, IsDoorFailed}
 use Rattle.farm_cli.specs.Inputs.{Tells}
 use Rattle.farm_cli.specs.Writing.{SameReads, SameWrites, WritesText}
 
@@ -63,11 +63,12 @@ pub record IsUnready (before after : LinkState) (old new : Standing State Entry)
   pub unused : afters ≡ befores
   pub status_is : status ≡ Write
 
--- why workers that were lent this, and stand so now, served nothing: a twin of the door failed, `ready` could not be written, or memory ran out
+-- why workers that were lent this, and stand so now, served nothing: a twin of the door failed, or none did and `ready` could not be written, or
+-- memory ran out
 abbrev pub NeverServed : LinkState → LinkState → Station → List Station → Status → Type 0
 NeverServed before after lent crew Door = SameReads before after × SameWrites before after × IsDoorFailed lent crew
-NeverServed before after lent crew Write = SameReads before after × WritesText before after ready_text Write × AreCrew lent crew
-NeverServed before after lent crew NoMemory = SameReads before after × SameWrites before after × AreCrew lent crew
+NeverServed before after lent crew Write = SameReads before after × WritesText before after ready_text Write × IsKeptCrew lent crew
+NeverServed before after lent crew NoMemory = SameReads before after × SameWrites before after × IsKeptCrew lent crew
 NeverServed before after lent crew status = ⊥
 
 -- So many workers, which stood ready with what was lent, served at the desk of a farm that began in this state. The history that they led through is

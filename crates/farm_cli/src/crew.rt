@@ -1,8 +1,8 @@
 //! The workers of a run: the first has what the house lent, and the others have twins and forks of that.
 ghost use Rattle.std.specs.Prelude.{◌≡◌, ◌+◌, ◌<◌, ◌≤◌, vec_capacity, All, IfOk, IfErr, OnOk, map, [], length};
 ghost use Rattle.causes.specs.Causes.{Rose};
-ghost use Rattle.farm_cli.specs.Crew.{station_by, status_of_lack, IsStill, IsBeside, AreCrew, IsWholeCrew, IsDoorFailed};
-ghost use Rattle.farm_cli.specs.declared.crew.Lack.TheVariants.{Door};
+ghost use Rattle.farm_cli.specs.Crew.{station_by, status_of_lack, IsStill, IsBeside, AreCrew, IsWholeCrew, IsKeptCrew, IsDoorFailed};
+ghost use Rattle.farm_cli.specs.declared.crew.Lack.TheVariants.{Door, Memory};
 
 use crate::status::Status;
 use causes::Failed;
@@ -42,6 +42,7 @@ fn beside<D: Listener, C: Clock + Drop, I: Draws + Drop>(
     ensures made { IfOk result (λ other. IsBeside (station_by D.Listener C.Clock I.Draws first.new) (station_by D.Listener C.Clock I.Draws other)) }
     ensures kept { OnOk result (D.faults first.new.door ≡ D.faults first.old.door) }
     ensures cause { IfErr result (λ lack. lack ≡ Door → Rose (D.faults first.old.door) (D.faults first.new.door)) }
+    ensures spared { IfErr result (λ lack. lack ≡ Memory → D.faults first.new.door ≡ D.faults first.old.door) }
 {
     let Ok(clock) = first.clock.fork() else {
         return Err(Lack::Memory);
@@ -74,6 +75,7 @@ fn add_others<D: Listener, C: Clock + Drop, I: Draws + Drop>(
     ensures most { length others.new.items ≤ count }
     ensures all { OnOk result ((length others.new.items ≡ count) × (D.faults first.new.door ≡ D.faults first.old.door)) }
     ensures cause { IfErr result (λ lack. lack ≡ Door → Rose (D.faults first.old.door) (D.faults first.new.door)) }
+    ensures spared { IfErr result (λ lack. lack ≡ Memory → D.faults first.new.door ≡ D.faults first.old.door) }
 {
     'twins: for _made in 0..count {
         match beside(first) {
@@ -97,6 +99,7 @@ pub(crate) fn gather<D: Listener, C: Clock + Drop, I: Draws + Drop>(
     ensures crew { AreCrew (station_by D.Listener C.Clock I.Draws first) (map (station_by D.Listener C.Clock I.Draws) row.new.items) }
     ensures whole { OnOk result (IsWholeCrew count (station_by D.Listener C.Clock I.Draws first) (map (station_by D.Listener C.Clock I.Draws) row.new.items)) }
     ensures cause { IfErr result (λ lack. lack ≡ Door → IsDoorFailed (station_by D.Listener C.Clock I.Draws first) (map (station_by D.Listener C.Clock I.Draws) row.new.items)) }
+    ensures spared { IfErr result (λ lack. lack ≡ Memory → IsKeptCrew (station_by D.Listener C.Clock I.Draws first) (map (station_by D.Listener C.Clock I.Draws) row.new.items)) }
 {
     let mut first = first;
     let gathered = add_others(&mut first, row, count - 1);

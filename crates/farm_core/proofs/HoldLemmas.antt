@@ -61,7 +61,7 @@ holds-halted tells disk end faults state asking opening seen h = record {
 -- ---- a farm at work
 
 -- what failed in the call of an ask is what failed in the history
-failed-asked : (old : State) (asking : Asking) (answer : Asked) (entry : Entry) (opening : State) (seen : List Entry) (change : Change) → Leads farm_rules opening seen old → entry ≡ call asking disk_failed
+pub failed-asked : (old : State) (asking : Asking) (answer : Asked) (entry : Entry) (opening : State) (seen : List Entry) (change : Change) → Leads farm_rules opening seen old → entry ≡ call asking disk_failed
     → IsToKeep (end_state farm_rules old (ticks_before old asking answer)) asking change → IsFailed opening (seen ++ entries farm_rules old asking answer entry) change
 unfolding farm_rules
 failed-asked old asking answer entry opening seen change leads is kept =
@@ -75,7 +75,7 @@ failed-asked old asking answer entry opening seen change leads is kept =
     }
 
 -- a disk that had some records has more
-has-more : (old_disk : Disk) (old_end : ℕ) (old : State) (new_disk : Disk) (new_end : ℕ) (new : State) (changes more all failed lost : List Change) → old.halted ≡ false → changes ++ more ≡ all → (new.halted ≡ false → failed ≡ [])
+abbrev pub has-more : (old_disk : Disk) (old_end : ℕ) (old : State) (new_disk : Disk) (new_end : ℕ) (new : State) (changes more all failed lost : List Change) → old.halted ≡ false → changes ++ more ≡ all → (new.halted ≡ false → failed ≡ [])
     → HasRecords old_disk old_end old changes lost → KeepsRecords old_disk old_end new_disk new_end more failed → HasRecords new_disk new_end new all failed
 has-more old_disk old_end old new_disk new_end new changes more all failed lost working is whole has k =
     let ready = (has.at_work working).1 in

@@ -9,3 +9,5 @@ pub mod FaultLemmas
 pub mod OpenedLemmas
 pub mod DisklessLemmas
 pub mod CrossingLemmas
+pub mod StopLemmas
+pub mod PlaceLemmas

@@ -79,7 +79,7 @@ may-come contents last change changes is = by (may_replay contents change) refl 
       cc
 
 -- no body of those that replay is broken
-unbroken : OneChange → (before rest : List (List ℕ)) (body : List ℕ) (contents last : Contents) → Replays (before ++ body ∷ rest) last → Replays before contents → ((change : Change) → IsRecord change body → may_replay contents change ≡ false) → ⊥
+pub unbroken : OneChange → (before rest : List (List ℕ)) (body : List ℕ) (contents last : Contents) → Replays (before ++ body ∷ rest) last → Replays before contents → ((change : Change) → IsRecord change body → may_replay contents change ≡ false) → ⊥
 unbroken one before rest body contents last whole front broken = by split.others refl where
   split : Splits whole.changes before (body ∷ rest)
   split = records-split whole.changes before (body ∷ rest) whole.recorded

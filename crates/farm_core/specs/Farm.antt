@@ -4,12 +4,12 @@ use Rattle.causes.specs.Causes.{Rose}
 use Rattle.disk_base.specs.Contents.{Contents as Disk}
 use Rattle.farm_record.specs.declared.change.Change.{Change}
 use Rattle.history.specs.Asks.{IsAsk}
-use Rattle.history.specs.Histories.{entries, end_state}
+use Rattle.history.specs.Histories.{entries, end_state, Leads}
 use Rattle.farm_machine.specs.declared.config.Config.{Config}
 use Rattle.farm_machine.specs.declared.reply.Asked.{Asked}
 use Rattle.farm_machine.specs.Entry.{Asking, Entry, call, disk_failed}
 use Rattle.farm_machine.specs.Law.{Opening}
-use Rattle.farm_machine.specs.Replay.{records_of}
+use Rattle.farm_machine.specs.Replay.{records_of, Restores}
 use Rattle.farm_machine.specs.State.{State}
 use Rattle.farm_machine.specs.Step.{IsToKeep, farm_rules, ticks_before}
 use Rattle.farm_rows.specs.Contents.{Contents}
@@ -49,3 +49,20 @@ pub record HoldsHistory (tells : Type 0) (disk : Disk) (end faults : ℕ) (state
   pub failed : List Change
   pub failed_in : (failed ≡ []) ⊎ ((change : Change) × IsFailed opening.state seen change × (failed ≡ change ∷ []))
   pub records : tells → HasRecords disk end state (opening.records ++ records_of seen) failed
+
+-- A farm at work was asked, that held a legal history since an opening whose records restore its state.
+pub record WasAsked (tells : Type 0) (old new : Disk) : Type 0 where
+  pub opening : Opening
+  pub seen : List Entry
+  pub state : State
+  pub end : ℕ
+  pub faults : ℕ
+  pub restores : Restores opening.records opening.state.contents
+  pub leads : Leads farm_rules opening.state seen state
+  pub at_work : state.halted ≡ false
+  pub holds : HoldsHistory tells old end faults state opening seen
+  pub asking : Asking
+  pub answer : Asked
+  pub now : State
+  pub end_now : ℕ
+  pub asks : AsksDisk tells state old end asking answer now new end_now

@@ -1,7 +1,9 @@
 -- What an opening of a farm finds on a disk.
 use Rattle.std.specs.Prelude.{◌≡◌, ℕ, false, ◌⊎◌, List, [], ◌∷◌, ◌++◌, length, Some, Result, Ok, Err}
-use Rattle.disk_base.specs.Contents.{Contents as Disk}
+use Rattle.disk_base.specs.Contents.{Contents as Disk, LeftNow}
+use Rattle.disk_journal.specs.Images.{IsWithin}
 use Rattle.disk_journal.specs.Keeping.{IsReady}
+use Rattle.disk_journal.specs.Opening.{IsStill}
 use Rattle.disk_journal.specs.Records.{records, Opens, IsDamaged}
 use Rattle.farm_record.specs.declared.change.Change.{Change}
 use Rattle.farm_record.specs.Records.{IsRecord}
@@ -29,6 +31,20 @@ pub record IsBroken (bodies : List (List ℕ)) (place : ℕ) : Type 0 where
 -- a file is no farm's: its journal is damaged at this place, or the body there is broken
 abbrev pub IsFarmDamaged : List ℕ → ℕ → Type 0
 IsFarmDamaged file place = IsDamaged [] file place ⊎ ((bodies : List (List ℕ)) × Opens [] file bodies × IsBroken bodies place)
+
+-- A damaged disk that was refused: where its journal is damaged it is as it was; where a body is broken each image opens to the same bodies.
+pub record KeepsDamaged (old new : Disk) (place : ℕ) : Type 0 where
+  pub as_it_was : IsDamaged [] old.bytes place → IsStill old new
+  pub untouched : (bodies : List (List ℕ)) → Opens [] old.bytes bodies → (image : List ℕ) → LeftNow new image → Opens [] image bodies
+
+-- a file that a stop leaves within records that may be replayed, which is not damaged
+pub record IsSound (file : List ℕ) : Type 0 where
+  pub bodies : List (List ℕ)
+  pub more : List (List ℕ)
+  pub contents : Contents
+  pub replays : Replays (bodies ++ more) contents
+  pub within : IsWithin [] bodies more file
+  pub undamaged : (place : ℕ) → IsFarmDamaged file place → ⊥
 
 -- A farm was opened: its contents are the replay of so many bodies; and where the disk tells what it holds, these are the bodies of its file, and
 -- they are ready on it.

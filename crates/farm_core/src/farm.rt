@@ -1,5 +1,5 @@
 //! The farm over a disk: what was acknowledged is on it.
-ghost use Rattle.std.specs.Prelude.{◌≡◌, ◌≤◌, ◌^◌, ◌-◌, false, true, ℕ, List, [], length, Option, option_to_list, IfOk, IfErr};
+ghost use Rattle.std.specs.Prelude.{◌≡◌, ◌≢◌, ◌≤◌, ◌^◌, ◌-◌, false, true, ℕ, List, [], length, Option, option_to_list, IfOk, IfErr};
 ghost use Rattle.causes.specs.Causes.{HasCause, Rose};
 ghost use Rattle.disk_base.specs.Contents.{StopsLeave};
 ghost use Rattle.disk_journal.specs.Images.{IsImage, IsWithin};
@@ -7,7 +7,7 @@ ghost use Rattle.disk_journal.specs.declared.fault.OpenFault.TheVariants.{Disk, 
 ghost use Rattle.farm_rows.specs.Contents.{Contents};
 ghost use Rattle.farm_rows.specs.Summary.{summary_of};
 ghost use Rattle.farm_core.specs.Farm.{state_of, AsksDisk, TellsFaults, HoldsHistory};
-ghost use Rattle.farm_core.specs.Opened.{HasOpened, IsFarmDamaged, disk_left};
+ghost use Rattle.farm_core.specs.Opened.{HasOpened, IsFarmDamaged, KeepsDamaged, disk_left};
 
 use crate::asking::{keep_due, perform};
 use crate::records::Records;
@@ -47,9 +47,11 @@ fn open_records<D: Disk>(alloc: Global, disk: D) -> Result<(Tables, Records<D>),
     ensures works { IfOk result (λ o. o.1.halted ≡ false) }
     ensures opened { IfOk result (λ o. HasOpened D.tells (D.contents disk).bytes (D.contents o.1.disk) o.1.end o.1.count o.0) }
     ensures damaged { D.tells → (place : ℕ) → IfErr result (λ e. e.0 ≡ Damaged place → IsFarmDamaged (D.contents disk).bytes place) }
+    ensures untouched { D.tells → (place : ℕ) → IfErr result (λ e. e.0 ≡ Damaged place → KeepsDamaged (D.contents disk) (D.contents e.1) place) }
     ensures any_moment { D.tells → (bodies : List (List ℕ)) (pending : Option (List ℕ)) → IsImage [] bodies pending (D.contents disk).bytes
         → StopsLeave (D.contents disk) (D.contents (disk_left (λ o. o.1.disk) result)) (IsWithin [] bodies (option_to_list pending)) }
     ensures cause { IfErr result (λ e. e.0 ≡ Disk → Rose (D.faults disk) (D.faults e.1)) }
+    ensures spared { IfErr result (λ e. e.0 ≢ Disk → D.faults e.1 ≡ D.faults disk) }
     ensures later { D.faults disk ≤ D.faults (disk_left (λ o. o.1.disk) result) }
     ensures kept { IfOk result (λ o. D.faults o.1.disk ≡ D.faults disk) }
 {
@@ -67,16 +69,19 @@ fn open_records<D: Disk>(alloc: Global, disk: D) -> Result<(Tables, Records<D>),
 }
 
 impl<D: Disk> Farm<D> {
-    /// Opens the farm that a disk has the records of: its tables are their replay. An `Err` hands the disk back.
+    /// Opens the farm that a disk has the records of: its tables are their replay. An `Err` hands the disk back, and a damaged one with all
+    /// that it had: as it was, or with the gate behind its bodies closed.
     ///
     /// A stop in it leaves what a stop at its start might have left, or the same records, or these and the one pending behind them.
     pub fn open(alloc: Global, disk: D, config: Config) -> Result<Self, (OpenFault, D)>
         ensures opened { IfOk result (λ farm. HasOpened D.tells (D.contents disk).bytes (D.contents farm.records.disk) farm.records.end farm.records.count farm.tables) }
         ensures state { IfOk result (λ farm. (farm.config ≡ config) × (farm.records.halted ≡ false)) }
         ensures damaged { D.tells → (place : ℕ) → IfErr result (λ e. e.0 ≡ Damaged place → IsFarmDamaged (D.contents disk).bytes place) }
+        ensures untouched { D.tells → (place : ℕ) → IfErr result (λ e. e.0 ≡ Damaged place → KeepsDamaged (D.contents disk) (D.contents e.1) place) }
         ensures any_moment { D.tells → (bodies : List (List ℕ)) (pending : Option (List ℕ)) → IsImage [] bodies pending (D.contents disk).bytes
             → StopsLeave (D.contents disk) (D.contents (disk_left (λ farm. farm.records.disk) result)) (IsWithin [] bodies (option_to_list pending)) }
         ensures cause { IfErr result (λ e. e.0 ≡ Disk → Rose (D.faults disk) (D.faults e.1)) }
+        ensures spared { IfErr result (λ e. e.0 ≢ Disk → D.faults e.1 ≡ D.faults disk) }
         ensures later { D.faults disk ≤ D.faults (disk_left (λ farm. farm.records.disk) result) }
         ensures kept { IfOk result (λ farm. D.faults farm.records.disk ≡ D.faults disk) }
     {

@@ -1,8 +1,8 @@
 //! Laws of what a farm's disk has. The functions do nothing: their contracts are the laws.
-ghost use Rattle.std.specs.Prelude.{false, ℕ, List, ◌++◌, []};
+ghost use Rattle.std.specs.Prelude.{◌≡◌, false, ℕ, List, ◌++◌, [], Option, option_to_list};
 ghost use Rattle.std.specs.Thread.{IsSend};
-ghost use Rattle.disk_base.specs.Contents.{LeftNow};
-ghost use Rattle.disk_journal.specs.Images.{IsWithin};
+ghost use Rattle.disk_base.specs.Contents.{LeftNow, StopsLeave};
+ghost use Rattle.disk_journal.specs.Images.{IsImage, IsWithin};
 ghost use Rattle.history.specs.Histories.{Leads};
 ghost use Rattle.farm_rows.specs.Contents.{Contents};
 ghost use Rattle.farm_machine.specs.Entry.{Entry};
@@ -13,8 +13,8 @@ ghost use Rattle.farm_machine.specs.Step.{farm_rules};
 ghost use Rattle.farm_machine.specs.declared.config.Config.{Config as AnyConfig};
 ghost use Rattle.farm_core.specs.contracts.bare.Bare as bare;
 ghost use Rattle.farm_core.specs.contracts.farm.Farm as farm;
-ghost use Rattle.farm_core.specs.Farm.{HoldsHistory, state_of};
-ghost use Rattle.farm_core.specs.Opened.{HasOpened, Replays, IsFarmDamaged};
+ghost use Rattle.farm_core.specs.Farm.{HoldsHistory, WasAsked, state_of};
+ghost use Rattle.farm_core.specs.Opened.{HasOpened, Replays, IsFarmDamaged, IsSound};
 
 use disk_base::Disk;
 use farm_machine::tables::farms_tables_cross_threads;
@@ -36,6 +36,28 @@ pub fn images_are_never_damaged<D: Disk>()
         → Restores opening.records opening.state.contents → Leads farm_rules opening.state seen state
         → HoldsHistory D.tells (D.contents disk) end faults state opening seen
         → (image : List ℕ) (place : ℕ) → LeftNow (D.contents disk) image → IsFarmDamaged image place → ⊥ }
+{
+    a_record_is_of_one_change();
+}
+
+/// A file that is no farm's is damaged at one place.
+pub fn a_farm_is_damaged_at_one_place()
+    ensures { (file : List ℕ) (place other : ℕ) → IsFarmDamaged file place → IsFarmDamaged file other → place ≡ other }
+{
+    a_record_is_of_one_change();
+}
+
+/// A stop at any moment inside an ask of a farm at work, that holds a legal history since an opening whose records restore its state, leaves
+/// a file that is sound, so it is not damaged. So does one inside an opening over a sound file; and no bytes are one.
+pub fn stops_are_never_damaged<D: Disk>()
+    ensures empty { IsSound [] }
+    ensures asks { D.tells → (disk after : D) → WasAsked D.tells (D.contents disk) (D.contents after) → StopsLeave (D.contents disk) (D.contents after) IsSound }
+    ensures inside { D.tells → (disk after : D) → WasAsked D.tells (D.contents disk) (D.contents after)
+        → (image : List ℕ) → (D.contents after).left_since (D.contents disk).moment image → IsSound image }
+    ensures openings { D.tells → (disk after : D) → IsSound (D.contents disk).bytes
+        → ((bodies : List (List ℕ)) (pending : Option (List ℕ)) → IsImage [] bodies pending (D.contents disk).bytes
+        → StopsLeave (D.contents disk) (D.contents after) (IsWithin [] bodies (option_to_list pending)))
+        → StopsLeave (D.contents disk) (D.contents after) IsSound }
 {
     a_record_is_of_one_change();
 }

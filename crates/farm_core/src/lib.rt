@@ -14,6 +14,7 @@ mod restoring;
 pub use bare::Bare;
 pub use farm::{Counts, Farm};
 pub use laws::{
-    an_opened_farm_holds_its_records, bare_farms_cross_threads, farms_cross_threads,
-    images_are_never_damaged, what_replays_is_never_damaged,
+    a_farm_is_damaged_at_one_place, an_opened_farm_holds_its_records, bare_farms_cross_threads,
+    farms_cross_threads, images_are_never_damaged, stops_are_never_damaged,
+    what_replays_is_never_damaged,
 };

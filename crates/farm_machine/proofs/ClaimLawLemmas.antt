@@ -55,7 +55,7 @@ use Rattle.farm_machine.proofs.RunLawLemmas.{found-run}
 
 -- ---- a run that has a claim keeps one
 
-abbrev one_if : Bool → ℕ
+abbrev pub one_if : Bool → ℕ
 one_if b = cond b 1 0
 
 one-few : (b : Bool) → one_if b ≤ 1
@@ -70,7 +70,7 @@ abbrev claim_in : Option Run → Bool
 claim_in run = option_map_or (λ (r : Run). is_some r.claim) run false
 
 -- the run of this name has a claim
-abbrev has_claim : RunName → List Row → Bool
+abbrev pub has_claim : RunName → List Row → Bool
 has_claim name rows = claim_in (run_of name rows)
 
 claim-more : (run later : Run) → RunLater run later → one_if (is_some run.claim) ≤ one_if (is_some later.claim)
@@ -79,7 +79,7 @@ claim-more run later on = by run.claim refl where
   by None is = rw is (omega arith)
   by (Some c) is = rw (is, (on.claim c is).1) (omega arith)
 
-claim-stays : (name : RunName) (rows later : List Row) → RowsLater rows later → one_if (has_claim name rows) ≤ one_if (has_claim name later)
+pub claim-stays : (name : RunName) (rows later : List Row) → RowsLater rows later → one_if (has_claim name rows) ≤ one_if (has_claim name later)
 claim-stays name rows later stays = by (run_of name rows) refl where
   by : (o : Option Run) → run_of name rows ≡ o → one_if (has_claim name rows) ≤ one_if (has_claim name later)
   by None is =
@@ -199,7 +199,7 @@ stand-next f keeps id rows (row ∷ more) all = by (stand-next f keeps id rows m
   by rest true is = rw is rest
   by rest false is = rw is (found-other id row.id f keeps is rows ∙ all.0, rest)
 
-picks-taken : (count : ℕ) (queue : TaskQueue) (some_ rows : List Row) (claim : Claim) (name : RunName) → AllByRecursion (Stands rows) some_
+pub picks-taken : (count : ℕ) (queue : TaskQueue) (some_ rows : List Row) (claim : Claim) (name : RunName) → AllByRecursion (Stands rows) some_
     → count_by (is_same_run name) (picks count queue some_) + one_if (has_claim name rows) ≤ one_if (has_claim name (all_claimed claim (picks count queue some_) rows))
 picks-taken zero queue some_ rows claim name all = omega arith
 picks-taken (suc count) queue some_ rows claim name all = by (λ others later standing. picks-taken count queue others later claim name standing) (pick queue some_) refl where
@@ -225,7 +225,7 @@ stand-more : (first : Row) (rows more : List Row) → AllByRecursion (λ id. byt
 stand-more first rows [] other all = tt
 stand-more first rows (row ∷ more) other all = (rw (other.0) all.0, stand-more first rows more other.1 all.1)
 
-each-stands : (rows : List Row) → HaveOwnIds rows → AllByRecursion (Stands rows) rows
+pub each-stands : (rows : List Row) → HaveOwnIds rows → AllByRecursion (Stands rows) rows
 unfolding IsDistinct
 each-stands [] own = tt
 each-stands (row ∷ rows) own =
@@ -235,24 +235,24 @@ each-stands (row ∷ rows) own =
 -- ---- what each call claims
 
 -- what a change claims had no claim, and has one behind it
-abbrev Claims : RunName → Contents → ℕ → Option Change → Type 0
+abbrev pub Claims : RunName → Contents → ℕ → Option Change → Type 0
 Claims name contents moment change = claims_by name change + one_if (has_claim name contents.rows) ≤ one_if (has_claim name (changed contents moment change).rows)
 
 claims-none : (name : RunName) (contents : Contents) (moment : ℕ) → Claims name contents moment None
 claims-none name contents moment = omega arith
 
 -- a change that claims nothing
-claims-some : (name : RunName) (contents : Contents) (moment : ℕ) (change : Change) → claims_by name (Some change) ≡ 0 → Claims name contents moment (Some change)
+pub claims-some : (name : RunName) (contents : Contents) (moment : ℕ) (change : Change) → claims_by name (Some change) ≡ 0 → Claims name contents moment (Some change)
 claims-some name contents moment change nothing =
     let more : one_if (has_claim name contents.rows) ≤ one_if (has_claim name (changed contents moment (Some change)).rows) =
     claim-stays name contents.rows (changed contents moment (Some change)).rows (changed-stays contents moment (Some change)) in
     omega arith
 
-at-most : (a b c d : ℕ) → a + b ≤ c → c ≤ d → a + b ≤ d
+pub at-most : (a b c d : ℕ) → a + b ≤ c → c ≤ d → a + b ≤ d
 at-most a b c d first second = omega arith
 
 -- what is claimed stays so, as the tasks settle
-taken-more : (name : RunName) (contents : Contents) (at : ℕ) (claim : TakenRuns)
+pub taken-more : (name : RunName) (contents : Contents) (at : ℕ) (claim : TakenRuns)
     → one_if (has_claim name (all_claimed (claim_of at claim) claim.runs contents.rows)) ≤ one_if (has_claim name (applied contents (at_moment at (TakesRuns claim))).rows)
 unfolding applied
 taken-more name contents at claim =
@@ -395,7 +395,7 @@ entry-claims name state (call asking disk_failed) own may = omega arith
 entry-claims name state (call asking was_halted) own may = omega arith
 entry-claims name state (call asking (finished judgement)) own may = verdict-claims name state asking judgement own may.became.verdict
 
-claimed-few : (name : RunName) (state : State) (history : List Entry) → HaveOwnIds state.contents.rows → IsLegal farm_rules state history → sum_by (claims_in name) history + one_if (has_claim name state.contents.rows) ≤ 1
+pub claimed-few : (name : RunName) (state : State) (history : List Entry) → HaveOwnIds state.contents.rows → IsLegal farm_rules state history → sum_by (claims_in name) history + one_if (has_claim name state.contents.rows) ≤ 1
 unfolding farm_rules
 claimed-few name state [] own legal = let few = one-few (has_claim name state.contents.rows) in omega arith
 claimed-few name state (entry ∷ rest) own legal =

@@ -1,6 +1,7 @@
 -- A call that is of its form and names what is there is denied exactly where its caller's scopes do not hold what it asks.
-use Rattle.std.proofs.Common.{◌≡◌, ◌≢◌, ℕ, Bool, true, false, List, [], ◌∷◌, ◌++◌, map, Option, Some, None, length, ◌==◌, min, nat_le, nat_lt, ◌&&◌, if◌then◌else◌, refl, sym, ap, ◌∙◌, subst, inl, inr}
+use Rattle.std.proofs.Common.{◌≡◌, ◌≢◌, ℕ, Bool, true, false, List, [], ◌∷◌, ◌++◌, map, Option, Some, None, Contains, length, ◌==◌, min, nat_le, nat_lt, ◌&&◌, if◌then◌else◌, refl, sym, ap, ◌∙◌, subst, inl, inr}
 use Rattle.scope_sets.specs.Expressions.{Expression, holds, missing, reduced}
+use Rattle.scope_sets.specs.Scopes.{star}
 use Rattle.scope_sets.proofs.LawLemmas.{missing_full}
 use Rattle.run_states.specs.Rows.{Row}
 use Rattle.farm_rows.specs.Contents.{row_with}
@@ -25,6 +26,7 @@ use Rattle.farm_machine.specs.Order.{Form, has_no_route, has_bad_parameter, has_
 use Rattle.farm_machine.specs.Replies.{bad_dependency, other_scheduler, insufficient_scopes, farm_full}
 use Rattle.farm_machine.specs.State.{State}
 use Rattle.farm_machine.specs.Verdict.{form_of, IsVerdict}
+use Rattle.farm_machine.proofs.ListedLemmas.{HasNoEmptyAnyOf, reduced-lists, star-holds, call-full}
 use Rattle.farm_machine.proofs.OnceLemmas.{entry-may, entries-config}
 use Rattle.farm_machine.proofs.OrderLemmas.{last_parts, not_refused, lacks_none, asks-lacking, in_order-one}
 
@@ -131,8 +133,8 @@ held-first at caller case Ps scopes judgement has named there none (inr (a, inr 
 
 -- ---- denied exactly
 
-exactly : (at : Setting) (caller : Caller) (case : Setting → Case) (scopes : List (List ℕ)) (judgement : Judgement) → AreOther (case at).rules → HasAccess at.state.config at.moment caller (Has scopes) → (case at).parameter ≡ None → (case at).absent ≡ None → IsFirst (in_order at caller (asks case)) judgement → DeniesExactly scopes (case at).policy judgement.answer
-exactly at caller case scopes judgement others has named there first = by (holds scopes (case at).policy) refl where
+exactly : (at : Setting) (caller : Caller) (case : Setting → Case) (scopes : List (List ℕ)) (judgement : Judgement) → AreOther (case at).rules → HasNoEmptyAnyOf (case at).policy → HasAccess at.state.config at.moment caller (Has scopes) → (case at).parameter ≡ None → (case at).absent ≡ None → IsFirst (in_order at caller (asks case)) judgement → DeniesExactly scopes (case at).policy judgement.answer
+exactly at caller case scopes judgement others full has named there first = by (holds scopes (case at).policy) refl where
   by : (test : Bool) → holds scopes (case at).policy ≡ test → DeniesExactly scopes (case at).policy judgement.answer
   by true is = record {
     held = λ held. rules-other at (case at).deed (case at).rules judgement others (held-first at caller case (ending at (case at)) scopes judgement has named there (rw is refl) first);
@@ -145,7 +147,7 @@ exactly at caller case scopes judgement others has named there first = by (holds
       let same = in_order-one at caller (asks case) judgement (only_answer (insufficient_scopes lack)) tt first denied in
       record {
         held = λ held. let no_ : false ≡ true = sym is ∙ held in cc;
-        lacked = λ not_held. (lack, lacks, missing_full scopes (case at).policy lack lacks, ap (λ (j : Judgement). j.answer) same);
+        lacked = λ not_held. (lack, (lacks, missing_full scopes (case at).policy lack lacks, reduced-lists scopes (case at).policy full is), ap (λ (j : Judgement). j.answer) same);
       }
 
 there-is : (parameter absent : Option Answer) (policy asked : Expression) → where_there parameter absent policy ≡ Some asked → (parameter ≡ None) × (absent ≡ None) × (policy ≡ asked)
@@ -153,14 +155,14 @@ there-is None None policy asked is = (refl, refl, cc)
 there-is None (Some a) policy asked is = cc
 there-is (Some a) absent policy asked is = cc
 
-form-exactly : (at : Setting) (caller : Caller) (form : Form) (scopes : List (List ℕ)) (policy : Expression) (judgement : Judgement) → AreOther (case_of form at).rules → asked_policy form at ≡ Some policy → HasAccess at.state.config at.moment caller (Has scopes) → IsFirst (in_order at caller form) judgement → DeniesExactly scopes policy judgement.answer
-form-exactly at caller (has_no_route a) scopes policy judgement others is has first = cc
-form-exactly at caller (has_bad_parameter a) scopes policy judgement others is has first = cc
-form-exactly at caller (has_bad_body a) scopes policy judgement others is has first = cc
-form-exactly at caller (asks_then Found case Comes rest) scopes policy judgement others is has first = cc
-form-exactly at caller (asks case) scopes policy judgement others is has first =
+form-exactly : (at : Setting) (caller : Caller) (form : Form) (scopes : List (List ℕ)) (policy : Expression) (judgement : Judgement) → AreOther (case_of form at).rules → HasNoEmptyAnyOf (case_of form at).policy → asked_policy form at ≡ Some policy → HasAccess at.state.config at.moment caller (Has scopes) → IsFirst (in_order at caller form) judgement → DeniesExactly scopes policy judgement.answer
+form-exactly at caller (has_no_route a) scopes policy judgement others full is has first = cc
+form-exactly at caller (has_bad_parameter a) scopes policy judgement others full is has first = cc
+form-exactly at caller (has_bad_body a) scopes policy judgement others full is has first = cc
+form-exactly at caller (asks_then Found case Comes rest) scopes policy judgement others full is has first = cc
+form-exactly at caller (asks case) scopes policy judgement others full is has first =
     let there = there-is (case at).parameter (case at).absent (case at).policy policy is in
-    subst (λ (e : Expression). DeniesExactly scopes e judgement.answer) there.2 (exactly at caller case scopes judgement others has there.0 there.1 first)
+    subst (λ (e : Expression). DeniesExactly scopes e judgement.answer) there.2 (exactly at caller case scopes judgement others full has there.0 there.1 first)
 
 pub denies-exactly : (opening : State) (before later : List Entry) (asking : Asking) (judgement : Judgement) (scopes : List (List ℕ)) (policy : Expression) → Finished opening before later asking judgement → asked_policy (form_of asking.call) (setting_behind opening before asking) ≡ Some policy → HasAccess opening.config (setting_behind opening before asking).moment asking.caller (Has scopes) → DeniesExactly scopes policy judgement.answer
 unfolding IsVerdict
@@ -168,4 +170,19 @@ denies-exactly opening before later asking judgement scopes policy is asked has 
     let at = setting_behind opening before asking in
     let may = entry-may opening before later (call asking (finished judgement)) is.legal in
     let access : HasAccess at.state.config at.moment asking.caller (Has scopes) = rw (entries-config opening before) has in
-    form-exactly at asking.caller (form_of asking.call) scopes policy judgement (call-other at asking.call) asked access may.became.verdict
+    form-exactly at asking.caller (form_of asking.call) scopes policy judgement (call-other at asking.call) (call-full at asking.call) asked access may.became.verdict
+
+-- what a call asks has no empty `AnyOf`
+asked-full : (at : Setting) (form : Form) (policy : Expression) → HasNoEmptyAnyOf (case_of form at).policy → asked_policy form at ≡ Some policy → HasNoEmptyAnyOf policy
+asked-full at (has_no_route a) policy full is = cc
+asked-full at (has_bad_parameter a) policy full is = cc
+asked-full at (has_bad_body a) policy full is = cc
+asked-full at (asks_then Found case Comes rest) policy full is = cc
+asked-full at (asks case) policy full is =
+    subst HasNoEmptyAnyOf (there-is (case at).parameter (case at).absent (case at).policy policy is).2 full
+
+pub star-calls : (opening : State) (before later : List Entry) (asking : Asking) (judgement : Judgement) (scopes : List (List ℕ)) (policy : Expression) → Finished opening before later asking judgement → asked_policy (form_of asking.call) (setting_behind opening before asking) ≡ Some policy → HasAccess opening.config (setting_behind opening before asking).moment asking.caller (Has scopes) → Contains scopes (star ∷ []) → judgement.answer.status ≢ 403
+star-calls opening before later asking judgement scopes policy is asked has starred =
+    let at = setting_behind opening before asking in
+    let full = asked-full at (form_of asking.call) policy (call-full at asking.call) asked in
+    (denies-exactly opening before later asking judgement scopes policy is asked has).held (star-holds scopes starred policy full)

@@ -1,5 +1,5 @@
 -- What comes of a hook that is triggered: it is one, there is some, and some document says the task that is to be made.
-use Rattle.std.proofs.Common.{◌≡◌, ◌≢◌, ℕ, List, [], ◌∷◌, Option, Some, None, Result, Ok, Err, refl, sym, ap, ◌∙◌, subst}
+use Rattle.std.proofs.Common.{◌≡◌, ◌≢◌, ℕ, ◌≤◌, List, [], ◌∷◌, Option, Some, None, Result, Ok, Err, refl, sym, ap, ◌∙◌, subst}
 use Rattle.farm_text.proofs.MomentLemmas.{IsMomentText-one}
 use Rattle.farm_text.proofs.OneMomentLemmas.{IsDateTime-one}
 use Rattle.farm_text.specs.Document.{Document, object}
@@ -16,6 +16,7 @@ use Rattle.hook_fire.specs.Hooks.{HookData}
 use Rattle.hook_fire.specs.declared.fault.FireFault.{FireFault}
 use Rattle.hook_fire.specs.declared.fault.FireFault.TheVariants.{Template, TooMuchWork, Definition, NoMemory}
 use Rattle.hook_fire.proofs.FiringLemmas.{Laws, one_answer}
+use Rattle.hook_fire.proofs.SomeFiring.{some_firing}
 use Rattle.jsone_render.proofs.OneRendering.{one_rendering}
 use Rattle.task_defs.specs.Definitions.{Says, rules}
 use Rattle.task_defs.specs.declared.task_def.TaskDef.{TaskDef}
@@ -109,6 +110,16 @@ ComesTo-some longest trigger at accepted ends there =
     let outcome = ends hook.0 hook.1 in
     let fired = follows_some longest trigger.hook at outcome.0 accepted outcome.2 in
     (fired.0, record { hook = hook.0; there = hook.1; outcome = outcome.0; fires = outcome.1; follows = fired.1 })
+
+-- the firing of a hook cannot but come to something, up to the end of the year 9999
+pub firing-ends : (trigger : Trigger) (at : Setting) (found : Option HookData) → hook_at trigger.hook at ≡ found → at.moment ≤ 253_402_300_799_999 → ¬ ¬ FiringEnds at (TriggerHook trigger)
+firing-ends trigger at None is upto none = none (λ hook there. let both : None ≡ Some hook = sym is ∙ there in absurd cc)
+firing-ends trigger at (Some h) is upto none =
+    some_firing h.template (object trigger.payload) at.moment at.drawn upto
+    (λ o. none (λ hook there.
+    let both : Some h ≡ Some hook = sym is ∙ there in
+    let same : h ≡ hook = cc in
+    subst (λ (x : HookData). (outcome : Result TaskDef FireFault) × IsFired x.template (object trigger.payload) at.moment at.drawn outcome × (outcome ≢ Err NoMemory)) same o))
 
 -- ---- some document says the task that is to be made
 

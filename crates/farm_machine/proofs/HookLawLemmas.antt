@@ -32,6 +32,7 @@ use Rattle.farm_machine.specs.State.{State}
 use Rattle.farm_machine.specs.Verdict.{form_of, IsVerdict}
 use Rattle.farm_machine.proofs.DenialLemmas.{not_denied, create-other, rules-other, held-first}
 use Rattle.farm_machine.proofs.FiredLemmas.{made_at, ComesTo-one}
+use Rattle.farm_machine.proofs.ListedLemmas.{reduced-lists, create-full}
 use Rattle.farm_machine.proofs.OnceLemmas.{entry-may, entries-config}
 use Rattle.farm_machine.proofs.OrderLemmas.{asks-lacking, in_order-one}
 use Rattle.farm_machine.proofs.VerdictLemmas.{form-determined}
@@ -159,7 +160,7 @@ module _ (opening : State) (before after : List Entry) (asking : Asking) (judgem
         let same = in_order-one at asking.caller (form_of (TriggerHook trigger)) judgement (only_answer (insufficient_scopes lack)) (form-determined (TriggerHook trigger) at) first denied in
         record {
           held = λ held. let no_ : false ≡ true = sym lacking ∙ held in cc;
-          lacked = λ not_held. (lack, lacks, missing_full scopes (trigger_policy trigger.hook) lack lacks, ap (λ (j : Judgement). j.answer) same);
+          lacked = λ not_held. (lack, (lacks, missing_full scopes (trigger_policy trigger.hook) lack lacks, reduced-lists scopes (trigger_policy trigger.hook) tt lacking), ap (λ (j : Judgement). j.answer) same);
         }
 
   module _ (holding : IsTrue (holds scopes (trigger_policy trigger.hook))) (definition : TaskDef) (granted : List (List ℕ)) (grants : Grants opening at trigger hook definition granted) where
@@ -198,5 +199,5 @@ module _ (opening : State) (before after : List Entry) (asking : Asking) (judgem
           let same = ended-is at answer judgement (ends (Err answer) (rw lacking refl)) in
           record {
             held = λ held. let no_ : false ≡ true = sym lacking ∙ held in cc;
-            lacked = λ not_held. (lack, lacks, missing_full granted (create_policy definition) lack lacks, ap (λ (j : Judgement). j.answer) same);
+            lacked = λ not_held. (lack, (lacks, missing_full granted (create_policy definition) lack lacks, reduced-lists granted (create_policy definition) (create-full definition) lacking), ap (λ (j : Judgement). j.answer) same);
           }

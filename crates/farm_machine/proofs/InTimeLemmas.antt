@@ -21,7 +21,6 @@ use Rattle.farm_rows.specs.Contents.{Contents, row_with}
 use Rattle.farm_rows.specs.Due.{all_due_moments, is_due}
 use Rattle.farm_rows.specs.Picks.{picks}
 use Rattle.farm_rows.proofs.DueLemmas.{any_none}
-use Rattle.farm_machine.specs.declared.config.Config.{Config}
 use Rattle.farm_machine.specs.declared.question.Call.{Call}
 use Rattle.farm_machine.specs.declared.question.Call.TheVariants.{NoRoute, BadParameter, BadBody, Ping, Task, Status, ListTaskGroup, ListDependentTasks, PendingTasks, CreateTask, ClaimWork, ReclaimTask, ReportRun, ScheduleTask, RerunTask, CancelTask, TriggerHook}
 use Rattle.farm_machine.specs.Calls.CancelTask.{cancel_task}
@@ -45,7 +44,8 @@ use Rattle.farm_machine.specs.Laws.{Finished}
 use Rattle.farm_machine.specs.Order.{case_of, done}
 use Rattle.farm_machine.specs.Replies.{tells_status, conflict}
 use Rattle.farm_machine.specs.RunLaws.{run_in}
-use Rattle.farm_machine.specs.State.{State, empty_state}
+use Rattle.farm_machine.specs.Replay.{Restores}
+use Rattle.farm_machine.specs.State.{State}
 use Rattle.farm_machine.specs.Step.{farm_rules}
 use Rattle.farm_machine.specs.Verdict.{form_of, setting_of, IsVerdict}
 use Rattle.farm_machine.specs.Works.{at_moment}
@@ -54,6 +54,7 @@ use Rattle.farm_machine.proofs.DeedLemmas.{each-task, each-run, each-work}
 use Rattle.farm_machine.proofs.LastRunLemmas.{is_sound, are_sound, runs-at, open-last, entries-sound}
 use Rattle.farm_machine.proofs.MayLemmas.{no_not, passed}
 use Rattle.farm_machine.proofs.OnceLemmas.{entry-may}
+use Rattle.farm_machine.proofs.SoundLemmas.{restored-sound}
 
 -- ---- a change that is a report is that of a call that reports a running run
 
@@ -198,16 +199,16 @@ run-ends : (run : Run) (claim : Claim) → is_running_run run ≡ true → run.c
 run-ends run claim running has =
     ap (λ b. cond b (option_map (λ (c : Claim). c.taken_until) run.claim) None) running ∙ ap (option_map (λ (c : Claim). c.taken_until)) has
 
-pub reports-in-time : (config : Config) (before after : List Entry) (asking : Asking) (judgement : Judgement) (at : ℕ) (report : Resolution) → Finished (empty_state config) before after asking judgement → judgement.change ≡ Some (at_moment at (Resolve report))
-    → (run : Run) × (claim : Claim) × (run_in (record { id = report.id; run = report.run }) (end_state farm_rules (empty_state config) before) ≡ Some run) × (run.outcome ≡ None) × (run.claim ≡ Some claim) × (at < claim.taken_until)
-reports-in-time config before after asking judgement at report is change =
-    let state = end_state farm_rules (empty_state config) before in
-    let may = entry-may (empty_state config) before after (call asking (finished judgement)) is.legal in
+pub reports-in-time : (opening : State) (records : List Change) (before after : List Entry) (asking : Asking) (judgement : Judgement) (at : ℕ) (report : Resolution) → Restores records opening.contents → Finished opening before after asking judgement → judgement.change ≡ Some (at_moment at (Resolve report))
+    → (run : Run) × (claim : Claim) × (run_in (record { id = report.id; run = report.run }) (end_state farm_rules opening before) ≡ Some run) × (run.outcome ≡ None) × (run.claim ≡ Some claim) × (at < claim.taken_until)
+reports-in-time opening records before after asking judgement at report restored is change =
+    let state = end_state farm_rules opening before in
+    let may = entry-may opening before after (call asking (finished judgement)) is.legal in
     let here = setting_of state asking in
     let reports = verdict-reports state asking judgement at report may.became.verdict change in
     let one = runs-at report.run reports.row reports.running in
     let claim = some-claim one.run.claim one.run.outcome one.running in
-    let sound = found-sound (λ (r : Row). bytes_eq r.id report.id) state.contents.rows reports.row (entries-sound (empty_state config) before refl) reports.found in
+    let sound = found-sound (λ (r : Row). bytes_eq r.id report.id) state.contents.rows reports.row (entries-sound opening before (restored-sound records opening.contents restored)) reports.found in
     let last : last_or None reports.row.runs ≡ Some one.run = open-last reports.row.runs report.run one.run sound one.there one.unended in
     let due : claim_due reports.row ≡ Some claim.0.taken_until = ap (option_and_then run_due) last ∙ run-ends one.run claim.0 one.running claim.1 in
     let in_time : here.moment < claim.0.taken_until = before-claim-ends state.contents here.moment report.id reports.row claim.0.taken_until may.nothing_due reports.found due in

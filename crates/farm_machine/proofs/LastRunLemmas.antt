@@ -248,7 +248,7 @@ turns-sound : (count moment : ℕ) (contents : Contents) → are_sound contents.
 turns-sound zero moment contents all = all
 turns-sound (suc count) moment contents all = turns-sound count moment (turn moment contents) (first-sound contents (first_due contents moment) all)
 
-advance-sound : (contents : Contents) (moment : ℕ) → are_sound contents.rows ≡ true → are_sound (advance contents moment).rows ≡ true
+pub advance-sound : (contents : Contents) (moment : ℕ) → are_sound contents.rows ≡ true → are_sound (advance contents moment).rows ≡ true
 unfolding advance
 advance-sound contents moment all = turns-sound (length (all_due_moments contents.rows)) moment contents all
 
@@ -268,7 +268,7 @@ kind-sound contents at (Reclaim r) all = change-sound (has_id r.id) (reclaimed r
 kind-sound contents at (Resolve r) all =
     change-sound (has_id r.id) (resolved r.run (reason_of r.reason) contents.next at) (resolved-sound r.run (reason_of r.reason) contents.next at) contents.rows all
 
-applied-sound : (contents : Contents) (change : Change) → are_sound contents.rows ≡ true → are_sound (applied contents change).rows ≡ true
+pub applied-sound : (contents : Contents) (change : Change) → are_sound contents.rows ≡ true → are_sound (applied contents change).rows ≡ true
 unfolding applied
 applied-sound contents change all =
     after-holds (λ c. are_sound c.rows ≡ true) contents change.at (λ c sound. settled-sound c change.at sound) change.kind

@@ -16,6 +16,7 @@ pub mod VerdictLemmas
 pub mod MakeLemmas
 pub mod MayLemmas
 pub mod JoinLemmas
+mod ListedLemmas
 mod ReadyLawLemmas
 mod ServedLemmas
 pub mod WorkLemmas
@@ -24,7 +25,9 @@ mod LastRunLemmas
 mod DeedLemmas
 mod InTimeLemmas
 mod ClaimLawLemmas
+mod RecordedClaimLemmas
 pub mod BehindLemmas
 pub mod ReplayLemmas
+mod SoundLemmas
 pub mod WrittenLemmas
 pub mod CrossingLemmas

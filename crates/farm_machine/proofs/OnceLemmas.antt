@@ -1,9 +1,9 @@
 -- A task is created once, and a createTask of it that comes again is answered with its status.
-use Rattle.std.proofs.Common.{◌≡◌, ℕ, ◌≤◌, Bool, true, false, IsTrue, List, [], ◌∷◌, ◌++◌, length, Option, Some, None, is_some, bytes_eq, refl, sym, ap, ◌∙◌, subst, inl, arith}
+use Rattle.std.proofs.Common.{◌≡◌, ℕ, ◌+◌, ◌≤◌, Bool, true, false, IsTrue, List, [], ◌∷◌, ◌++◌, length, Option, Some, None, is_some, bytes_eq, if◌then◌else◌, refl, sym, ap, ◌∙◌, subst, inl, arith}
 use Rattle.std.proofs.lemmas.List.Folds.{find-append}
 use Rattle.std.proofs.lemmas.Slice.Eq.{bytes_eq-Decides}
 use Rattle.history.specs.Histories.{IsLegal, end_state}
-use Rattle.history.proofs.HistoriesLemmas.{end_state-append, IsLegal-front, IsLegal-back}
+use Rattle.history.proofs.HistoriesLemmas.{end_state-append, IsLegal-back}
 use Rattle.scope_sets.specs.Expressions.{Expression, holds, missing}
 use Rattle.call_rules.specs.Policy.{create_policy}
 use Rattle.farm_text.specs.Document.{document_text}
@@ -26,7 +26,7 @@ use Rattle.farm_machine.specs.Case.{Rule, IsFirstRule}
 use Rattle.farm_machine.specs.Changes.{changed, moment_of}
 use Rattle.farm_machine.specs.Entry.{Asking, Entry, tick, call, finished, out_of_memory, disk_failed, was_halted}
 use Rattle.farm_machine.specs.Judgement.{Judgement, only_answer}
-use Rattle.farm_machine.specs.Laws.{Finished, setting_behind, created_by, has_id, creations}
+use Rattle.farm_machine.specs.Laws.{Finished, setting_behind, created_by, has_id, creations, Stands}
 use Rattle.farm_machine.specs.Order.{IsFirst, in_order}
 use Rattle.farm_machine.specs.Replies.{ok, status_body}
 use Rattle.farm_machine.specs.State.{State}
@@ -66,7 +66,7 @@ entries-config state [] = refl
 entries-config state (entry ∷ rest) = entries-config (after state entry) rest ∙ entry-config state entry
 
 -- a task is found later, with its definition
-found-later : (id : List ℕ) (rows later : List Row) (row : Row) → RowsLater rows later → row_with id rows ≡ Some row → (found : Row) × (row_with id later ≡ Some found) × (found.definition ≡ row.definition)
+pub found-later : (id : List ℕ) (rows later : List Row) (row : Row) → RowsLater rows later → row_with id rows ≡ Some row → (found : Row) × (row_with id later ≡ Some found) × (found.definition ≡ row.definition)
 found-later id [] later row stays is = cc
 found-later id (r ∷ rows) [] row stays is = absurd stays
 found-later id (r ∷ rows) (s ∷ later) row stays is = by (found-later id rows later row stays.1) (bytes_eq r.id id) refl where
@@ -85,10 +85,7 @@ bytes_eq-refl : (bs : List ℕ) → bytes_eq bs bs ≡ true
 bytes_eq-refl bs = (bytes_eq-Decides bs bs).1 refl
 
 -- a task that is created stands, with its definition
-abbrev IsMade : Contents → Creation → Type 0
-IsMade contents creation = (row : Row) × (row_with creation.id contents.rows ≡ Some row) × (row.definition ≡ creation.definition)
-
-created-found : (contents : Contents) (at : ℕ) (creation : Creation) → row_with creation.id contents.rows ≡ None → IsMade (applied contents (creating at creation)) creation
+pub created-found : (contents : Contents) (at : ℕ) (creation : Creation) → row_with creation.id contents.rows ≡ None → Stands (applied contents (creating at creation)) creation
 unfolding applied
 created-found contents at creation unknown =
     let new = new_row creation.id creation.definition in
@@ -103,7 +100,7 @@ pub record Created (state : State) (entry : Entry) (creation : Creation) : Type 
   pub judgement : Judgement
   pub is : entry ≡ call asking (finished judgement)
   pub creates : Creates (setting_of state asking) asking.call judgement creation
-  pub found : IsMade (after state entry).contents creation
+  pub found : Stands (after state entry).contents creation
 
 entry-creates : (state : State) (entry : Entry) (creation : Creation) → lawful state entry → created_by entry ≡ Some creation → Created state entry creation
 entry-creates state (tick moment) creation may is = cc
@@ -175,11 +172,31 @@ creations-few id state (entry ∷ rest) legal = by (creations-few id (after stat
       rw (is, new.0) (omega (arith, none))
   by others false is = let few = fewer id state entry in rw is (omega (arith, others, few))
 
-pub created-once : (opening : State) (history : List Entry) (id : List ℕ) → IsLegal farm_rules opening history → length (creations id history) ≤ 1
+pub created-once : (opening : State) (history : List Entry) (id : List ℕ) → IsLegal farm_rules opening history
+    → (if is_some (row_with id opening.contents.rows) then 1 else 0) + length (creations id history) ≤ 1
 created-once opening history id legal = by (stands id opening) (creations-few id opening history legal) where
-  by : (test : Bool) → length (creations id history) ≤ most test → length (creations id history) ≤ 1
+  by : (test : Bool) → length (creations id history) ≤ most test → (if test then 1 else 0) + length (creations id history) ≤ 1
   by true few = omega (arith, few)
-  by false few = few
+  by false few = omega (arith, few)
+
+-- ---- a task that was created stands
+
+-- the entry at a place of a legal history may come there
+pub entry-may : (opening : State) (before after : List Entry) (entry : Entry) → IsLegal farm_rules opening (before ++ entry ∷ after) → lawful (end_state farm_rules opening before) entry
+unfolding farm_rules
+entry-may opening before after entry legal = (IsLegal-back farm_rules opening before (entry ∷ after) legal).0
+
+pub created-stands : (opening : State) (before later : List Entry) (first : Entry) (creation : Creation) → IsLegal farm_rules opening (before ++ first ∷ later) → created_by first ≡ Some creation
+    → Stands (end_state farm_rules opening (before ++ first ∷ later)).contents creation
+unfolding farm_rules
+created-stands opening before later first creation legal creates =
+    let state = end_state farm_rules opening before in
+    let now = end_state farm_rules opening (before ++ first ∷ later) in
+    let made = entry-creates state first creation (entry-may opening before later first legal) creates in
+    let stays : RowsLater (after state first).contents.rows now.contents.rows =
+    rw (end_state-append farm_rules opening before (first ∷ later)) (entries-stay (after state first) later) in
+    let found = found-later creation.id (after state first).contents.rows now.contents.rows made.found.0 stays made.found.1 in
+    (found.0, found.1, found.2 ∙ made.found.2)
 
 -- ---- an equal createTask that comes again
 
@@ -202,27 +219,13 @@ again-first state asking creation judgement scopes row called has held found sam
     let judged : IsFirst (in_order at asking.caller (form_of (CreateTask creation))) judgement = subst (λ (c : Call). IsFirst (in_order at asking.caller (form_of c)) judgement) called verdict in
     in_order-one at asking.caller (form_of (CreateTask creation)) judgement (only_answer answer) tt judged ruled
 
--- the entry at a place of a legal history may come there
-pub entry-may : (opening : State) (before after : List Entry) (entry : Entry) → IsLegal farm_rules opening (before ++ entry ∷ after) → lawful (end_state farm_rules opening before) entry
-unfolding farm_rules
-entry-may opening before after entry legal = (IsLegal-back farm_rules opening before (entry ∷ after) legal).0
-
-pub answers-again : (opening : State) (before between later : List Entry) (first : Entry) (creation : Creation) (asking : Asking) (judgement : Judgement) (scopes : List (List ℕ))
-    → created_by first ≡ Some creation → Finished opening (before ++ first ∷ between) later asking judgement → asking.call ≡ CreateTask creation
-    → HasAccess opening.config (setting_behind opening (before ++ first ∷ between) asking).moment asking.caller (Has scopes) → IsTrue (holds scopes (create_policy creation.definition))
-    → (row : Row) × (row_with creation.id (end_state farm_rules opening (before ++ first ∷ between)).contents.rows ≡ Some row)
-    × (row.definition ≡ creation.definition) × (judgement ≡ only_answer (ok (document_text (status_body row))))
-unfolding farm_rules
-answers-again opening before between later first creation asking judgement scopes creates is called has held =
-    let state = end_state farm_rules opening before in
-    let history = before ++ first ∷ between in
-    let now = end_state farm_rules opening history in
-    let legal = IsLegal-front farm_rules opening history (call asking (finished judgement) ∷ later) is.legal in
-    let made = entry-creates state first creation (entry-may opening before between first legal) creates in
-    let stays : RowsLater (after state first).contents.rows now.contents.rows =
-    rw (end_state-append farm_rules opening before (first ∷ between)) (entries-stay (after state first) between) in
-    let found = found-later creation.id (after state first).contents.rows now.contents.rows made.found.0 stays made.found.1 in
-    let may = entry-may opening history later (call asking (finished judgement)) is.legal in
-    let access : HasAccess now.config (setting_of now asking).moment asking.caller (Has scopes) = rw (entries-config opening history) has in
-    let answered = again-first now asking creation judgement scopes found.0 called access held found.1 (found.2 ∙ made.found.2) may.became.verdict in
-    (found.0, found.1, found.2 ∙ made.found.2, answered)
+pub answers-again : (opening : State) (before later : List Entry) (creation : Creation) (row : Row) (asking : Asking) (judgement : Judgement) (scopes : List (List ℕ))
+    → row_with creation.id (end_state farm_rules opening before).contents.rows ≡ Some row → row.definition ≡ creation.definition
+    → Finished opening before later asking judgement → asking.call ≡ CreateTask creation
+    → HasAccess opening.config (setting_behind opening before asking).moment asking.caller (Has scopes) → IsTrue (holds scopes (create_policy creation.definition))
+    → judgement ≡ only_answer (ok (document_text (status_body row)))
+answers-again opening before later creation row asking judgement scopes found same is called has held =
+    let now = end_state farm_rules opening before in
+    let may = entry-may opening before later (call asking (finished judgement)) is.legal in
+    let access : HasAccess now.config (setting_of now asking).moment asking.caller (Has scopes) = rw (entries-config opening before) has in
+    again-first now asking creation judgement scopes row called access held found same may.became.verdict

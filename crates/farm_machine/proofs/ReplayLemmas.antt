@@ -85,7 +85,7 @@ ticks-so state moment may =
 
 -- ---- lists of changes
 
-replayed-if : (contents : Contents) (change : Change) (changes : List Change) → may_replay contents change ≡ true → replayed contents (change ∷ changes) ≡ replayed (after_replay contents change) changes
+pub replayed-if : (contents : Contents) (change : Change) (changes : List Change) → may_replay contents change ≡ true → replayed contents (change ∷ changes) ≡ replayed (after_replay contents change) changes
 replayed-if contents change changes may = ap (λ (b : Bool). cond b (replayed (after_replay contents change) changes) None) may
 
 pub replayed-append : (contents middle : Contents) (changes more : List Change) → replayed contents changes ≡ Some middle → replayed contents (changes ++ more) ≡ replayed middle more

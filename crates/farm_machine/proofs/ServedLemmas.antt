@@ -21,12 +21,13 @@ use Rattle.farm_rows.specs.Contents.{Contents}
 use Rattle.farm_rows.specs.Due.{meets_deadline, change_first, resolved_at, after_first, turn, turns, first_due, all_due_moments, advance}
 use Rattle.farm_rows.specs.Ready.{id_serves, is_ready, started, settled}
 use Rattle.farm_rows.proofs.IdLemmas.{after-holds}
-use Rattle.farm_machine.specs.declared.config.Config.{Config}
 use Rattle.farm_machine.specs.Changes.{changed, moment_of}
 use Rattle.farm_machine.specs.Entry.{Entry, tick, call, finished, out_of_memory, disk_failed, was_halted}
-use Rattle.farm_machine.specs.State.{State, empty_state}
+use Rattle.farm_machine.specs.Replay.{Restores}
+use Rattle.farm_machine.specs.State.{State}
 use Rattle.farm_machine.specs.Step.{after, farm_rules}
 use Rattle.farm_machine.proofs.LastRunLemmas.{is_sound, are_sound, runs-at, open-last, claimed-sound, change-sound, first-sound, entry-sound, entries-sound}
+use Rattle.farm_machine.proofs.SoundLemmas.{restored-sound}
 
 -- ---- one task
 
@@ -207,9 +208,10 @@ served-later needs id (row ∷ rows) (next ∷ later) kept is = by (served-later
       let also : bytes_eq next.id id ≡ false = ap (λ (i : List ℕ). bytes_eq i id) kept.0.0 ∙ other in
       rw also (rest (rw other at is))
 
-pub served-for-good : (config : Config) (before later : List Entry) (needs : Requires) (id : List ℕ) → id_serves needs (end_state farm_rules (empty_state config) before).contents.rows id ≡ true
-    → id_serves needs (end_state farm_rules (empty_state config) (before ++ later)).contents.rows id ≡ true
-served-for-good config before later needs id is =
-    let state = end_state farm_rules (empty_state config) before in
-    rw (end_state-append farm_rules (empty_state config) before later)
-    (served-later needs id state.contents.rows (end_state farm_rules state later).contents.rows (entries-kept state later (entries-sound (empty_state config) before refl)) is)
+pub served-for-good : (opening : State) (records : List Change) (before later : List Entry) (needs : Requires) (id : List ℕ) → Restores records opening.contents
+    → id_serves needs (end_state farm_rules opening before).contents.rows id ≡ true → id_serves needs (end_state farm_rules opening (before ++ later)).contents.rows id ≡ true
+served-for-good opening records before later needs id restored is =
+    let state = end_state farm_rules opening before in
+    let sound = entries-sound opening before (restored-sound records opening.contents restored) in
+    rw (end_state-append farm_rules opening before later)
+    (served-later needs id state.contents.rows (end_state farm_rules state later).contents.rows (entries-kept state later sound) is)

@@ -1,5 +1,5 @@
 -- The verdict is one, and each call has one.
-use Rattle.std.proofs.Common.{◌≡◌, ◌⊎◌, ℕ, Bool, true, false, List, ◌++◌, length, Option, Some, None, Ok, Err, not, ◌&&◌, nat_le, nat_lt, refl, inl, inr}
+use Rattle.std.proofs.Common.{◌≡◌, ◌⊎◌, ℕ, ◌≤◌, Bool, true, false, List, ◌++◌, length, Option, Some, None, Ok, Err, not, ◌&&◌, nat_le, nat_lt, refl, inl, inr}
 use Rattle.hawk_auth.specs.Clients.{IsBook}
 use Rattle.role_expand.specs.Cycles.{IsAccepted}
 use Rattle.farm_record.specs.declared.change.Creation.{Creation}
@@ -14,9 +14,10 @@ use Rattle.farm_machine.specs.declared.question.Call.TheVariants.{NoRoute, BadPa
 use Rattle.farm_machine.specs.declared.reply.Answer.{Answer}
 use Rattle.farm_machine.specs.declared.question.Caller.{Caller}
 use Rattle.farm_machine.specs.Calls.CreateTask.{standing, scheduler_besides, where_found, joining, create_task}
-use Rattle.farm_machine.specs.Calls.TriggerHook.{Fired, case_after}
+use Rattle.farm_machine.specs.Calls.TriggerHook.{hook_at, Fired, case_after}
 use Rattle.farm_machine.specs.Laws.{FiringEnds}
 use Rattle.farm_machine.specs.Case.{Setting, Case, Rule, when, of_row, of_run}
+use Rattle.farm_machine.specs.Changes.{moment_of}
 use Rattle.farm_machine.specs.Entry.{Asking}
 use Rattle.farm_machine.specs.Judgement.{Judgement}
 use Rattle.farm_machine.specs.Replies.{too_late, bad_dependency, tells_status, conflict, other_scheduler}
@@ -24,7 +25,7 @@ use Rattle.farm_machine.specs.State.{State}
 use Rattle.farm_machine.specs.Verdict.{form_of, setting_of, IsVerdict}
 use Rattle.farm_machine.proofs.AccessLemmas.{HasAccess-some}
 use Rattle.farm_machine.proofs.EqualLemmas.{definition_decided}
-use Rattle.farm_machine.proofs.FiredLemmas.{ComesTo-one, ComesTo-some}
+use Rattle.farm_machine.proofs.FiredLemmas.{ComesTo-one, ComesTo-some, firing-ends}
 use Rattle.farm_machine.proofs.OrderLemmas.{AreDecided, IsDecided, IsDetermined, in_order-one, in_order-some}
 
 -- what comes of a call is one
@@ -137,3 +138,13 @@ IsVerdict-some longest state asking accepted book ends =
     let at = setting_of state asking in
     let has = HasAccess-some longest state.config at.moment asking.caller accepted book in
     in_order-some at asking.caller (form_of asking.call) (form-decided longest asking.call at asking.caller accepted ends) has.0 has.1
+
+-- what is called cannot but come to something, up to the end of the year 9999
+call-ends : (call : Call) (at : Setting) → at.moment ≤ 253_402_300_799_999 → ¬ ¬ FiringEnds at call
+call-ends (TriggerHook trigger) at upto = firing-ends trigger at (hook_at trigger.hook at) refl upto
+call-ends call at upto = λ none. none tt
+
+-- so no call is without a verdict
+pub IsVerdict-exists : (longest : ℕ) (state : State) (asking : Asking) → IsAccepted longest state.config.roles → IsBook state.config.clients → moment_of state.contents asking ≤ 253_402_300_799_999 → ¬ ¬ ((judgement : Judgement) × IsVerdict state asking judgement)
+IsVerdict-exists longest state asking accepted book upto none =
+    call-ends asking.call (setting_of state asking) upto (λ ends. none (IsVerdict-some longest state asking accepted book ends))

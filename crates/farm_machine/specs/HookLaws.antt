@@ -1,6 +1,7 @@
 -- What holds in every history of a farm of a hook that is triggered: who is denied, and what its task asks of the hook's scopes.
-use Rattle.std.specs.Prelude.{◌≡◌, ◌≢◌, ℕ, IsTrue, List, Some}
-use Rattle.scope_sets.specs.Expressions.{Expression, holds, missing, HasNoEmptyAllOf}
+use Rattle.std.specs.Prelude.{◌≡◌, ◌≢◌, ℕ, IsTrue, List, [], ◌∷◌, Some, Contains}
+use Rattle.scope_sets.specs.Expressions.{Expression, holds}
+use Rattle.scope_sets.specs.Scopes.{star}
 use Rattle.call_rules.specs.Policy.{create_policy, trigger_policy}
 use Rattle.farm_text.specs.Document.{object}
 use Rattle.hook_fire.specs.Firing.{Defines}
@@ -14,19 +15,19 @@ use Rattle.farm_machine.specs.Calls.TriggerHook.{hook_at, HookMay}
 use Rattle.farm_machine.specs.Case.{Setting}
 use Rattle.farm_machine.specs.Entry.{Asking, Entry}
 use Rattle.farm_machine.specs.Judgement.{Judgement}
-use Rattle.farm_machine.specs.Laws.{Finished, setting_behind}
+use Rattle.farm_machine.specs.Laws.{Finished, setting_behind, IsLack}
 use Rattle.farm_machine.specs.Replies.{insufficient_scopes, hook_insufficient_scopes}
 use Rattle.farm_machine.specs.State.{State}
 
 -- The answer tells what is missing of the scopes exactly where they do not hold the expression; and that is something.
 pub record TellsExactly (tell : Expression → Answer) (scopes : List (List ℕ)) (policy : Expression) (answer : Answer) : Type 0 where
   pub held : IsTrue (holds scopes policy) → (lack : Expression) → answer ≢ tell lack
-  pub lacked : ¬ IsTrue (holds scopes policy) → (lack : Expression) × (missing scopes policy ≡ Some lack) × HasNoEmptyAllOf lack × (answer ≡ tell lack)
+  pub lacked : ¬ IsTrue (holds scopes policy) → (lack : Expression) × IsLack scopes policy lack × (answer ≡ tell lack)
 
 -- The hook is denied exactly where its scopes do not hold the expression: then the answer tells what is missing, which is something.
 pub record DeniesHookExactly (scopes : List (List ℕ)) (policy : Expression) (answer : Answer) : Type 0 where
   pub held : IsTrue (holds scopes policy) → answer.status ≢ 403
-  pub lacked : ¬ IsTrue (holds scopes policy) → (lack : Expression) × (missing scopes policy ≡ Some lack) × HasNoEmptyAllOf lack × (answer ≡ hook_insufficient_scopes lack)
+  pub lacked : ¬ IsTrue (holds scopes policy) → (lack : Expression) × IsLack scopes policy lack × (answer ≡ hook_insufficient_scopes lack)
 
 -- In a legal history this hook was triggered by a caller who has these scopes.
 pub record Triggered (opening : State) (before after : List Entry) (asking : Asking) (judgement : Judgement) (trigger : Trigger) (hook : HookData) (scopes : List (List ℕ)) : Type 0 where
@@ -55,3 +56,19 @@ HooksAreExact =
     → IsTrue (holds scopes (trigger_policy trigger.hook))
     → Grants opening (setting_behind opening before asking) trigger hook definition granted
     → DeniesHookExactly granted (create_policy definition) judgement.answer
+
+-- Star: whoever has the scope `*` is not denied to trigger a hook that is there.
+abbrev pub StarMayTrigger : Type 0
+StarMayTrigger =
+    (opening : State) (before after : List Entry) (asking : Asking) (judgement : Judgement) (trigger : Trigger) (hook : HookData) (scopes : List (List ℕ))
+    → Triggered opening before after asking judgement trigger hook scopes
+    → Contains scopes (star ∷ []) → (lack : Expression) → judgement.answer ≢ insufficient_scopes lack
+
+-- And a hook to whose scopes it belongs is not denied what its task asks.
+abbrev pub StarMayCreate : Type 0
+StarMayCreate =
+    (opening : State) (before after : List Entry) (asking : Asking) (judgement : Judgement) (trigger : Trigger) (hook : HookData) (scopes : List (List ℕ)) (definition : TaskDef) (granted : List (List ℕ))
+    → Triggered opening before after asking judgement trigger hook scopes
+    → IsTrue (holds scopes (trigger_policy trigger.hook))
+    → Grants opening (setting_behind opening before asking) trigger hook definition granted
+    → Contains granted (star ∷ []) → judgement.answer.status ≢ 403

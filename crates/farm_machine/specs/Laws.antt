@@ -1,6 +1,7 @@
 -- What holds in every history of a farm: who is denied, and that a task is made once.
-use Rattle.std.specs.Prelude.{◌≡◌, ◌≢◌, ℕ, ◌≤◌, Bool, false, IsTrue, List, ◌∷◌, ◌++◌, filter, length, Option, Some, None, Result, Err, bytes_eq}
-use Rattle.scope_sets.specs.Expressions.{Expression, holds, missing, HasNoEmptyAllOf}
+use Rattle.std.specs.Prelude.{◌≡◌, ◌≢◌, ℕ, ◌+◌, ◌≤◌, Bool, false, IsTrue, List, [], ◌∷◌, ◌++◌, filter, length, Option, Some, None, is_some, Result, Err, Contains, bytes_eq, if◌then◌else◌}
+use Rattle.scope_sets.specs.Expressions.{Expression, holds, missing, HasNoEmptyAllOf, scopes_in}
+use Rattle.scope_sets.specs.Scopes.{star}
 use Rattle.history.specs.Histories.{IsLegal, end_state}
 use Rattle.call_rules.specs.Policy.{create_policy}
 use Rattle.farm_record.specs.declared.change.Change.{Change}
@@ -14,7 +15,8 @@ use Rattle.hook_fire.specs.declared.fault.FireFault.{FireFault}
 use Rattle.hook_fire.specs.declared.fault.FireFault.TheVariants.{NoMemory}
 use Rattle.task_defs.specs.declared.task_def.TaskDef.{TaskDef}
 use Rattle.run_states.specs.Rows.{Row}
-use Rattle.farm_rows.specs.Contents.{row_with}
+use Rattle.farm_rows.specs.Changes.{creating}
+use Rattle.farm_rows.specs.Contents.{Contents, row_with}
 use Rattle.farm_machine.specs.declared.question.Call.{Call}
 use Rattle.farm_machine.specs.declared.question.Call.TheVariants.{CreateTask, TriggerHook}
 use Rattle.farm_machine.specs.declared.reply.Answer.{Answer}
@@ -24,6 +26,7 @@ use Rattle.farm_machine.specs.Case.{Setting}
 use Rattle.farm_machine.specs.Entry.{Asking, Entry, call, finished}
 use Rattle.farm_machine.specs.Judgement.{Judgement, only_answer}
 use Rattle.farm_machine.specs.Order.{Form, asks}
+use Rattle.farm_machine.specs.Replay.{Restores}
 use Rattle.farm_machine.specs.Replies.{ok, status_body, insufficient_scopes}
 use Rattle.farm_machine.specs.State.{State}
 use Rattle.farm_machine.specs.Step.{farm_rules}
@@ -54,10 +57,14 @@ abbrev pub asked_policy : Form → Setting → Option Expression
 asked_policy (asks case) at = where_there (case at).parameter (case at).absent (case at).policy
 asked_policy form at = None
 
+-- what is missing of an expression is something: no `AllOf` in it is empty, and it lists a scope
+abbrev pub IsLack : List (List ℕ) → Expression → Expression → Type 0
+IsLack scopes policy lack = (missing scopes policy ≡ Some lack) × HasNoEmptyAllOf lack × (scopes_in lack ≢ [])
+
 -- The answer is a denial exactly where the scopes do not hold the expression: then it tells what is missing, which is something.
 pub record DeniesExactly (scopes : List (List ℕ)) (policy : Expression) (answer : Answer) : Type 0 where
   pub held : IsTrue (holds scopes policy) → answer.status ≢ 403
-  pub lacked : ¬ IsTrue (holds scopes policy) → (lack : Expression) × (missing scopes policy ≡ Some lack) × HasNoEmptyAllOf lack × (answer ≡ insufficient_scopes lack)
+  pub lacked : ¬ IsTrue (holds scopes policy) → (lack : Expression) × IsLack scopes policy lack × (answer ≡ insufficient_scopes lack)
 
 -- Access: a call that is of its form and names what is there is denied exactly where its caller's scopes do not hold what it asks.
 abbrev pub AccessIsExact : Type 0
@@ -67,6 +74,15 @@ AccessIsExact =
     → asked_policy (form_of asking.call) (setting_behind opening before asking) ≡ Some policy
     → HasAccess opening.config (setting_behind opening before asking).moment asking.caller (Has scopes)
     → DeniesExactly scopes policy judgement.answer
+
+-- Star: whoever has the scope `*` is denied no call.
+abbrev pub StarIsNotDenied : Type 0
+StarIsNotDenied =
+    (opening : State) (before after : List Entry) (asking : Asking) (judgement : Judgement) (scopes : List (List ℕ)) (policy : Expression)
+    → Finished opening before after asking judgement
+    → asked_policy (form_of asking.call) (setting_behind opening before asking) ≡ Some policy
+    → HasAccess opening.config (setting_behind opening before asking).moment asking.caller (Has scopes)
+    → Contains scopes (star ∷ []) → judgement.answer.status ≢ 403
 
 -- the creation that a change is, if it is one
 abbrev pub creation_of_kind : Kind → Option Creation
@@ -91,20 +107,38 @@ has_id id (Some creation) = bytes_eq creation.id id
 abbrev pub creations : List ℕ → List Entry → List Entry
 creations id history = filter (λ entry. has_id id (created_by entry)) history
 
--- Once: in a legal history at most one creation has a given id.
+-- Once: in a legal history at most one creation has a given id, counted with the task that stood before it.
 abbrev pub IsCreatedOnce : Type 0
 IsCreatedOnce =
-    (opening : State) (history : List Entry) (id : List ℕ) → IsLegal farm_rules opening history → length (creations id history) ≤ 1
+    (opening : State) (history : List Entry) (id : List ℕ) → IsLegal farm_rules opening history
+    → (if is_some (row_with id opening.contents.rows) then 1 else 0) + length (creations id history) ≤ 1
 
--- Again: after a task was created, each finished createTask of its id with an equal definition that passes the policy replies the present
--- status of that task, and changes nothing.
+-- a task stands under the id of a creation, with its definition
+abbrev pub Stands : Contents → Creation → Type 0
+Stands contents creation =
+    (row : Row) × (row_with creation.id contents.rows ≡ Some row) × (row.definition ≡ creation.definition)
+
+-- Created: a task that a history created stands at its end, with its definition.
+abbrev pub CreatedStands : Type 0
+CreatedStands =
+    (opening : State) (before after : List Entry) (first : Entry) (creation : Creation)
+    → IsLegal farm_rules opening (before ++ first ∷ after) → created_by first ≡ Some creation
+    → Stands (end_state farm_rules opening (before ++ first ∷ after)).contents creation
+
+-- Recorded: so does one whose creation is among the records that restore these contents.
+abbrev pub RecordedStands : Type 0
+RecordedStands =
+    (before after : List Change) (at : ℕ) (creation : Creation) (contents : Contents)
+    → Restores (before ++ creating at creation ∷ after) contents → Stands contents creation
+
+-- Again: where a task stands, each finished createTask of its id with an equal definition that passes the policy replies the present status of
+-- that task, and changes nothing.
 abbrev pub AnswersAgain : Type 0
 AnswersAgain =
-    (opening : State) (before between after : List Entry) (first : Entry) (creation : Creation) (asking : Asking) (judgement : Judgement) (scopes : List (List ℕ))
-    → created_by first ≡ Some creation
-    → Finished opening (before ++ first ∷ between) after asking judgement
+    (opening : State) (before after : List Entry) (creation : Creation) (row : Row) (asking : Asking) (judgement : Judgement) (scopes : List (List ℕ))
+    → row_with creation.id (end_state farm_rules opening before).contents.rows ≡ Some row → row.definition ≡ creation.definition
+    → Finished opening before after asking judgement
     → asking.call ≡ CreateTask creation
-    → HasAccess opening.config (setting_behind opening (before ++ first ∷ between) asking).moment asking.caller (Has scopes)
+    → HasAccess opening.config (setting_behind opening before asking).moment asking.caller (Has scopes)
     → IsTrue (holds scopes (create_policy creation.definition))
-    → (row : Row) × (row_with creation.id (end_state farm_rules opening (before ++ first ∷ between)).contents.rows ≡ Some row)
-    × (row.definition ≡ creation.definition) × (judgement ≡ only_answer (ok (document_text (status_body row))))
+    → judgement ≡ only_answer (ok (document_text (status_body row)))

@@ -8,13 +8,13 @@ use Rattle.farm_rows.specs.Contents.{Contents}
 use Rattle.farm_rows.specs.Ready.{is_ready, id_serves, has_ready}
 use Rattle.farm_rows.specs.Starts.{all_starts, starts_once, may_start}
 use Rattle.task_defs.specs.declared.choices.Requires.{Requires}
-use Rattle.farm_machine.specs.declared.config.Config.{Config}
 use Rattle.farm_machine.specs.Changes.{changed}
 use Rattle.farm_machine.specs.Entry.{Entry}
-use Rattle.farm_machine.specs.State.{State, empty_state}
+use Rattle.farm_machine.specs.Replay.{Restores}
+use Rattle.farm_machine.specs.State.{State}
 use Rattle.farm_machine.specs.Step.{farm_rules}
 
--- None ready: whatever entries come, no task is ready after them, where none was (of a farm that begins there is none).
+-- None ready: whatever entries come, no task is ready after them, where none was (of a farm that begins there is none, empty or from records).
 abbrev pub LeavesNoneReady : Type 0
 LeavesNoneReady =
     (opening : State) (history : List Entry) → has_ready opening.contents ≡ false
@@ -40,9 +40,11 @@ StartsWhereReady =
     (contents : Contents) (moment : ℕ) (change : Change) → may_start change.kind ≡ false
     → all_starts (changed contents moment (Some change)).rows ≡ all_starts contents.rows + made_ready contents change
 
--- For good: in a farm that began empty, a task that serves those that wait for it does so whatever comes: a rerun of it takes nothing back.
+-- For good: in a farm that began from records (an empty one from none), a task that serves those that wait for it does so whatever comes: a
+-- rerun of it takes nothing back.
 abbrev pub IsServedForGood : Type 0
 IsServedForGood =
-    (config : Config) (before after : List Entry) (needs : Requires) (id : List ℕ)
-    → id_serves needs (end_state farm_rules (empty_state config) before).contents.rows id ≡ true
-    → id_serves needs (end_state farm_rules (empty_state config) (before ++ after)).contents.rows id ≡ true
+    (opening : State) (records : List Change) (before after : List Entry) (needs : Requires) (id : List ℕ)
+    → Restores records opening.contents
+    → id_serves needs (end_state farm_rules opening before).contents.rows id ≡ true
+    → id_serves needs (end_state farm_rules opening (before ++ after)).contents.rows id ≡ true

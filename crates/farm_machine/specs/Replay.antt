@@ -9,8 +9,10 @@ use Rattle.farm_record.specs.declared.change.Kind.{Kind}
 use Rattle.farm_record.specs.declared.change.Kind.TheVariants.{Tick}
 use Rattle.farm_record.specs.Records.{tick_at}
 use Rattle.farm_rows.specs.Changes.{may_apply, applied}
-use Rattle.farm_rows.specs.Contents.{Contents, no_contents}
+use Rattle.farm_rows.specs.Contents.{Contents, no_contents, HaveOwnIds}
 use Rattle.farm_rows.specs.Due.{is_due, advance}
+use Rattle.farm_rows.specs.Ready.{has_ready}
+use Rattle.farm_rows.specs.Starts.{starts_once}
 use Rattle.farm_machine.specs.Entry.{Asking, Entry, tick, call, finished}
 use Rattle.farm_machine.specs.State.{State}
 use Rattle.farm_machine.specs.Step.{IsToKeep, farm_rules}
@@ -65,6 +67,12 @@ pub record Restores (changes : List Change) (contents : Contents) : Type 0 where
   pub rows : reached.rows ≡ contents.rows
   pub next : reached.next ≡ contents.next
   pub last : reached.last ≤ contents.last
+
+-- Sound: what changes leave that may be replayed from no tasks has no task that is ready, none that was scheduled twice, and ids of their own.
+abbrev pub ReplaysAreSound : Type 0
+ReplaysAreSound =
+    (changes : List Change) (contents : Contents) → replayed no_contents changes ≡ Some contents
+    → (has_ready contents ≡ false) × (starts_once contents.rows ≡ true) × HaveOwnIds contents.rows
 
 -- Restored: the records that an opening was replayed from, and those of a legal history since, restore the history's end.
 abbrev pub RecordsRestore : Type 0

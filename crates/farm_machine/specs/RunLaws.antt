@@ -10,11 +10,11 @@ use Rattle.run_states.specs.declared.run.Claim.{Claim}
 use Rattle.run_states.specs.declared.run.Outcome.{Outcome}
 use Rattle.run_states.specs.declared.run.Run.{Run}
 use Rattle.farm_rows.specs.Contents.{row_with, HaveOwnIds}
-use Rattle.farm_machine.specs.declared.config.Config.{Config}
 use Rattle.farm_machine.specs.Entry.{Asking, Entry, call, finished}
 use Rattle.farm_machine.specs.Judgement.{Judgement}
 use Rattle.farm_machine.specs.Laws.{Finished}
-use Rattle.farm_machine.specs.State.{State, empty_state}
+use Rattle.farm_machine.specs.Replay.{Restores}
+use Rattle.farm_machine.specs.State.{State}
 use Rattle.farm_machine.specs.Step.{farm_rules}
 use Rattle.farm_machine.specs.Works.{at_moment}
 
@@ -52,6 +52,17 @@ IsClaimedOnce =
     (opening : State) (history : List Entry) (name : RunName) → HaveOwnIds opening.contents.rows → IsLegal farm_rules opening history
     → claims_of (run_in name opening) + sum_by (claims_in name) history ≤ 1
 
+-- how often changes claim a run
+abbrev pub claims_among : RunName → List Change → ℕ
+claims_among name changes = sum_by (λ change. claims_by_kind name change.kind) changes
+
+-- One claim since the first record: a run is claimed at most once in the records that restore an opening and in a legal history since.
+abbrev pub IsClaimedOnceWithRecords : Type 0
+IsClaimedOnceWithRecords =
+    (opening : State) (records : List Change) (history : List Entry) (name : RunName)
+    → Restores records opening.contents → IsLegal farm_rules opening history
+    → claims_among name records + sum_by (claims_in name) history ≤ 1
+
 -- One end: a run that ended, and with which outcome, stays so whatever comes.
 abbrev pub EndsOnce : Type 0
 EndsOnce =
@@ -60,12 +71,14 @@ EndsOnce =
     → run_in name (end_state farm_rules opening before) ≡ Some run → run.outcome ≡ Some outcome
     → (later : Run) × (run_in name (end_state farm_rules opening (before ++ after)) ≡ Some later) × (later.outcome ≡ Some outcome) × (later.claim ≡ run.claim)
 
--- Before its end: in a farm that began empty a report ends a run only that had not ended, and only at a moment before the end of its claim.
+-- Before its end: in a farm that began from records (an empty one from none) a report ends a run only that had not ended, and only at a moment
+-- before the end of its claim.
 abbrev pub ReportsInTime : Type 0
 ReportsInTime =
-    (config : Config) (before after : List Entry) (asking : Asking) (judgement : Judgement) (at : ℕ) (report : Resolution)
-    → Finished (empty_state config) before after asking judgement
+    (opening : State) (records : List Change) (before after : List Entry) (asking : Asking) (judgement : Judgement) (at : ℕ) (report : Resolution)
+    → Restores records opening.contents
+    → Finished opening before after asking judgement
     → judgement.change ≡ Some (at_moment at (Resolve report))
     → (run : Run) × (claim : Claim)
-    × (run_in (record { id = report.id; run = report.run }) (end_state farm_rules (empty_state config) before) ≡ Some run)
+    × (run_in (record { id = report.id; run = report.run }) (end_state farm_rules opening before) ≡ Some run)
     × (run.outcome ≡ None) × (run.claim ≡ Some claim) × (at < claim.taken_until)

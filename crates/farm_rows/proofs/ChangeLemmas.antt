@@ -18,7 +18,7 @@ use Rattle.farm_rows.specs.Due.{is_due, draws}
 use Rattle.farm_rows.specs.Changes.{on_row, may_be, may_apply, has_id, change_row, reason_of, claim_of, all_claimed, applied}
 use Rattle.farm_rows.specs.Deeds.{kind_of, change_of, row_of, rows_after, drawn_by}
 use Rattle.farm_rows.specs.Plans.{room_for}
-use Rattle.farm_rows.specs.Sweep.{numbered, soonest_of, runs_made, fits, IsKept}
+use Rattle.farm_rows.specs.Sweep.{numbered, runs_made, fits, IsKept}
 use Rattle.run_states.proofs.LaterLemmas.{scheduled-later, again-later, canceled-later, reclaimed-later, resolved-later}
 use Rattle.farm_rows.proofs.DueLemmas.{change-length, change-ids}
 use Rattle.farm_rows.proofs.StepLemmas.{scheduled-fits, scheduled-more, settled-fits, settled-made, settled-numbered}
@@ -140,9 +140,9 @@ ids-after at number (Resolve r) rows = change-ids (has_id r.id) (resolved r.run 
 pub settled-at : (rows new : List Row) (number after at : ℕ) → settled (numbered rows number) at ≡ numbered new after → settled (contents_of rows at number) at ≡ contents_of new at after
 settled-at rows new number after at is = settled-last (numbered rows number) at at ∙ ap (λ (c : Contents). let k : Contents = record c { last = at } in k) is
 
-pub kept-after : (contents : Contents) (rows new : List Row) (last at next drawn : ℕ) (deed : Deed) (before soonest : Option ℕ) (capacity after : ℕ) → contents_of rows last next ≡ contents → may_apply contents (change_of at deed) ≡ true → IsKept rows last next before capacity
-    → settled (numbered (rows_after at next deed rows) (next + drawn_by deed rows)) at ≡ numbered new (next + drawn) → soonest ≡ soonest_of new → capacity ≤ after → IsKept new at (next + drawn) soonest after
-kept-after contents rows new last at next drawn deed before soonest capacity after same may kept is least room_ =
+pub kept-after : (contents : Contents) (rows new : List Row) (last at next drawn : ℕ) (deed : Deed) (capacity after : ℕ) → contents_of rows last next ≡ contents → may_apply contents (change_of at deed) ≡ true → IsKept rows last next capacity
+    → settled (numbered (rows_after at next deed rows) (next + drawn_by deed rows)) at ≡ numbered new (next + drawn) → capacity ≤ after → IsKept new at (next + drawn) after
+kept-after contents rows new last at next drawn deed capacity after same may kept is room_ =
     let here : may_apply (contents_of rows last next) (change_of at deed) ≡ true = ap (λ (c : Contents). may_apply c (change_of at deed)) same ∙ may in
     let lawful = may-is (contents_of rows last next) at deed here in
     let made : Contents = numbered (rows_after at next deed rows) (next + drawn_by deed rows) in
@@ -162,7 +162,6 @@ kept-after contents rows new last at next drawn deed before soonest capacity aft
       fit = ap (λ (c : Contents). list_all fits c.rows) (sym is) ∙ settled-fits made at (fits-after at next deed rows kept.fit);
       drawn = omega arith;
       room = subst P (sym len) room;
-      soonest_is = least;
     }
 
 pub changed-applied : (contents : Contents) (rows new : List Row) (last at next drawn : ℕ) (deed : Deed) → contents_of rows last next ≡ contents → row_of deed ≡ None

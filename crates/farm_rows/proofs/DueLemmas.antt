@@ -1,5 +1,5 @@
 -- What falls due of tasks, and how one of them changes.
-use Rattle.std.proofs.Common.{◌⊎◌, inl, inr, ◌≡◌, ℕ, ◌+◌, ◌≤◌, ◌<◌, Bool, true, false, not, ◌&&◌, ◌||◌, cond, List, [], ◌∷◌, map, length, Option, Some, None, refl, ap, sym, ◌∙◌, arith, nat_le, ◌==◌}
+use Rattle.std.proofs.Common.{◌⊎◌, inl, inr, ◌≡◌, ℕ, ◌+◌, ◌≤◌, ◌<◌, Bool, true, false, not, ◌||◌, cond, List, [], ◌∷◌, map, length, Option, Some, None, refl, ap, sym, ◌∙◌, arith, nat_le, ◌==◌}
 use Rattle.std.specs.List.{list_any, list_all}
 use Rattle.std.specs.Option.{option_map_or, option_to_list}
 use Rattle.std.proofs.lemmas.Bool.{leb-true, leb-false, lt-leb, eq-eqb, eqb-true, and_parts, or_cases}
@@ -54,22 +54,10 @@ from-rows at (row ∷ rows) all =
     let parts = and_parts (from at row) (list_all (nat_le at) (all_due_moments rows)) (sym (list_all-append (nat_le at) (due_moments row) (all_due_moments rows)) ∙ all) in
     rw (parts.0, from-rows at rows parts.1) refl
 
-pub rows-from : (at : ℕ) (rows : List Row) → list_all (from at) rows ≡ true → list_all (nat_le at) (all_due_moments rows) ≡ true
-rows-from at [] all = refl
-rows-from at (row ∷ rows) all =
-    let parts = and_parts (from at row) (list_all (from at) rows) all in
-    list_all-append (nat_le at) (due_moments row) (all_due_moments rows) ∙ rw (parts.0, rows-from at rows parts.1) refl
-
 pub from-deadline : (at : ℕ) (row : Row) → is_resolved row ≡ false → from at row ≡ true → at ≤ row.definition.deadline
 from-deadline at row open_ all =
     let first = and_parts (nat_le at row.definition.deadline) (list_all (nat_le at) (option_to_list (claim_due row))) (sym (ap (list_all (nat_le at)) (open-due row open_)) ∙ all) in
     leb-true at row.definition.deadline first.0
-
-pub from-claim : (at : ℕ) (row : Row) (u : ℕ) → claim_due row ≡ Some u → from at row ≡ true → at ≤ u
-from-claim at row u claim all =
-    let due : due_moments row ≡ row.definition.deadline ∷ u ∷ [] = open-due row (claim-open row u claim) ∙ ap (λ (o : Option ℕ). row.definition.deadline ∷ option_to_list o) claim in
-    let first = and_parts (nat_le at row.definition.deadline) (nat_le at u && true) (sym (ap (list_all (nat_le at)) due) ∙ all) in
-    leb-true at u (and_parts (nat_le at u) true first.1).0
 
 -- ---- something falls due at this moment: a deadline, or the end of a claim
 
@@ -122,24 +110,6 @@ some-lost at (row ∷ rows) all some_ none =
         → (list_any (λ due. nat_le due at) (due_moments row) ≡ true) ⊎ (list_any (λ due. nat_le due at) (all_due_moments rows) ≡ true) → list_any (loses_claim at) (row ∷ rows) ≡ true
     by rest (inl here) = rw (some-one at row alls.0 here nones.0) refl
     by rest (inr there) = rw (rest alls.1 there nones.1) (or-true (loses_claim at row))
-
--- and the other way: a claim that ends falls due
-pub lost-due : (at : ℕ) (rows : List Row) → list_any (loses_claim at) rows ≡ true → list_any (λ due. nat_le due at) (all_due_moments rows) ≡ true
-lost-due at [] some_ = cc
-lost-due at (row ∷ rows) some_ = by (lost-due at rows) (or_cases (loses_claim at row) (list_any (loses_claim at) rows) some_) where
-  split : list_any (λ due. nat_le due at) (all_due_moments (row ∷ rows)) ≡ (list_any (λ due. nat_le due at) (due_moments row) || list_any (λ due. nat_le due at) (all_due_moments rows))
-  split = list_any-append (λ due. nat_le due at) (due_moments row) (all_due_moments rows)
-
-  one : loses_claim at row ≡ true → list_any (λ due. nat_le due at) (due_moments row) ≡ true
-  one is =
-      let l = loses at row is in
-      let due : due_moments row ≡ row.definition.deadline ∷ l.due ∷ [] = open-due row (claim-open row l.due l.claim) ∙ ap (λ (o : Option ℕ). row.definition.deadline ∷ option_to_list o) l.claim in
-      ap (list_any (λ d. nat_le d at)) due ∙ (ap (λ b. nat_le row.definition.deadline at || (b || false)) l.reached ∙ or-true (nat_le row.definition.deadline at))
-
-  by : (list_any (loses_claim at) rows ≡ true → list_any (λ due. nat_le due at) (all_due_moments rows) ≡ true) → (loses_claim at row ≡ true) ⊎ (list_any (loses_claim at) rows ≡ true)
-      → list_any (λ due. nat_le due at) (all_due_moments (row ∷ rows)) ≡ true
-  by rest (inl here) = split ∙ ap (λ b. b || list_any (λ due. nat_le due at) (all_due_moments rows)) (one here)
-  by rest (inr there) = split ∙ (ap (λ b. list_any (λ due. nat_le due at) (due_moments row) || b) (rest there) ∙ or-true (list_any (λ due. nat_le due at) (due_moments row)))
 
 -- ---- a task that is changed has fewer moments at which something of it falls due
 

@@ -1,5 +1,5 @@
 -- How many runs a task has: with the retries that are left they are 50 at most, and each number that is drawn is of a run.
-use Rattle.std.proofs.Common.{◌≡◌, ℕ, zero, suc, ◌+◌, ◌-◌, ◌*◌, ◌≤◌, ◌<◌, min, Bool, true, false, ◌&&◌, cond, List, [], ◌∷◌, ◌++◌, length, find, Option, Some, None, is_some, refl, ap, sym, ◌∙◌, arith, nat_le, nat_lt, map}
+use Rattle.std.proofs.Common.{◌≡◌, ℕ, zero, suc, ◌+◌, ◌-◌, ◌*◌, ◌≤◌, ◌<◌, min, Bool, true, false, ◌&&◌, cond, List, [], ◌∷◌, ◌++◌, length, find, Option, Some, None, is_some, refl, ap, sym, ◌∙◌, arith, nat_le, nat_lt}
 use Rattle.std.specs.List.{list_all}
 use Rattle.std.proofs.lemmas.Bool.{leb-true, le-leb, ltb-true, ltb-false, and_parts, and_from}
 use Rattle.std.proofs.lemmas.List.Sums.{sum_by-cons}
@@ -12,10 +12,10 @@ use Rattle.run_states.specs.declared.run.Claim.{Claim}
 use Rattle.run_states.specs.declared.run.Run.{Run}
 use Rattle.run_states.specs.Reasons.{retry_after}
 use Rattle.run_states.specs.Runs.{ended, kept, taken, pending_run, change_last, change_at}
-use Rattle.run_states.specs.Rows.{Row, is_resolved, is_pending, is_running_at, loses_claim, runs_finished, finished, exceeded}
+use Rattle.run_states.specs.Rows.{Row, is_resolved, is_pending, is_running_at, loses_claim, runs_finished, finished}
 use Rattle.run_states.specs.Moves.{retried, closed, expired, may_rerun, run_again, claimed, reclaimed, resolved, canceled}
 use Rattle.farm_rows.specs.Due.{change_first, draws}
-use Rattle.farm_rows.specs.Sweep.{comes_due, swept, lost, runs_made, fits}
+use Rattle.farm_rows.specs.Sweep.{runs_made, fits}
 
 -- ---- lists of which one is changed
 
@@ -70,20 +70,6 @@ finished-more reason at row = by (is_resolved row) refl where
       let e : length (finished reason at row).runs ≡ length (runs_finished reason at row.runs) = ap (λ b. let r : Row = cond b row (record row { runs = runs_finished reason at row.runs }) in length r.runs) is in
       let l = (finished-length reason at row.runs).0 in omega arith
 
-pub swept-fits : (moment : ℕ) (row : Row) → fits row ≡ true → fits (swept moment row) ≡ true
-swept-fits moment row fit = by (comes_due moment row) refl where
-  by : (b : Bool) → comes_due moment row ≡ b → fits (swept moment row) ≡ true
-  by true is = ap (λ b. fits (cond b (exceeded row.definition.deadline row) row)) is ∙ finished-fits _ row.definition.deadline row fit
-  by false is = ap (λ b. fits (cond b (exceeded row.definition.deadline row) row)) is ∙ fit
-
-swept-more : (moment : ℕ) (row : Row) → length row.runs ≤ length (swept moment row).runs
-swept-more moment row = by (comes_due moment row) refl where
-  by : (b : Bool) → comes_due moment row ≡ b → length row.runs ≤ length (swept moment row).runs
-  by true is =
-      let e : length (swept moment row).runs ≡ length (exceeded row.definition.deadline row).runs = ap (λ b. let r : Row = cond b (exceeded row.definition.deadline row) row in length r.runs) is in
-      let l : length row.runs ≤ length (exceeded row.definition.deadline row).runs = finished-more _ row.definition.deadline row in omega arith
-  by false is = let e : length (swept moment row).runs ≡ length row.runs = ap (λ b. let r : Row = cond b (exceeded row.definition.deadline row) row in length r.runs) is in omega arith
-
 -- what a retry leaves: one run more, and one retry fewer, where one is left
 record Retried (created : ReasonCreated) (number at : ℕ) (row : Row) : Type 0 where
   fit : fits row ≡ true → fits (retried created number at row) ≡ true
@@ -137,16 +123,6 @@ expired-fits number at row fit = by (loses_claim at row) refl where
   by true is = ap (λ b. fits (cond b (closed (length row.runs - 1) ClaimExpired number at row) row)) is ∙ (closed-is ClaimExpired (length row.runs - 1) number at row).fit fit
   by false is = ap (λ b. fits (cond b (closed (length row.runs - 1) ClaimExpired number at row) row)) is ∙ fit
 
-pub lost-fits : (moment at number : ℕ) (row : Row) → fits row ≡ true → fits (lost moment at number row) ≡ true
-lost-fits moment at number row fit = swept-fits moment (expired number at row) (expired-fits number at row fit)
-
-pub lost-more : (moment at number : ℕ) (row : Row) → loses_claim at row ≡ true → length row.runs + draws ClaimExpired (Some row) ≤ length (lost moment at number row).runs
-lost-more moment at number row is =
-    let e : length (expired number at row).runs ≡ length (closed (length row.runs - 1) ClaimExpired number at row).runs = ap (λ b. let r : Row = cond b (closed (length row.runs - 1) ClaimExpired number at row) row in length r.runs) is in
-    let m = (closed-is ClaimExpired (length row.runs - 1) number at row).more in
-    let s = swept-more moment (expired number at row) in
-    omega arith
-
 -- ---- all tasks
 
 pub change-fits : (test : Row → Bool) (f : Row → Row) → ((row : Row) → fits row ≡ true → fits (f row) ≡ true) → (rows : List Row) → list_all fits rows ≡ true → list_all fits (change_first test f rows) ≡ true
@@ -176,21 +152,6 @@ change-made test f drawn none more (row ∷ rows) = by (change-made test f drawn
       let found : drawn (find test (row ∷ rows)) ≡ drawn (find test rows) = ap (λ b. drawn (cond b (Some row) (find test rows))) is in
       let after : runs_made (change_first test f (row ∷ rows)) ≡ length row.runs + runs_made (change_first test f rows) = ap (λ b. runs_made (cond b (f row ∷ rows) (row ∷ change_first test f rows))) is ∙ sum_by-cons (λ (r : Row). length r.runs) row (change_first test f rows) in
       omega arith
-
-pub swept-all : (moment : ℕ) (rows : List Row) → list_all fits rows ≡ true → list_all fits (map (swept moment) rows) ≡ true
-swept-all moment [] all = refl
-swept-all moment (row ∷ rows) all =
-    let parts = and_parts (fits row) (list_all fits rows) all in
-    and_from (fits (swept moment row)) (list_all fits (map (swept moment) rows)) (swept-fits moment row parts.0) (swept-all moment rows parts.1)
-
-pub swept-made : (moment : ℕ) (rows : List Row) → runs_made rows ≤ runs_made (map (swept moment) rows)
-swept-made moment [] = omega arith
-swept-made moment (row ∷ rows) =
-    let here = swept-more moment row in
-    let there = swept-made moment rows in
-    let before = sum_by-cons (λ (r : Row). length r.runs) row rows in
-    let after = sum_by-cons (λ (r : Row). length r.runs) (swept moment row) (map (swept moment) rows) in
-    omega arith
 
 -- there are 50 runs a task at most
 pub made-few : (rows : List Row) → list_all fits rows ≡ true → runs_made rows ≤ 50 * length rows

@@ -1,5 +1,5 @@
 -- The least of some numbers: the first up to a moment, and which are none less.
-use Rattle.std.proofs.Common.{◌≡◌, ℕ, ◌≤◌, ◌<◌, min, Bool, true, false, ◌||◌, cond, List, [], ◌∷◌, Option, Some, None, refl, ap, sym, ◌∙◌, arith, filter, nat_le}
+use Rattle.std.proofs.Common.{◌≡◌, ℕ, ◌≤◌, ◌<◌, min, Bool, true, false, ◌||◌, cond, List, [], ◌∷◌, Option, Some, None, is_some, refl, ap, sym, ◌∙◌, arith, filter, nat_le}
 use Rattle.std.specs.List.{list_any, list_all, fold, reduce}
 use Rattle.std.proofs.lemmas.Bool.{leb-true, leb-false, le-leb, lt-leb, and_parts}
 
@@ -126,6 +126,16 @@ first-none m xs is = reached_is m xs ∙ within-none m (reduce min xs) (sym (fir
 
 pub none-first : (m : ℕ) (xs : List ℕ) → list_any (λ d. nat_le d m) xs ≡ false → reduce min (filter (λ d. nat_le d m) xs) ≡ None
 none-first m xs is = first-within m xs ∙ none-within m (reduce min xs) (sym (reached_is m xs) ∙ is)
+
+-- and there is one where some number is
+pub some-reached : (m : ℕ) (xs : List ℕ) → is_some (reduce min (filter (λ d. nat_le d m) xs)) ≡ list_any (λ d. nat_le d m) xs
+some-reached m xs = ap is_some (first-within m xs) ∙ (by (reduce min xs) ∙ sym (reached_is m xs)) where
+  by : (o : Option ℕ) → is_some (within m o) ≡ is_reached o m
+  by None = refl
+  by (Some a) = at (nat_le a m) where
+    at : (b : Bool) → is_some (cond b (Some a) None) ≡ b
+    at true = refl
+    at false = refl
 
 -- ---- all are as great as the least
 

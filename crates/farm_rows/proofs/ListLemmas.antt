@@ -1,10 +1,10 @@
 -- A page of a list, as a walk finds it.
-use Rattle.std.proofs.Common.{◌≡◌, ℕ, zero, suc, ◌+◌, ◌-◌, ◌<◌, ◌≤◌, Bool, true, false, cond, List, [], ◌∷◌, ◌++◌, length, take, drop, get_or, filter, Some, None, nat_lt, refl, sym, ◌∙◌, ap, arith, length-append}
+use Rattle.std.proofs.Common.{◌≡◌, ℕ, zero, suc, ◌+◌, ◌<◌, ◌≤◌, Bool, true, false, cond, List, [], ◌∷◌, ◌++◌, length, take, drop, get_or, filter, Some, None, nat_lt, refl, sym, ◌∙◌, ap, arith, length-append}
 use Rattle.std.specs.List.{position}
 use Rattle.std.specs.Option.{option_map_or}
 use Rattle.std.proofs.Math.Seq.{take-append_seam}
 use Rattle.std.proofs.lemmas.Bool.{lt-ltb, le-ltb}
-use Rattle.std.proofs.lemmas.List.{append_assoc, length-drop, take-append-drop, take_all}
+use Rattle.std.proofs.lemmas.List.{append_assoc, take-append-drop, take_all}
 use Rattle.std.proofs.lemmas.List.Elements.{filter-append, filter_more}
 use Rattle.std.proofs.lemmas.List.Quantifiers.{position-Some}
 use Rattle.run_states.specs.Rows.{Row}
@@ -37,12 +37,12 @@ token-behind list token rows place d is passes =
     let next : place + 1 ≡ suc place = omega arith in
     ap (λ n. listed list (drop n rows)) next ∙ behind-at (is_listed list) token rows place d at.0 at.1 at.2 passes
 
--- those are the rest, up to the end
-pub token-rest : (list : TaskList) (token : List ℕ) (rows : List Row) (place : ℕ) (d : Row) → position (has_id token) rows ≡ Some place → is_listed list (get_or rows place d) ≡ true
-    → (on_row (is_listed list) token rows ≡ true) × (listed list (take (length rows - (place + 1)) (drop (place + 1) rows)) ≡ behind_id token (listed list rows))
-token-rest list token rows place d is passes =
-    let short : length (drop (place + 1) rows) ≤ length rows - (place + 1) = omega (arith, length-drop (place + 1) rows) in
-    (token-found list token rows place d true is passes, ap (listed list) (take_all (length rows - (place + 1)) (drop (place + 1) rows) short) ∙ token-behind list token rows place d is passes)
+-- so they come from a place on
+pub token-start : (list : TaskList) (token : List ℕ) (rows : List Row) (place : ℕ) (d : Row) → position (has_id token) rows ≡ Some place → is_listed list (get_or rows place d) ≡ true
+    → (on_row (is_listed list) token rows ≡ true) × (place + 1 ≤ length rows) × (listed list (drop (place + 1) rows) ≡ behind_id token (listed list rows))
+token-start list token rows place d is passes =
+    let within = (position-Some (has_id token) rows place d is).0 in
+    (token-found list token rows place d true is passes, omega arith, token-behind list token rows place d is passes)
 
 -- ---- a walk
 

@@ -19,7 +19,7 @@ use Rattle.farm_rows.specs.Left.{is_taken, left}
 
 -- ---- the tasks that are left
 
-left-nil : (rows : List Row) → left [] rows ≡ rows
+pub left-nil : (rows : List Row) → left [] rows ≡ rows
 left-nil [] = refl
 left-nil (row ∷ rows) = ap (λ (rs : List Row). row ∷ rs) (left-nil rows)
 

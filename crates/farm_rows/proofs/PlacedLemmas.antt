@@ -108,7 +108,7 @@ behind (x ∷ ids) id zero other here = inl here
 behind (x ∷ ids) id (suc place) other here =
     elim (behind ids id place other here) [ inl before ↦ inl before | inr last ↦ (let next : suc place ≡ length (x ∷ ids) = ap suc last.0 in inr (next, last.1)) ]
 
-pub noted-at : (kept : Option ℕ) (place : ℕ) → holds_place kept place ≡ true → kept ≡ Some place
+noted-at : (kept : Option ℕ) (place : ℕ) → holds_place kept place ≡ true → kept ≡ Some place
 noted-at None place holds = cc
 noted-at (Some other) place holds = ap Some (eqb-true other place holds)
 

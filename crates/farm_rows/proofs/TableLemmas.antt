@@ -1,5 +1,5 @@
 -- What the tables keep: a tick, and a task more.
-use Rattle.std.proofs.Common.{◌≡◌, ℕ, ◌≤◌, ◌<◌, ◌+◌, min, max, true, false, ◌&&◌, List, [], ◌∷◌, ◌++◌, length, filter, Option, Some, None, refl, ap, sym, ◌∙◌, subst, arith, nat_le, append-nil, take, get_or}
+use Rattle.std.proofs.Common.{◌≡◌, ℕ, ◌≤◌, ◌<◌, ◌+◌, min, max, true, false, ◌&&◌, List, [], ◌∷◌, ◌++◌, length, Option, Some, None, refl, ap, sym, ◌∙◌, subst, arith, append-nil, take, get_or}
 use Rattle.std.specs.List.{reduce, list_any, list_all}
 use Rattle.std.specs.Option.{option_to_list}
 use Rattle.std.proofs.lemmas.Bool.{ltb-true, leb-true}
@@ -7,10 +7,9 @@ use Rattle.std.proofs.lemmas.List.Concat.{flat_map-append}
 use Rattle.std.proofs.lemmas.List.Sums.{fold-append, sum_by_push}
 use Rattle.std.proofs.lemmas.List.Folds.{list_all-append}
 use Rattle.std.proofs.lemmas.List.{take_more}
-use Rattle.std.proofs.lemmas.List.Elements.{filter-append}
 use Rattle.std.proofs.Math.ListN.{length-append}
 use Rattle.farm_text.specs.declared.moment.TheConstants.{LAST_TOLD_MOMENT}
-use Rattle.run_states.specs.Rows.{Row, new_row, claim_due, due_moments}
+use Rattle.run_states.specs.Rows.{Row, new_row, due_moments}
 use Rattle.farm_record.specs.declared.change.Creation.{Creation}
 use Rattle.farm_rows.specs.Contents.{Contents, row_with, HaveOwnIds}
 use Rattle.farm_rows.specs.Ready.{is_ready, settled_row}
@@ -20,7 +19,7 @@ use Rattle.farm_rows.specs.Changes.{creating, applied}
 use Rattle.farm_rows.specs.Plans.{room_for, IsPlanOn}
 use Rattle.farm_rows.specs.Deeds.{planned_of}
 use Rattle.farm_rows.specs.declared.plan.Deed.TheVariants.{Create}
-use Rattle.farm_rows.specs.Sweep.{claim_ends, first_lost, numbered, all_turns, soonest_of, runs_made, fits, IsKept}
+use Rattle.farm_rows.specs.Sweep.{numbered, all_turns, runs_made, fits, IsKept}
 use Rattle.farm_rows.proofs.AdvanceLemmas.{advance-is}
 use Rattle.farm_rows.proofs.CreateLemmas.{new-is, created-applied}
 use Rattle.farm_rows.proofs.IdLemmas.{may-create, created-stands, created-ids}
@@ -57,19 +56,11 @@ reduce-join : (xs ys : List ℕ) → reduce min (option_to_list (reduce min xs) 
 reduce-join [] ys = refl
 reduce-join (x ∷ xs) ys = ap Some (sym (fold-append min x xs ys))
 
-pub soonest-more : (rows : List Row) (row : Row) → soonest_of (rows ++ row ∷ []) ≡ reduce min (option_to_list (soonest_of rows) ++ due_moments row)
+pub soonest-more : (rows : List Row) (row : Row) → reduce min (all_due_moments (rows ++ row ∷ [])) ≡ reduce min (option_to_list (reduce min (all_due_moments rows)) ++ due_moments row)
 soonest-more rows row =
     let all : all_due_moments (rows ++ row ∷ []) ≡ all_due_moments rows ++ due_moments row =
     flat_map-append due_moments rows (row ∷ []) ∙ ap (λ (ds : List ℕ). all_due_moments rows ++ ds) (append-nil (due_moments row)) in
     ap (reduce min) all ∙ sym (reduce-join (all_due_moments rows) (due_moments row))
-
-pub lost-more : (moment : ℕ) (rows : List Row) (row : Row) → first_lost (rows ++ row ∷ []) moment ≡ reduce min (option_to_list (first_lost rows moment) ++ filter (λ due. nat_le due moment) (option_to_list (claim_due row)))
-lost-more moment rows row =
-    let ends : claim_ends (rows ++ row ∷ []) ≡ claim_ends rows ++ option_to_list (claim_due row) =
-    flat_map-append (λ (r : Row). option_to_list (claim_due r)) rows (row ∷ []) ∙ ap (λ (ds : List ℕ). claim_ends rows ++ ds) (append-nil (option_to_list (claim_due row))) in
-    ap (λ (ds : List ℕ). reduce min (filter (λ due. nat_le due moment) ds)) ends
-    ∙ (ap (reduce min) (filter-append (λ due. nat_le due moment) (claim_ends rows) (option_to_list (claim_due row)))
-    ∙ sym (reduce-join (filter (λ due. nat_le due moment) (claim_ends rows)) (filter (λ due. nat_le due moment) (option_to_list (claim_due row)))))
 
 -- ---- a task more
 
@@ -94,9 +85,9 @@ plan-fits contents rows at had brought row planned same keeps =
     record { room = omega arith; kept = omega arith; few = few_rows; told = told }
 
 -- what the tables keep, with one task more
-pub kept-more : (rows new : List Row) (row : Row) (last at next : ℕ) (soonest then : Option ℕ) (had brought capacity : ℕ) → IsKept rows last next soonest had → Fits rows at had brought → new ≡ rows ++ row ∷ [] → fits row ≡ true → list_any (is_ready new) new ≡ false → row_with row.id rows ≡ None
-    → then ≡ reduce min (option_to_list soonest ++ due_moments row) → max had brought ≤ capacity → IsKept new at (next + length row.runs) then capacity
-kept-more rows new row last at next soonest then had brought capacity kept fit_ is row_fits unready unknown earlier made =
+pub kept-more : (rows new : List Row) (row : Row) (last at next : ℕ) (had brought capacity : ℕ) → IsKept rows last next had → Fits rows at had brought → new ≡ rows ++ row ∷ [] → fits row ≡ true → list_any (is_ready new) new ≡ false → row_with row.id rows ≡ None
+    → max had brought ≤ capacity → IsKept new at (next + length row.runs) capacity
+kept-more rows new row last at next had brought capacity kept fit_ is row_fits unready unknown made =
     let len : length new ≡ length rows + 1 = ap length is ∙ (length-append rows (row ∷ []) ∙ refl) in
     let P : ℕ → Type 0 = λ n. room_for n ≤ capacity in
     let room : room_for (length rows + 1) ≤ capacity = (let h = fit_.kept in omega arith) in
@@ -109,7 +100,6 @@ kept-more rows new row last at next soonest then had brought capacity kept fit_ 
       fit = ap (list_all fits) is ∙ (list_all-append fits rows (row ∷ []) ∙ (ap (λ b. b && (fits row && true)) kept.fit ∙ ap (λ b. b && true) row_fits));
       drawn = (let h = kept.drawn in omega arith);
       room = subst P (sym len) room;
-      soonest_is = earlier ∙ (ap (λ (o : Option ℕ). reduce min (option_to_list o ++ due_moments row)) kept.soonest_is ∙ (sym (soonest-more rows row) ∙ ap soonest_of (sym is)));
     }
 
 -- the task of a plan is the new one, as it stands once it has settled
@@ -144,13 +134,7 @@ applied-made contents rows new last next at row same none made is =
 more-rows : (rows : List Row) (i : ℕ) (item : Row) → i < length rows → item ≡ get_or rows i item → take (i + 1) rows ≡ take i rows ++ item ∷ []
 more-rows rows i item lt is = take_more rows i item lt ∙ ap (λ (r : Row). take i rows ++ r ∷ []) (sym is)
 
-pub soonest-step : (rows : List Row) (i : ℕ) (item : Row) (so_far then : Option ℕ) → i < length rows → so_far ≡ soonest_of (take i rows) → then ≡ reduce min (option_to_list so_far ++ due_moments item) → item ≡ get_or rows i item
-    → then ≡ soonest_of (take (i + 1) rows)
+pub soonest-step : (rows : List Row) (i : ℕ) (item : Row) (so_far then : Option ℕ) → i < length rows → so_far ≡ reduce min (all_due_moments (take i rows)) → then ≡ reduce min (option_to_list so_far ++ due_moments item) → item ≡ get_or rows i item
+    → then ≡ reduce min (all_due_moments (take (i + 1) rows))
 soonest-step rows i item so_far then lt is earlier here =
-    earlier ∙ (ap (λ (o : Option ℕ). reduce min (option_to_list o ++ due_moments item)) is ∙ (sym (soonest-more (take i rows) item) ∙ ap soonest_of (sym (more-rows rows i item lt here))))
-
-pub lost-step : (rows : List Row) (i moment : ℕ) (item : Row) (so_far then : Option ℕ) → i < length rows → so_far ≡ first_lost (take i rows) moment
-    → then ≡ reduce min (option_to_list so_far ++ filter (λ due. nat_le due moment) (option_to_list (claim_due item))) → item ≡ get_or rows i item → then ≡ first_lost (take (i + 1) rows) moment
-lost-step rows i moment item so_far then lt is earlier here =
-    earlier ∙ (ap (λ (o : Option ℕ). reduce min (option_to_list o ++ filter (λ due. nat_le due moment) (option_to_list (claim_due item)))) is
-    ∙ (sym (lost-more moment (take i rows) item) ∙ ap (λ (rs : List Row). first_lost rs moment) (sym (more-rows rows i item lt here))))
+    earlier ∙ (ap (λ (o : Option ℕ). reduce min (option_to_list o ++ due_moments item)) is ∙ (sym (soonest-more (take i rows) item) ∙ ap (λ (rs : List Row). reduce min (all_due_moments rs)) (sym (more-rows rows i item lt here))))

@@ -1,9 +1,9 @@
 -- Turns: each takes some moment away, so there are enough of them.
-use Rattle.std.proofs.Common.{◌≡◌, ℕ, zero, suc, ◌+◌, ◌≤◌, ◌<◌, Bool, true, false, cond, List, map, length, find, Option, Some, None, refl, ap, sym, ◌∙◌, arith, nat_le}
+use Rattle.std.proofs.Common.{◌≡◌, ℕ, zero, suc, ◌+◌, ◌≤◌, ◌<◌, Bool, true, false, cond, map, length, find, Option, Some, None, refl, ap, sym, ◌∙◌, arith}
 use Rattle.std.specs.List.{list_any, list_all}
 use Rattle.std.proofs.lemmas.Bool.{leb-true, le-leb}
 use Rattle.run_states.specs.declared.reasons.ReasonResolved.TheVariants.{ClaimExpired}
-use Rattle.run_states.specs.Rows.{Row, is_unscheduled, loses_claim, exceeded}
+use Rattle.run_states.specs.Rows.{loses_claim, exceeded}
 use Rattle.run_states.specs.Moves.{expired}
 use Rattle.run_states.specs.Later.{RowsLater}
 use Rattle.run_states.proofs.LaterLemmas.{exceeded-later, expired-later, RowsLater-refl, RowsLater-trans}
@@ -12,7 +12,7 @@ use Rattle.farm_rows.specs.Ready.{has_ready, settled}
 use Rattle.farm_rows.specs.Due.{all_due_moments, is_due, first_due, meets_deadline, change_first, draws, resolved_at, turn, turns, after_first}
 use Rattle.farm_rows.specs.Sweep.{all_turns}
 use Rattle.farm_rows.proofs.LeastLemmas.{first-some, first-is, first-none, none-first, reduce-all, reduce-any}
-use Rattle.farm_rows.proofs.ReadyLemmas.{busy-change, settled-none, settled-busy, settled-due, settled-stays, settled-ids, settled-last, settled-keeps}
+use Rattle.farm_rows.proofs.ReadyLemmas.{settled-none, settled-due, settled-stays, settled-ids, settled-last, settled-keeps}
 use Rattle.farm_rows.proofs.DueLemmas.{from, from-rows, some-lost, meets-turn, loses-turn, change-stays, change-ids}
 
 -- ---- what is resolved at a moment: a deadline, or the end of a claim
@@ -42,9 +42,6 @@ first-from contents moment at is = from-rows at contents.rows (reduce-all at (al
 pub first-lost : (contents : Contents) (moment at : ℕ) → first_due contents moment ≡ Some at → list_any (meets_deadline at) contents.rows ≡ false → list_any (loses_claim at) contents.rows ≡ true
 first-lost contents moment at is none =
     some-lost at contents.rows (first-from contents moment at is) (reduce-any at (all_due_moments contents.rows) (first-some moment at (all_due_moments contents.rows) is).0) none
-
-pub first-reached : (contents : Contents) (moment at : ℕ) → first_due contents moment ≡ Some at → nat_le at moment ≡ true
-first-reached contents moment at is = (first-some moment at (all_due_moments contents.rows) is).1
 
 -- what is first due up to a moment is so up to a later one
 pub first-later : (contents : Contents) (early late at : ℕ) → early ≤ late → first_due contents early ≡ Some at → first_due contents late ≡ Some at
@@ -250,22 +247,3 @@ turns-none (suc count) moment contents none = turns-none count moment (turn mome
 pub all-none : (contents : Contents) (moment : ℕ) → has_ready contents ≡ false → has_ready (all_turns contents moment) ≡ false
 unfolding all_turns
 all-none contents moment none = turns-none (length (all_due_moments contents.rows)) moment contents none
-
--- ---- where no task is unscheduled, none settles
-
-pub busy-exceeded : (at : ℕ) (rows : List Row) → list_any is_unscheduled rows ≡ false → list_any is_unscheduled (change_first (meets_deadline at) (exceeded at) rows) ≡ false
-busy-exceeded at rows busy = busy-change (meets_deadline at) (exceeded at) (exceeded-later at) rows busy
-
-pub busy-expired : (number at : ℕ) (rows : List Row) → list_any is_unscheduled rows ≡ false → list_any is_unscheduled (change_first (loses_claim at) (expired number at) rows) ≡ false
-busy-expired number at rows busy = busy-change (loses_claim at) (expired number at) (expired-later number at) rows busy
-
-pub busy-resolved : (contents : Contents) (at : ℕ) → list_any is_unscheduled contents.rows ≡ false → list_any is_unscheduled (resolved_at contents at).rows ≡ false
-busy-resolved contents at busy = by (list_any (meets_deadline at) contents.rows) refl where
-  by : (b : Bool) → list_any (meets_deadline at) contents.rows ≡ b → list_any is_unscheduled (resolved_at contents at).rows ≡ false
-  by true some_ = ap (λ (c : Contents). list_any is_unscheduled c.rows) (deadline-resolved contents at some_) ∙ busy-exceeded at contents.rows busy
-  by false none = ap (λ (c : Contents). list_any is_unscheduled c.rows) (claim-resolved contents at none) ∙ busy-expired contents.next at contents.rows busy
-
--- then a turn is what falls due first alone
-pub busy-step : (contents : Contents) (moment at : ℕ) → list_any is_unscheduled contents.rows ≡ false → first_due contents moment ≡ Some at → all_turns contents moment ≡ all_turns (resolved_at contents at) moment
-busy-step contents moment at busy is =
-    all-step contents moment at is ∙ ap (λ (c : Contents). all_turns c moment) (settled-busy (resolved_at contents at) at (busy-resolved contents at busy))

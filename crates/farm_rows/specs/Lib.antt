@@ -6,6 +6,8 @@ pub mod Left
 pub mod Changes
 pub mod Waits
 pub mod Lists
+pub mod Listing
+pub mod Members
 pub mod Summary
 pub mod Starts
 pub mod Plans
@@ -13,3 +15,7 @@ pub mod Deeds
 pub mod Sweep
 pub mod Settling
 pub mod Placed
+pub mod Queues
+pub mod Dated
+pub mod Dependencies
+pub mod Indexed

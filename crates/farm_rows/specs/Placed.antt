@@ -1,10 +1,9 @@
--- The places that are kept of the tasks' ids and groups. The contracts of private functions alone speak of these.
-use Rattle.std.specs.Prelude.{◌≡◌, ℕ, suc, ◌==◌, Bool, true, false, List, [], ◌∷◌, Option, Some, None, map, option_map, bytes_eq, slice_get, if◌then◌else◌}
+-- The places that are kept of the tasks' ids. The contracts of private functions alone speak of these.
+use Rattle.std.specs.Prelude.{◌≡◌, ℕ, ◌==◌, Bool, true, false, List, Option, Some, None, map, slice_get}
 use Rattle.std.specs.Ordering.{nat_cmp}
 use Rattle.std.specs.Cmp.Lexicographic.{slice_cmp}
 use Rattle.std.specs.BTreeMap.{BTreeMap, get}
 use Rattle.run_states.specs.Rows.{Row}
-use Rattle.farm_rows.specs.Sweep.{IsKept}
 
 -- a place for each of some ids
 abbrev pub PlaceMap : Type 0
@@ -36,40 +35,3 @@ holds_place (Some kept) place = kept == place
 abbrev pub is_noted : Option PlaceMap → List ℕ → ℕ → Bool
 is_noted None id place = true
 is_noted (Some places) id place = holds_place (kept_of places id) place
-
--- a task is of this group
-abbrev pub in_group : List ℕ → Row → Bool
-in_group group row = bytes_eq row.definition.task_group_id group
-
--- the task, where there is one and it is of this group
-abbrev pub joined : List ℕ → Option Row → Option Row
-joined group None = None
-joined group (Some row) = if in_group group row then Some row else None
-
--- the groups of some tasks
-abbrev pub groups_of : List Row → List (List ℕ)
-groups_of rows = map (λ row. row.definition.task_group_id) rows
-
--- the place of the first of these groups that is this one
-abbrev pub first_place : List ℕ → List (List ℕ) → Option ℕ
-first_place group [] = None
-first_place group (other ∷ groups) = if bytes_eq other group then Some 0 else option_map suc (first_place group groups)
-
--- of each of these groups the place at which it comes first is kept; nothing is said of others
-pub record AreFirst (places : PlaceMap) (groups : List (List ℕ)) : Type 0 where
-  pub at : (place : ℕ) (group : List ℕ) → first_place group groups ≡ Some place → kept_of places group ≡ Some place
-
--- the same, where there are places
-abbrev pub MayBeFirst : Option PlaceMap → List (List ℕ) → Type 0
-MayBeFirst None groups = Unit {0}
-MayBeFirst (Some places) groups = AreFirst places groups
-
--- of each group of tasks the place of its first task is kept, where there are places
-abbrev pub AreGrouped : Option PlaceMap → List Row → Type 0
-AreGrouped places rows = MayBeFirst places (groups_of rows)
-
--- what tables keep, the places of their tasks, and those of the first tasks of groups
-pub record AreTables (rows : List Row) (last next : ℕ) (soonest : Option ℕ) (capacity : ℕ) (places groups : Option PlaceMap) : Type 0 where
-  pub kept : IsKept rows last next soonest capacity
-  pub placed : ArePlaced places rows
-  pub grouped : AreGrouped groups rows

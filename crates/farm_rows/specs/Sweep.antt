@@ -1,42 +1,12 @@
--- What a tick leaves of each task, and what the tables keep besides their contents. The contracts of private functions alone speak of these.
-use Rattle.std.specs.Prelude.{◌≡◌, ℕ, ◌+◌, ◌≤◌, true, min, Bool, false, not, ◌&&◌, nat_le, nat_lt, List, length, Option, filter, sum_by, if◌then◌else◌}
-use Rattle.std.specs.Option.{option_map_or, option_to_list}
-use Rattle.std.specs.List.{reduce, flat_map, list_any, list_all}
+-- The turns of a tick, and what the tables keep besides their contents. The contracts of private functions alone speak of these.
+use Rattle.std.specs.Prelude.{◌≡◌, ℕ, ◌+◌, ◌≤◌, true, Bool, false, ◌&&◌, nat_le, List, length, sum_by}
+use Rattle.std.specs.List.{list_any, list_all}
 use Rattle.farm_text.specs.declared.moment.TheConstants.{LAST_TOLD_MOMENT}
-use Rattle.run_states.specs.Rows.{Row, is_resolved, exceeded, claim_due}
-use Rattle.run_states.specs.Moves.{expired}
+use Rattle.run_states.specs.Rows.{Row}
 use Rattle.farm_rows.specs.Contents.{Contents, HaveOwnIds}
 use Rattle.farm_rows.specs.Ready.{is_ready}
 use Rattle.farm_rows.specs.Due.{all_due_moments, turns}
 use Rattle.farm_rows.specs.Plans.{room_for}
-
--- there is a claim, and it ends before the deadline
-abbrev pub ends_before : Option ℕ → ℕ → Bool
-ends_before claim deadline = option_map_or (λ due. nat_lt due deadline) claim false
-
--- the claim of a task ends before its deadline
-abbrev pub claim_first : Row → Bool
-claim_first row = ends_before (claim_due row) row.definition.deadline
-
--- the deadline of a task comes by this moment, and no claim of it ends before
-abbrev pub comes_due : ℕ → Row → Bool
-comes_due moment row = not (is_resolved row) && (nat_le row.definition.deadline moment && not (claim_first row))
-
--- a task whose deadline comes next, and by this moment, is resolved at it
-abbrev pub swept : ℕ → Row → Row
-swept moment row = if comes_due moment row then exceeded row.definition.deadline row else row
-
--- a task whose claim falls due, and then its deadline, where that comes by this moment too
-abbrev pub lost : ℕ → ℕ → ℕ → Row → Row
-lost moment at number row = swept moment (expired number at row)
-
--- the ends of the claims
-abbrev pub claim_ends : List Row → List ℕ
-claim_ends rows = flat_map (λ row. option_to_list (claim_due row)) rows
-
--- the first of them up to this moment
-abbrev pub first_lost : List Row → ℕ → Option ℕ
-first_lost rows moment = reduce min (filter (λ due. nat_le due moment) (claim_ends rows))
 
 -- rows with the number that is drawn next
 abbrev pub numbered : List Row → ℕ → Contents
@@ -45,10 +15,6 @@ numbered rows next = record { rows = rows; last = 0; next = next }
 -- all turns up to a moment
 unfoldable pub all_turns : Contents → ℕ → Contents
 all_turns contents moment = turns (length (all_due_moments contents.rows)) moment contents
-
--- the first moment at which something falls due
-abbrev pub soonest_of : List Row → Option ℕ
-soonest_of rows = reduce min (all_due_moments rows)
 
 -- how many runs there are
 abbrev pub runs_made : List Row → ℕ
@@ -59,7 +25,7 @@ abbrev pub fits : Row → Bool
 fits row = nat_le (length row.runs + row.retries_left) 50 && nat_le row.retries_left 49
 
 -- what tables keep: among others, that no task is ready
-pub record IsKept (rows : List Row) (last next : ℕ) (soonest : Option ℕ) (capacity : ℕ) : Type 0 where
+pub record IsKept (rows : List Row) (last next : ℕ) (capacity : ℕ) : Type 0 where
   pub told : last ≤ LAST_TOLD_MOMENT
   pub few : length rows ≤ 1_000_000
   pub own : HaveOwnIds rows
@@ -67,4 +33,3 @@ pub record IsKept (rows : List Row) (last next : ℕ) (soonest : Option ℕ) (ca
   pub fit : list_all fits rows ≡ true
   pub drawn : next ≤ runs_made rows
   pub room : room_for (length rows) ≤ capacity
-  pub soonest_is : soonest ≡ soonest_of rows

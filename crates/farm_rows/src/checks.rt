@@ -4,14 +4,11 @@ ghost use Rattle.std.specs.Option.{option_map_or};
 ghost use Rattle.run_states.specs.Rows.{is_unscheduled, is_resolved, is_running_at};
 ghost use Rattle.run_states.specs.Moves.{may_rerun};
 ghost use Rattle.farm_rows.specs.Changes.{on_row, may_keep, kept_scheduler, may_join};
-ghost use Rattle.farm_rows.specs.Placed.{AreGrouped};
 
-use crate::groups::first_of;
-use crate::places::Rows;
+use crate::rows::Rows;
 use farm_record::Creation;
 use farm_text::{Moment, SlugId};
 use run_states::{MOST_RUNS, TaskRow};
-use slug_places::places::Places;
 use task_defs::Identifier;
 
 /// How long a run is kept at most, in milliseconds: a day.
@@ -71,26 +68,20 @@ pub(crate) fn may_schedule(rows: &Rows<'_>, id: SlugId) -> bool
 }
 
 /// Whether a new task has the scheduler of its group, where that has tasks.
-pub(crate) fn may_join(rows: &[TaskRow], groups: Option<&Places>, creation: &Creation) -> bool
-    requires { AreGrouped (option_copied groups) rows.now }
+pub(crate) fn may_join(rows: &Rows<'_>, creation: &Creation) -> bool
     ensures { result ≡ may_join creation.now rows.now }
 {
-    match kept_scheduler(rows, groups, creation.definition.task_group_id) {
+    match kept_scheduler(rows, creation.definition.task_group_id) {
         Some(kept) => kept.as_str() == creation.definition.scheduler_id.as_str(),
         None => true,
     }
 }
 
 /// The scheduler that the tasks of a group have, as the first of them has it.
-pub(crate) fn kept_scheduler<'a>(
-    rows: &'a [TaskRow],
-    groups: Option<&Places>,
-    group: SlugId,
-) -> Option<&'a Identifier>
-    requires { AreGrouped (option_copied groups) rows.now }
+pub(crate) fn kept_scheduler<'a>(rows: &Rows<'a>, group: SlugId) -> Option<&'a Identifier>
     ensures { option_copied result ≡ kept_scheduler group rows.now }
 {
-    match first_of(rows, groups, group) {
+    match rows.first_of(group) {
         Some(row) => Some(&row.definition().scheduler_id),
         None => None,
     }

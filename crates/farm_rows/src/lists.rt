@@ -1,10 +1,11 @@
 //! The lists of tasks, page by page.
-ghost use Rattle.std.specs.Prelude.{◌≡◌, map, take, true, false, length, nat_lt, bytes_eq, IfOk, MatchOption};
+ghost use Rattle.std.specs.Prelude.{◌≡◌, ◌≤◌, map, take, drop, true, false, length, nat_lt, bytes_eq, IfOk, MatchOption};
 ghost use Rattle.std.specs.List.{list_any};
 ghost use Rattle.farm_rows.specs.Changes.{on_row};
 ghost use Rattle.farm_rows.specs.Lists.{is_listed, listed, names_listed, behind_id, behind, page_rows, has_more};
 
-use crate::places::Rows;
+use crate::listing::page_at;
+use crate::rows::Rows;
 use farm_text::SlugId;
 use run_states::TaskRow;
 use std::alloc::{AllocError, Global};
@@ -67,36 +68,58 @@ pub(crate) fn page_behind<'a>(
         (λ p. (names_listed list.now after rows.now ≡ true) × (map (λ row. row.now) p.rows.items ≡ page_rows after limit (listed list.now rows.now))
         × (p.more ≡ has_more after limit (listed list.now rows.now)))) }
 {
-    match behind(rows, list, after) {
-        Some(rest) => Ok(Some(page_of(alloc, rest, list, usize::from(limit))?)),
+    match start_of(rows, list, after) {
+        Some(start) => Ok(Some(page_starting_at(alloc, rows, list, start, limit)?)),
         None => Ok(None),
     }
 }
 
-/// The tasks behind the one that a token names, or all, where there is none; or none, where the token names no task of the list.
-fn behind<'a>(rows: &Rows<'a>, list: &TaskList, after: Option<SlugId>) -> Option<&'a [TaskRow]>
+/// How many tasks come up to the one that a token names, or none, where there is no token; or nothing, where the token names no task of the
+/// list.
+fn start_of(rows: &Rows<'_>, list: &TaskList, after: Option<SlugId>) -> Option<usize>
     ensures { MatchOption result (names_listed list.now after rows.now ≡ false)
-        (λ rest. (names_listed list.now after rows.now ≡ true) × (listed list.now rest.now ≡ behind after (listed list.now rows.now))) }
+        (λ start. (names_listed list.now after rows.now ≡ true) × (start ≤ length rows.now)
+        × (listed list.now (drop start rows.now) ≡ behind after (listed list.now rows.now))) }
 {
     match after {
-        Some(token) => behind_id(rows, list, token),
-        None => Some(rows.list()),
+        Some(token) => start_behind(rows, list, token),
+        None => Some(0),
     }
 }
 
-/// The tasks behind the one with this id, where that is on the list.
-fn behind_id<'a>(rows: &Rows<'a>, list: &TaskList, token: SlugId) -> Option<&'a [TaskRow]>
+/// How many tasks come up to the one with this id, where that is on the list.
+fn start_behind(rows: &Rows<'_>, list: &TaskList, token: SlugId) -> Option<usize>
     ensures { MatchOption result (on_row (is_listed list.now) token rows.now ≡ false)
-        (λ rest. (on_row (is_listed list.now) token rows.now ≡ true) × (listed list.now rest.now ≡ behind_id token (listed list.now rows.now))) }
+        (λ start. (on_row (is_listed list.now) token rows.now ≡ true) × (start ≤ length rows.now)
+        × (listed list.now (drop start rows.now) ≡ behind_id token (listed list.now rows.now))) }
 {
     let Some(place) = rows.place(token) else {
         return None;
     };
     let all = rows.list();
     if is_listed(list, &all[place]) {
-        Some(&all[place + 1..])
+        Some(place + 1)
     } else {
         None
+    }
+}
+
+/// The first tasks of a list behind so many of all tasks, so many at most.
+fn page_starting_at<'a>(
+    alloc: Global,
+    rows: &Rows<'a>,
+    list: &TaskList,
+    start: usize,
+    limit: u16,
+) -> Result<Page<'a>, AllocError>
+    requires { start ≤ length rows.now }
+    ensures { IfOk result (λ p. (map (λ row. row.now) p.rows.items ≡ take limit (listed list.now (drop start rows.now)))
+        × (p.more ≡ nat_lt limit (length (listed list.now (drop start rows.now))))) }
+{
+    let all = rows.list();
+    match rows.listed(list, start, limit) {
+        Some(page) => page_at(alloc, all, page),
+        None => page_of(alloc, &all[start..], list, usize::from(limit)),
     }
 }
 

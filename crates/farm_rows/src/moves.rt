@@ -1,109 +1,108 @@
 //! What changes of one task, by its id. None of it takes memory.
-ghost use Rattle.std.specs.Prelude.{◌≡◌, Some, option_copied};
+ghost use Rattle.std.specs.Prelude.{◌≡◌, Some};
 ghost use Rattle.run_states.specs.Rows.{scheduled};
 ghost use Rattle.run_states.specs.Moves.{run_again, canceled, claimed, reclaimed, resolved};
 ghost use Rattle.farm_rows.specs.Contents.{row_with};
 ghost use Rattle.farm_rows.specs.Due.{draws};
 ghost use Rattle.farm_rows.specs.Changes.{change_row, reason_of};
-ghost use Rattle.farm_rows.specs.Placed.{ArePlaced};
+ghost use Rattle.farm_rows.specs.Indexed.{IsIndexOf};
 
-use crate::places::{place_of, row_with};
+use crate::index::Index;
 use farm_record::{Reclaim, Report, Resolution};
 use farm_text::{Moment, SlugId};
 use run_states::{Claim as RunClaim, ReasonResolved, TaskRow};
-use slug_places::places::Places;
 
 /// The task becomes pending, where it is unscheduled.
-pub(crate) fn schedule(
-    rows: &mut [TaskRow],
-    places: Option<&Places>,
-    id: SlugId,
-    at: Moment,
-    number: u64,
-)
-    requires { ArePlaced (option_copied places) rows.old }
-    ensures { rows.new ≡ change_row id (scheduled number at) rows.old }
+pub(crate) fn schedule(rows: &mut [TaskRow], index: &mut Index, id: SlugId, at: Moment, number: u64)
+    requires { IsIndexOf index.old rows.old }
+    ensures index { IsIndexOf index.new rows.new }
+    ensures rows { rows.new ≡ change_row id (scheduled number at) rows.old }
 {
-    if let Some(place) = place_of(rows, places, id) {
+    if let Some(place) = index.place_of(rows, id) {
         let row = &mut rows[place];
         row.schedule(at, number);
+        index.changed(rows, place);
     }
 }
 
 /// The task is run again, where it may be.
-pub(crate) fn rerun(
-    rows: &mut [TaskRow],
-    places: Option<&Places>,
-    id: SlugId,
-    at: Moment,
-    number: u64,
-)
-    requires { ArePlaced (option_copied places) rows.old }
-    ensures { rows.new ≡ change_row id (run_again number at) rows.old }
+pub(crate) fn rerun(rows: &mut [TaskRow], index: &mut Index, id: SlugId, at: Moment, number: u64)
+    requires { IsIndexOf index.old rows.old }
+    ensures index { IsIndexOf index.new rows.new }
+    ensures rows { rows.new ≡ change_row id (run_again number at) rows.old }
 {
-    if let Some(place) = place_of(rows, places, id) {
+    if let Some(place) = index.place_of(rows, id) {
         let row = &mut rows[place];
         let _ = row.rerun(at, number);
+        index.changed(rows, place);
     }
 }
 
 /// The task is canceled, where it is not resolved.
-pub(crate) fn cancel(rows: &mut [TaskRow], places: Option<&Places>, id: SlugId, at: Moment)
-    requires { ArePlaced (option_copied places) rows.old }
-    ensures { rows.new ≡ change_row id (canceled at) rows.old }
+pub(crate) fn cancel(rows: &mut [TaskRow], index: &mut Index, id: SlugId, at: Moment)
+    requires { IsIndexOf index.old rows.old }
+    ensures index { IsIndexOf index.new rows.new }
+    ensures rows { rows.new ≡ change_row id (canceled at) rows.old }
 {
-    if let Some(place) = place_of(rows, places, id) {
+    if let Some(place) = index.place_of(rows, id) {
         let row = &mut rows[place];
         row.cancel(at);
+        index.changed(rows, place);
     }
 }
 
 /// A worker takes the pending run of the task.
-pub(crate) fn claim(rows: &mut [TaskRow], places: Option<&Places>, id: SlugId, claim: RunClaim)
-    requires { ArePlaced (option_copied places) rows.old }
-    ensures { rows.new ≡ change_row id (claimed claim) rows.old }
+pub(crate) fn claim(rows: &mut [TaskRow], index: &mut Index, id: SlugId, claim: RunClaim)
+    requires { IsIndexOf index.old rows.old }
+    ensures index { IsIndexOf index.new rows.new }
+    ensures rows { rows.new ≡ change_row id (claimed claim) rows.old }
 {
-    if let Some(place) = place_of(rows, places, id) {
+    if let Some(place) = index.place_of(rows, id) {
         let row = &mut rows[place];
         row.claim(claim);
+        index.changed(rows, place);
     }
 }
 
 /// A worker keeps its run.
-pub(crate) fn reclaim(rows: &mut [TaskRow], places: Option<&Places>, reclaim: Reclaim)
-    requires { ArePlaced (option_copied places) rows.old }
-    ensures { rows.new ≡ change_row reclaim.id (reclaimed reclaim.run reclaim.taken_until) rows.old }
+pub(crate) fn reclaim(rows: &mut [TaskRow], index: &mut Index, reclaim: Reclaim)
+    requires { IsIndexOf index.old rows.old }
+    ensures index { IsIndexOf index.new rows.new }
+    ensures rows { rows.new ≡ change_row reclaim.id (reclaimed reclaim.run reclaim.taken_until) rows.old }
 {
-    if let Some(place) = place_of(rows, places, reclaim.id) {
+    if let Some(place) = index.place_of(rows, reclaim.id) {
         let row = &mut rows[place];
         let _ = row.reclaim(reclaim.run, reclaim.taken_until);
+        index.changed(rows, place);
     }
 }
 
 /// The run of a task ends, as its worker reports.
 pub(crate) fn resolve(
     rows: &mut [TaskRow],
-    places: Option<&Places>,
+    index: &mut Index,
     resolution: &Resolution,
     at: Moment,
     number: u64,
 )
-    requires { ArePlaced (option_copied places) rows.old }
-    ensures { let r = resolution.now in rows.new ≡ change_row r.id (resolved r.run (reason_of r.reason) number at) rows.old }
+    requires { IsIndexOf index.old rows.old }
+    ensures index { IsIndexOf index.new rows.new }
+    ensures rows { let r = resolution.now in rows.new ≡ change_row r.id (resolved r.run (reason_of r.reason) number at) rows.old }
 {
-    if let Some(place) = place_of(rows, places, resolution.id) {
+    if let Some(place) = index.place_of(rows, resolution.id) {
         let row = &mut rows[place];
         let reason = reason_of(resolution.reason);
         let _ = row.resolve(at, resolution.run, reason, number);
+        index.changed(rows, place);
     }
 }
 
 /// How many numbers a report draws: one, where a new run follows.
-pub(crate) fn drawn(rows: &[TaskRow], places: Option<&Places>, resolution: &Resolution) -> u64
-    requires { ArePlaced (option_copied places) rows.now }
+pub(crate) fn drawn(rows: &[TaskRow], index: &Index, resolution: &Resolution) -> u64
+    requires { IsIndexOf index.now rows.now }
     ensures { result ≡ draws (reason_of resolution.now.reason) (row_with resolution.now.id rows.now) }
 {
-    match row_with(rows, places, resolution.id) {
+    match index.row_with(rows, resolution.id) {
         Some(row) => drawn_of(row, reason_of(resolution.reason)),
         None => 0,
     }

@@ -7,7 +7,7 @@ ghost use Rattle.farm_rows.specs.Picks.{is_same_queue, waits_in, goes_before, be
 ghost use Rattle.farm_rows.specs.Left.{left};
 
 use crate::checks::may_keep;
-use crate::places::Rows;
+use crate::rows::Rows;
 use claim_queue::rank;
 use farm_record::{Claim, RunName};
 use farm_text::{Moment, SlugId};
@@ -29,8 +29,8 @@ fn are_first(rows: &Rows<'_>, names: &[RunName]) -> bool
     let Some(first) = names.first() else {
         return false;
     };
-    match rows.with(first.id) {
-        Some(row) => are_picks(rows.list(), &row.definition().queue, names),
+    match rows.place(first.id) {
+        Some(place) => rows.are_picks(place, names),
         None => false,
     }
 }
@@ -154,7 +154,7 @@ fn goes_before(one: &TaskRow, other: &TaskRow) -> bool
 }
 
 /// The number that the last run of a task drew.
-fn number_of(row: &TaskRow) -> u64
+pub(crate) fn number_of(row: &TaskRow) -> u64
     ensures { result ≡ number_of row.now }
 {
     match row.runs().last() {
@@ -164,7 +164,7 @@ fn number_of(row: &TaskRow) -> u64
 }
 
 /// The last run of a task, by its name.
-fn last_name(row: &TaskRow) -> RunName
+pub(crate) fn last_name(row: &TaskRow) -> RunName
     ensures { result ≡ last_name row.now }
 {
     RunName {
@@ -174,7 +174,7 @@ fn last_name(row: &TaskRow) -> RunName
 }
 
 /// Whether a name is that of the last run of a task.
-fn names_last(name: RunName, row: &TaskRow) -> bool
+pub(crate) fn names_last(name: RunName, row: &TaskRow) -> bool
     ensures { result ≡ names_last name row.now }
 {
     row.id() == name.id && row.runs().len() == usize::from(name.run) + 1

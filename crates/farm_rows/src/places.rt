@@ -10,61 +10,6 @@ use farm_text::SlugId;
 use run_states::TaskRow;
 use slug_places::places::{Places, kept_place, note};
 use std::alloc::AllocError;
-use std::marker::Model;
-
-/// The tasks, with the places of their ids, where these are kept. They are seen as the list of the tasks.
-#[derive(Drop)]
-pub(crate) struct Rows<'a> {
-    list: &'a [TaskRow],
-    places: Option<&'a Places>,
-}
-
-impl<'a> Model for Rows<'a> {
-    ghost use Rattle.std.specs.Prelude.{List, option_copied};
-    ghost use Rattle.std.specs.Coded.{codes};
-    ghost use Rattle.task_defs.specs.Codes.{members_code};
-    ghost use Rattle.run_states.specs.Rows.{Row};
-    ghost use Rattle.farm_rows.specs.Placed.{ArePlaced};
-
-    ghost Value = { List Row };
-
-    ghost coded = { Prim.hlevel (codes, members_code) };
-
-    ghost view = { λ r. r.list.now };
-
-    ghost invariant = { λ r. ArePlaced (option_copied r.places) r.list.now };
-}
-
-impl<'a> Rows<'a> {
-    /// These tasks, and the places that are kept of them.
-    pub(crate) fn new(list: &'a [TaskRow], places: Option<&'a Places>) -> Rows<'a>
-        requires { ArePlaced (option_copied places) list.now }
-        ensures { result ≡ list.now }
-    {
-        Rows { list, places }
-    }
-
-    /// All tasks.
-    pub(crate) fn list(&self) -> &'a [TaskRow]
-        ensures { result.now ≡ self.now }
-    {
-        self.list
-    }
-
-    /// The task with this id.
-    pub(crate) fn with(&self, id: SlugId) -> Option<&'a TaskRow>
-        ensures { option_copied result ≡ row_with id self.now }
-    {
-        row_with(self.list, self.places, id)
-    }
-
-    /// The place of the task with this id.
-    pub(crate) fn place(&self, id: SlugId) -> Option<usize>
-        ensures { result ≡ position (has_id id) self.now }
-    {
-        place_of(self.list, self.places, id)
-    }
-}
 
 /// The task with this id.
 pub(crate) fn row_with<'a>(
@@ -156,7 +101,7 @@ pub(crate) fn keep_noted(places: &mut Option<Places>, id: SlugId, place: usize)
 }
 
 /// Whether this place is noted of an id, where places are kept.
-pub(crate) fn is_noted(places: &Option<Places>, id: SlugId, place: usize) -> bool
+fn is_noted(places: &Option<Places>, id: SlugId, place: usize) -> bool
     ensures { result ≡ is_noted places.now id place }
 {
     match places {

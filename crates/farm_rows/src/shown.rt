@@ -6,8 +6,9 @@ ghost use Rattle.farm_rows.specs.Plans.{rows_with, named_rows};
 ghost use Rattle.farm_rows.specs.Deeds.{kind_of, rows_after};
 
 use crate::copies::claims;
-use crate::places::Rows;
+use crate::index::Index;
 use crate::plan::Deed;
+use crate::rows::Rows;
 use crate::work::make;
 use farm_record::RunName;
 use farm_text::{Moment, SlugId};
@@ -26,7 +27,7 @@ pub(crate) fn shown(
 {
     let mut shown = named(alloc, rows, deed)?;
     let claims = claims(alloc, at, deed)?;
-    make(&mut shown, None, at, number, deed, claims);
+    make(&mut shown, &mut Index::given_up(), at, number, deed, claims);
     Ok(shown)
 }
 

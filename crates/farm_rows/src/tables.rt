@@ -18,23 +18,20 @@ use crate::checks::{
     is_running, kept_scheduler, may_cancel, may_join, may_keep, may_rerun, may_schedule,
 };
 use crate::counts::RowCounts;
-use crate::groups::keep_first;
+use crate::index::Index;
 use crate::lists::{Page, TaskList, lists, page_behind};
-use crate::picks::{may_claim, pending, picks};
-use crate::places::{Rows, keep_noted};
+use crate::picks::may_claim;
 use crate::plan::{Deed, TaskPlan};
 use crate::room::add;
+use crate::rows::Rows;
 use crate::summary::{Summary, summary_of};
-use crate::sweep::{soonest, soonest_with};
 use crate::turns::resolve_due;
 use crate::waits::{early_dependency, missing_dependency, waits_well};
 use crate::work::change;
 use farm_record::{Change, Creation, Kind, RunName};
 use farm_text::{LAST_TOLD_MOMENT, Moment, SlugId};
 use run_states::{Claim as RunClaim, TaskRow};
-use slug_places::places::Places;
 use std::alloc::{AllocError, Global};
-use std::collections::BTreeMap;
 use std::marker::Model;
 use task_defs::{Identifier, TaskQueue};
 
@@ -48,12 +45,8 @@ pub struct TaskTables {
     rows: Vec<TaskRow>,
     last: Moment,
     next: u64,
-    /// The first moment at which something falls due.
-    soonest: Option<Moment>,
-    /// The place of each task by its id, where these are kept.
-    places: Option<Places>,
-    /// The place of the first task of each group, where these are kept.
-    groups: Option<Places>,
+    /// What is kept beside the tasks.
+    index: Index,
 }
 
 impl Model for TaskTables {
@@ -61,7 +54,7 @@ impl Model for TaskTables {
     ghost use Rattle.std.specs.Coded.{codes};
     ghost use Rattle.task_defs.specs.Codes.{members_code};
     ghost use Rattle.farm_rows.specs.Contents.{Contents};
-    ghost use Rattle.farm_rows.specs.Placed.{AreTables};
+    ghost use Rattle.farm_rows.specs.Indexed.{AreTables};
 
     ghost Value = { Contents };
 
@@ -69,7 +62,7 @@ impl Model for TaskTables {
 
     ghost view = { λ t. record { rows = t.rows.items; last = t.last; next = t.next } };
 
-    ghost invariant = { λ t. AreTables t.rows.items t.last t.next t.soonest (vec_capacity t.rows) t.places t.groups };
+    ghost invariant = { λ t. AreTables t.rows.items t.last t.next (vec_capacity t.rows) t.index };
 }
 
 impl TaskTables {
@@ -81,9 +74,7 @@ impl TaskTables {
             rows: Vec::new(alloc),
             last: Moment::FIRST,
             next: 0,
-            soonest: None,
-            places: Some(BTreeMap::new(alloc)),
-            groups: Some(BTreeMap::new(alloc)),
+            index: Index::new(alloc),
         }
     }
 
@@ -104,10 +95,7 @@ impl TaskTables {
     pub fn due(&self, moment: Moment) -> bool
         ensures { result ≡ is_due self.now moment }
     {
-        match self.soonest {
-            Some(at) => at <= moment,
-            None => false,
-        }
+        self.index.first_due(&self.rows, moment).is_some()
     }
 
     /// Resolves all that is due at this moment, each at its own moment, and reaches the moment, where it is after the last. It takes no
@@ -127,8 +115,7 @@ impl TaskTables {
         if !self.due(moment) {
             return;
         }
-        self.next = resolve_due(&mut self.rows, self.places.as_ref(), self.next, moment);
-        self.soonest = soonest(&self.rows);
+        self.next = resolve_due(&mut self.rows, &mut self.index, self.next, moment);
     }
 
     /// The task with this id.
@@ -142,7 +129,7 @@ impl TaskTables {
     fn by_ids(&self) -> Rows<'_>
         ensures { result ≡ self.now.rows }
     {
-        Rows::new(&self.rows, self.places.as_ref())
+        Rows::new(&self.rows, &self.index)
     }
 
     /// The task at this place, counted from 0 in the order of creation.
@@ -157,7 +144,7 @@ impl TaskTables {
     pub fn pending(&self, queue: &TaskQueue) -> u32
         ensures { result ≡ count_by (waits_in queue.now) self.now.rows }
     {
-        pending(&self.rows, queue) as u32
+        self.index.pending(&self.rows, queue) as u32
     }
 
     /// How the tasks stand, counted.
@@ -177,14 +164,14 @@ impl TaskTables {
         ensures names { IfOk result (λ names. names.items ≡ picks most queue.now self.now.rows) }
         ensures own { HaveOwnIds self.now.rows }
     {
-        picks(alloc, &self.rows, queue, most)
+        self.index.picks(alloc, &self.rows, queue, most)
     }
 
     /// The scheduler that the tasks of a group have, as the first of them has it; none where the group has no task.
     pub fn kept_scheduler(&self, group: SlugId) -> Option<&Identifier>
         ensures { option_copied result ≡ kept_scheduler group self.now.rows }
     {
-        kept_scheduler(&self.rows, self.groups.as_ref(), group)
+        kept_scheduler(&self.by_ids(), group)
     }
 
     /// The first task that a new one waits for, in the order of its definition, that is not the task itself and does not stand.
@@ -275,7 +262,7 @@ impl TaskTables {
         self.row(creation.id).is_none()
             && at < creation.definition.deadline
             && waits_well(&self.by_ids(), creation)
-            && may_join(&self.rows, self.groups.as_ref(), creation)
+            && may_join(&self.by_ids(), creation)
             && self.rows.len() < MOST_TASKS
     }
 
@@ -303,13 +290,9 @@ impl TaskTables {
         requires plan { IsPlanOn self.old (planned_of at (Deed.Create row) [] (vec_capacity grown)) }
         ensures { self.new ≡ applied self.old (change_of at (Deed.Create row)) }
     {
-        let soonest = soonest_with(self.soonest, &row);
         let drawn = row.runs().len() as u64;
-        let place = self.rows.len();
-        keep_noted(&mut self.places, row.id(), place);
-        keep_first(&mut self.groups, &self.rows, row.definition().task_group_id);
+        self.index.added(&self.rows, &row);
         add(&mut self.rows, grown, row);
-        self.soonest = soonest;
         self.next += drawn;
         self.last = at;
     }
@@ -321,15 +304,7 @@ impl TaskTables {
         requires lawful { may_apply self.old (change_of at deed.now) ≡ true }
         ensures { self.new ≡ applied self.old (change_of at deed.now) }
     {
-        let drawn = change(
-            &mut self.rows,
-            self.places.as_ref(),
-            at,
-            self.next,
-            deed,
-            claims,
-        );
-        self.soonest = soonest(&self.rows);
+        let drawn = change(&mut self.rows, &mut self.index, at, self.next, deed, claims);
         self.next += drawn;
         self.last = at;
     }

@@ -5,7 +5,7 @@ ghost use Rattle.farm_rows.specs.Contents.{row_with};
 ghost use Rattle.farm_rows.specs.Changes.{waits_well};
 ghost use Rattle.farm_rows.specs.Waits.{is_missing, is_early, missing_dependency, early_dependency};
 
-use crate::places::Rows;
+use crate::rows::Rows;
 use farm_record::Creation;
 use farm_text::{Moment, SlugId};
 

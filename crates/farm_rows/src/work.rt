@@ -1,113 +1,117 @@
 //! What a change makes of the tasks that stand. None of it takes memory.
-ghost use Rattle.std.specs.Prelude.{◌≡◌, ◌≤◌, ◌+◌, length, replicate, option_copied};
+ghost use Rattle.std.specs.Prelude.{◌≡◌, ◌≤◌, ◌+◌, length, replicate};
 ghost use Rattle.farm_rows.specs.Ready.{settled};
 ghost use Rattle.farm_rows.specs.Sweep.{numbered};
 ghost use Rattle.farm_rows.specs.Changes.{claim_of, all_claimed};
 ghost use Rattle.farm_rows.specs.Deeds.{rows_after, drawn_by, claims_of};
-ghost use Rattle.farm_rows.specs.Placed.{ArePlaced};
+ghost use Rattle.farm_rows.specs.Indexed.{IsIndexOf};
 
+use crate::index::Index;
 use crate::moves::{cancel, claim, drawn, reclaim, rerun, resolve, schedule};
 use crate::plan::Deed;
 use crate::settle::settle;
 use farm_record::{Claim, Resolution};
 use farm_text::Moment;
 use run_states::{Claim as RunClaim, TaskRow};
-use slug_places::places::Places;
 
 /// Makes a change of the tasks that stand, and answers how many numbers it draws.
 pub(crate) fn make(
     rows: &mut [TaskRow],
-    places: Option<&Places>,
+    index: &mut Index,
     at: Moment,
     number: u64,
     deed: &Deed,
     claims: Vec<RunClaim>,
 ) -> u64
-    requires placed { ArePlaced (option_copied places) rows.old }
+    requires index { IsIndexOf index.old rows.old }
     requires claims { claims.items ≡ claims_of at deed.now }
+    ensures index { IsIndexOf index.new rows.new }
     ensures rows { rows.new ≡ rows_after at number deed.now rows.old }
     ensures drawn { result ≡ drawn_by deed.now rows.old }
 {
     match deed {
         Deed::Create(_) => 0,
         Deed::Schedule(id) => {
-            schedule(rows, places, *id, at, number);
+            schedule(rows, index, *id, at, number);
             1
         }
         Deed::Rerun(id) => {
-            rerun(rows, places, *id, at, number);
+            rerun(rows, index, *id, at, number);
             1
         }
         Deed::Cancel(id) => {
-            cancel(rows, places, *id, at);
+            cancel(rows, index, *id, at);
             0
         }
         Deed::Claim(taken) => {
-            claim_all(rows, places, at, taken, claims);
+            claim_all(rows, index, at, taken, claims);
             0
         }
         Deed::Reclaim(kept) => {
-            reclaim(rows, places, *kept);
+            reclaim(rows, index, *kept);
             0
         }
-        Deed::Resolve(resolution) => report(rows, places, resolution, at, number),
+        Deed::Resolve(resolution) => report(rows, index, resolution, at, number),
     }
 }
 
 /// Makes a change of the tasks that stand, after which they settle, and answers how many numbers are drawn.
 pub(crate) fn change(
     rows: &mut [TaskRow],
-    places: Option<&Places>,
+    index: &mut Index,
     at: Moment,
     number: u64,
     deed: &Deed,
     claims: Vec<RunClaim>,
 ) -> u64
-    requires placed { ArePlaced (option_copied places) rows.old }
+    requires index { IsIndexOf index.old rows.old }
     requires few { length rows.old ≤ 1_000_000 }
     requires drawn { number ≤ 50_000_000 }
     requires claims { claims.items ≡ claims_of at deed.now }
+    ensures index { IsIndexOf index.new rows.new }
     ensures settled { settled (numbered (rows_after at number deed.now rows.old) (number + drawn_by deed.now rows.old)) at
         ≡ numbered rows.new (number + result) }
     ensures few { result ≤ 1_000_001 }
 {
-    let drawn = make(rows, places, at, number, deed, claims);
-    drawn + settle(rows, places, at, number + drawn)
+    let drawn = make(rows, index, at, number, deed, claims);
+    drawn + settle(rows, index, at, number + drawn)
 }
 
 /// Ends the run of a report, and answers how many numbers it draws.
 fn report(
     rows: &mut [TaskRow],
-    places: Option<&Places>,
+    index: &mut Index,
     resolution: &Resolution,
     at: Moment,
     number: u64,
 ) -> u64
-    requires { ArePlaced (option_copied places) rows.old }
+    requires { IsIndexOf index.old rows.old }
+    ensures index { IsIndexOf index.new rows.new }
     ensures rows { rows.new ≡ rows_after at number (Deed.Resolve resolution.now) rows.old }
     ensures drawn { result ≡ drawn_by (Deed.Resolve resolution.now) rows.old }
 {
-    let drawn = drawn(rows, places, resolution);
-    resolve(rows, places, resolution, at, number);
+    let drawn = drawn(rows, index, resolution);
+    resolve(rows, index, resolution, at, number);
     drawn
 }
 
 /// A worker takes runs, one after the other, each by one of the claims.
 fn claim_all(
     rows: &mut [TaskRow],
-    places: Option<&Places>,
+    index: &mut Index,
     at: Moment,
     taken: &Claim,
     mut claims: Vec<RunClaim>,
 )
-    requires placed { ArePlaced (option_copied places) rows.old }
+    requires index { IsIndexOf index.old rows.old }
     requires claims { claims.items ≡ replicate (length taken.now.runs) (claim_of at taken.now) }
-    ensures { rows.new ≡ all_claimed (claim_of at taken.now) taken.now.runs rows.old }
+    ensures index { IsIndexOf index.new rows.new }
+    ensures rows { rows.new ≡ all_claimed (claim_of at taken.now) taken.now.runs rows.old }
 {
     let names = taken.runs.list();
     for name in names {
         match claims.pop() {
-            Some(one) => claim(rows, places, name.id, one),
+            Some(one) => claim(rows, index, name.id, one),
             None => unreachable!(),
         }
     }

@@ -1,262 +1,304 @@
 //! Questions that are asked of the machine itself, with replies worked out by hand.
-ghost use Rattle.std.specs.Prelude.{IfOk};
+//!
+//! Each row of a conversation has, cut by bars: how many milliseconds after the making of the first task it is asked, or nothing, for the
+//! first moment of all; an Authorization field, or nothing; what is called; and the status and the body of the reply, of which a star at
+//! their end stands for any text.
+ghost use Rattle.std.specs.Prelude.{◌≡◌, ◌≤◌, max, false, IfOk, OnOk};
+ghost use Rattle.farm_text.specs.declared.moment.TheConstants.{LAST_TOLD_MOMENT as last_told};
+ghost use Rattle.farm_rows.specs.Due.{is_due};
 ghost use Rattle.farm_machine.specs.Written.{IsSaidCall};
 
-use farm_machine::config::{Config, ConfigCounts};
-use farm_machine::grants::Grants;
-use farm_machine::question::{BodyFault, Call, Caller, Credentials, Parameter, Question};
+use crate::machine::calls::call_of;
+use farm_files::read_farm;
+use farm_machine::config::Config;
+use farm_machine::question::{Call, Caller, Credentials, Question};
 use farm_machine::reply::Reply;
 use farm_machine::step::{apply, plan};
 use farm_machine::tables::{Tables, due, tick};
-use farm_record::Creation;
-use farm_text::{Doc, Moment, SlugId, Text};
-use hawk_auth::{Client, ClientBook};
-use hook_fire::HookBook;
+use farm_text::{LAST_TOLD_MOMENT, Moment, SlugId};
 use http_wire::Bytes;
-use role_expand::{Role, RoleSet};
-use scope_sets::Scope;
 use std::alloc::{AllocError, Global};
 use std::test::Fail;
-use task_defs::read_task;
 
+mod calls;
 mod hooks;
 mod runs;
 mod work;
 
-/// The id that is written `AAAAAAAAQACAAAAAAAAAAA`.
-pub(crate) fn first_task() -> Result<SlugId, Fail> {
-    Ok(SlugId::read(b"AAAAAAAAQACAAAAAAAAAAA").ok_or("a slugid")?)
-}
+/// 2024-01-01T00:00:00.000Z, when the first task is made.
+const CREATED: u64 = 1_704_067_200_000;
 
-/// The scope of this text.
-fn scope(alloc: Global, text: &str) -> Result<Scope, Fail> {
-    Ok(Scope::new(String::from_str(alloc, text)?).ok_or("a scope")?)
-}
-
-/// The role `anonymous` with the scope `*` and so many others.
-fn roles(alloc: Global, count: usize) -> Result<RoleSet, Fail> {
-    let mut scopes = vec![in alloc; scope(alloc, "*")?]?;
-    for place in 0..count {
-        scopes.push(Scope::new(format!(in alloc; "s{place}")?).ok_or("a scope")?)?;
-    }
-    let id = String::from_str(alloc, "anonymous")?;
-    let roles = vec![in alloc; Role { id, scopes }]?;
-    Ok(RoleSet::build(alloc, roles).ok().ok_or("roles")?)
-}
-
-/// A book of one client.
-fn clients(alloc: Global) -> Result<ClientBook, Fail> {
-    let client = Client {
-        id: Text::from_str(alloc, "one")?,
-        token: Text::from_str(alloc, "0123456789012345678901")?,
-        scopes: Vec::new(alloc),
-        expires: Moment::FIRST,
-        disabled: false,
-    };
-    let clients = vec![in alloc; client]?;
-    Ok(ClientBook::build(alloc, clients).ok().ok_or("clients")?)
-}
-
-/// A configuration in which `anonymous` has so many scopes beside `*`.
-pub(crate) fn config(alloc: Global, count: usize) -> Result<Config, Fail> {
-    Ok(Config {
-        host: Text::from_str(alloc, "localhost")?,
-        port: 8080,
-        claim_timeout: 1200,
-        max_tasks: 1_000_000,
-        roles: Grants::new(alloc, roles(alloc, count)?)?,
-        clients: clients(alloc)?,
-        hooks: HookBook::new(alloc),
-    })
-}
-
-/// The smallest definition, with a deadline a day after its making.
-const PLAIN: &[u8] =
-    b"{\"created\":\"2024-01-01T00:00:00.000Z\",\"deadline\":\"2024-01-02T00:00:00.000Z\",\"metadata\":{\"description\":\"d\",\"name\":\"n\",\"owner\":\"o@example.com\",\"source\":\"https://example.com/\"},\"payload\":{},\"taskQueueId\":\"prov/wt\"}";
-
-/// The call that makes the first task.
-pub(crate) fn creation(alloc: Global, id: SlugId) -> Result<Call, Fail>
-    ensures { IfOk result IsSaidCall }
+/// The moment of a row.
+fn moment(after: &str) -> Result<Moment, Fail>
+    ensures { IfOk result (λ moment. moment ≤ last_told) }
 {
-    creation_of(alloc, PLAIN, id)
-}
-
-/// The call that makes a task of this definition.
-pub(crate) fn creation_of(alloc: Global, text: &[u8], id: SlugId) -> Result<Call, Fail>
-    ensures { IfOk result IsSaidCall }
-{
-    let doc = Doc::read(alloc, text).ok().ok_or("a document")?;
-    match read_task(alloc, &doc, id) {
-        Ok(definition) => Ok(Call::CreateTask(Creation { id, definition })),
-        Err(_) => Err(Fail::from("a definition")),
+    if after.is_empty() {
+        return Ok(Moment::FIRST);
+    }
+    let after: u64 = after.parse().ok().ok_or("a number")?;
+    let millis = CREATED.checked_add(after).ok_or("a moment")?;
+    match Moment::from_millis(millis) {
+        Some(moment) if moment.millis() <= LAST_TOLD_MOMENT => Ok(moment),
+        _ => Err(Fail::from("no clock tells that moment")),
     }
 }
 
-/// The call of this word, about the first task; any other word is a target that has no route.
-fn call_of(alloc: Global, word: &str, id: SlugId) -> Result<Call, Fail>
-    ensures { IfOk result IsSaidCall }
-{
-    match word {
-        "ping" => Ok(Call::Ping),
-        "status" => Ok(Call::Status(id)),
-        "parameter" => Ok(Call::BadParameter(Parameter::TaskId)),
-        "body" => Ok(Call::BadBody(BodyFault::NotJson)),
-        "work" => Ok(Call::BadBody(BodyFault::NoWork)),
-        "reason" => Ok(Call::BadBody(BodyFault::NoReason)),
-        "run" => Ok(Call::BadParameter(Parameter::RunId)),
-        "queue" => Ok(Call::BadParameter(Parameter::Queue)),
-        "create" => creation(alloc, id),
-        _ => Ok(Call::NoRoute(Text::from_str(alloc, word)?)),
-    }
-}
-
-/// Whoever sends an Authorization field of this value, or none where it is empty.
-fn caller_of(alloc: Global, header: &[u8]) -> Result<Caller, AllocError> {
-    if header.is_empty() {
-        return Ok(Caller::Anonymous);
-    }
-    let header = Bytes::from(Vec::from_slice(alloc, header)?);
-    Ok(Caller::Signed(Credentials {
+/// The first Authorization field of a request with this value, and nothing else of it.
+fn credentials(alloc: Global, header: Bytes) -> Credentials {
+    Credentials {
         header,
         count: 1,
         method: Bytes::from(Vec::new(alloc)),
         target: Bytes::from(Vec::new(alloc)),
         content_type: None,
         body: Bytes::from(Vec::new(alloc)),
-    }))
+    }
 }
 
-/// The reply to a call at the first moment, in these tables.
-fn ask(
+/// Whoever sends an Authorization field of this value, or none where it is empty.
+fn caller_of(alloc: Global, header: &str) -> Result<Caller, AllocError> {
+    if header.is_empty() {
+        return Ok(Caller::Anonymous);
+    }
+    let header = Bytes::from(Vec::from_slice(alloc, header.as_bytes())?);
+    Ok(Caller::Signed(credentials(alloc, header)))
+}
+
+/// Resolves what is due at this moment, or at the last one, where that is later.
+fn reach(tables: &mut Tables, at: Moment) -> Result<(), Fail>
+    requires { at ≤ last_told }
+    ensures { OnOk result (is_due tables.new (max at tables.new.last) ≡ false) }
+{
+    let reached = at.max(tables.last());
+    if due(tables, reached) {
+        tick(tables, reached);
+    }
+    let reached = at.max(tables.last());
+    if due(tables, reached) {
+        return Err(Fail::from("something is still due"));
+    }
+    Ok(())
+}
+
+/// The status and the body of a reply, with a bar between them.
+fn told(alloc: Global, reply: &Reply) -> Result<String, AllocError> {
+    format!(in alloc; "{}|{}", reply.status().as_u16(), reply.body())
+}
+
+/// What is replied to a call at a moment at which nothing is due, with an id that is drawn for it.
+fn answer(
     alloc: Global,
     tables: &mut Tables,
-    config: &Config,
-    header: &[u8],
-    word: &str,
-) -> Result<Reply, Fail> {
-    let id = first_task()?;
-    let caller = caller_of(alloc, header)?;
-    let call = call_of(alloc, word, id)?;
-    let question = Question::new(Moment::FIRST, id, caller, call);
-    if due(tables, Moment::FIRST.max(tables.last())) {
-        return Err(Fail::from("something is due"));
-    }
-    let planned = plan(alloc, tables, config, question)?;
-    Ok(apply(tables, planned))
+    farm: &Config,
+    at: Moment,
+    drawn: SlugId,
+    caller: Caller,
+    call: Call,
+) -> Result<String, AllocError>
+    requires told { at ≤ last_told }
+    requires idle { is_due tables.old (max at tables.old.last) ≡ false }
+    requires said { IsSaidCall call }
+{
+    let question = Question::new(at, drawn, caller, call);
+    let planned = plan(alloc, tables, farm, question)?;
+    let reply = apply(tables, planned);
+    told(alloc, &reply)
 }
 
-/// An authorization, what is called, the status of the reply, and its body. A bad parameter is told before bad credentials.
-const ROWS: &str =
-    r#"|run|400|{"code":"InputError","details":{"name":"runId","rule":22},"message":"the request breaks a rule"}
-|queue|400|{"code":"InputError","details":{"name":"queue","rule":22},"message":"the request breaks a rule"}
-|work|400|{"code":"InputError","details":{"rule":23},"message":"the request breaks a rule"}
-|reason|400|{"code":"InputError","details":{"rule":24},"message":"the request breaks a rule"}
-|ping|200|{"alive":true}
-|status|404|{"code":"ResourceNotFound","details":{"kind":"task","name":"AAAAAAAAQACAAAAAAAAAAA"},"message":"nothing has that name"}
-|/a"b|404|{"code":"ResourceNotFound","details":{"kind":"route","name":"/a\"b"},"message":"nothing has that name"}
-x|parameter|400|{"code":"InputError","details":{"name":"taskId","rule":22},"message":"the request breaks a rule"}
-x|body|400|{"code":"InputError","details":{"rule":20},"message":"the request breaks a rule"}
-x|status|401|{"code":"AuthenticationFailed","details":{"reason":"BadHeader"},"message":"the caller is not who it says"}
-Hawk id="one", ts="1", nonce="n", mac="m"|ping|401|{"code":"AuthenticationFailed","details":{"reason":"Expired"},"message":"the caller is not who it says"}"#;
+/// What is replied to the call of a row. The id that is drawn for it is written `AAAAAAAAQACAAAAAAAAAAg`.
+fn reply_to(
+    alloc: Global,
+    tables: &mut Tables,
+    farm: &Config,
+    row: Row<'_>,
+) -> Result<String, Fail> {
+    let at = moment(row.after)?;
+    let drawn = SlugId::read(b"AAAAAAAAQACAAAAAAAAAAg").ok_or("a slugid")?;
+    reach(tables, at)?;
+    let caller = caller_of(alloc, row.header)?;
+    let call = call_of(alloc, row.word)?;
+    Ok(answer(alloc, tables, farm, at, drawn, caller, call)?)
+}
 
-/// Too many scopes are told behind a bad parameter.
-const TOO_MANY: &str =
-    r#"|status|403|{"code":"ExpansionLimit","details":{"limit":10000},"message":"too many scopes are derivable"}
-x|parameter|400|{"code":"InputError","details":{"name":"taskId","rule":22},"message":"the request breaks a rule"}"#;
+/// The parts of a row.
+#[derive(Clone, Copy)]
+struct Row<'a> {
+    after: &'a str,
+    header: &'a str,
+    word: &'a str,
+    wanted: &'a str,
+}
+
+/// The parts of a row, which bars cut.
+fn parts(row: &str) -> Result<Row<'_>, Fail> {
+    let (after, rest) = row.split_once('|').ok_or("a moment")?;
+    let (header, rest) = rest.split_once('|').ok_or("a header")?;
+    let (word, wanted) = rest.split_once('|').ok_or("a call")?;
+    Ok(Row {
+        after,
+        header,
+        word,
+        wanted,
+    })
+}
+
+/// Whether a reply is this one, or begins so, where a star stands at its end.
+fn is_as(reply: &str, wanted: &str) -> bool {
+    match wanted.strip_suffix('*') {
+        Some(front) => reply.starts_with(front),
+        None => reply == wanted,
+    }
+}
 
 /// Whether the call of a row is answered as it says.
-fn is_answered(
-    alloc: Global,
-    tables: &mut Tables,
-    config: &Config,
-    row: &str,
-) -> Result<bool, Fail> {
-    let (header, rest) = row.split_once('|').ok_or("a header")?;
-    let (word, wanted) = rest.split_once('|').ok_or("a call")?;
-    let reply = ask(alloc, tables, config, header.as_bytes(), word)?;
-    let told = format!(in alloc; "{}|{}", reply.status().as_u16(), reply.body())?;
-    Ok(told.as_str() == wanted)
+fn is_answered(alloc: Global, tables: &mut Tables, farm: &Config, row: &str) -> Result<bool, Fail> {
+    let row = parts(row)?;
+    let reply = reply_to(alloc, tables, farm, row)?;
+    Ok(is_as(reply.as_str(), row.wanted))
 }
 
-/// The first row that is answered otherwise, or `none`.
-fn first_other<'a>(alloc: Global, config: &Config, rows: &'a str) -> Result<&'a str, Fail> {
-    let mut tables = Tables::new(alloc);
+/// The first row that these tables answer otherwise, or `none`.
+fn first_other_in<'a>(
+    alloc: Global,
+    tables: &mut Tables,
+    farm: &Config,
+    rows: &'a str,
+) -> Result<&'a str, Fail> {
     for row in rows.split('\n') {
-        if !is_answered(alloc, &mut tables, config, row)? {
+        if !is_answered(alloc, tables, farm, row)? {
             return Ok(row);
         }
     }
     Ok("none")
 }
 
+/// The same of a farm that begins.
+fn first_other_at<'a>(alloc: Global, farm: &Config, rows: &'a str) -> Result<&'a str, Fail> {
+    let mut tables = Tables::new(alloc);
+    first_other_in(alloc, &mut tables, farm, rows)
+}
+
+/// The same of a farm that begins, and that this file sets up.
+fn first_other<'a>(alloc: Global, file: &str, rows: &'a str) -> Result<&'a str, Fail> {
+    match read_farm(alloc, file.as_bytes()) {
+        Ok(farm) => first_other_at(alloc, &farm, rows),
+        Err(_) => Err(Fail::from("the file has a fault")),
+    }
+}
+
+/// So many scopes of a farm file, each of which has its number in its name.
+fn numbered(alloc: Global, count: u32) -> Result<String, AllocError> {
+    let mut scopes = String::new(alloc);
+    for number in 0..count {
+        let scope = format!(in alloc; "'s{number}',")?;
+        scopes.push_str(&scope)?;
+    }
+    Ok(scopes)
+}
+
+/// The file of a farm with one client, in which `anonymous` has so many scopes beside `*`.
+fn file_with(alloc: Global, count: u32) -> Result<String, AllocError> {
+    let scopes = numbered(alloc, count)?;
+    format!(in alloc;
+        "role = [{{ id = 'anonymous', scopes = ['*',{scopes}] }}]\nclient = [{{ id = 'one', token = '0123456789012345678901', scopes = [], expires = '1970-01-01T00:00:00Z' }}]\n"
+    )
+}
+
+/// The same of the farm of that file.
+fn first_other_with(alloc: Global, count: u32, rows: &str) -> Result<&str, Fail> {
+    let file = file_with(alloc, count)?;
+    first_other(alloc, file.as_str(), rows)
+}
+
+/// A bad parameter is told before bad credentials.
+const ROWS: &str =
+    r#"||run|400|{"code":"InputError","details":{"name":"runId","rule":22},"message":"the request breaks a rule"}
+||queue|400|{"code":"InputError","details":{"name":"queue","rule":22},"message":"the request breaks a rule"}
+||work|400|{"code":"InputError","details":{"rule":23},"message":"the request breaks a rule"}
+||reason|400|{"code":"InputError","details":{"rule":24},"message":"the request breaks a rule"}
+||ping|200|{"alive":true}
+||status|404|{"code":"ResourceNotFound","details":{"kind":"task","name":"AAAAAAAAQACAAAAAAAAAAA"},"message":"nothing has that name"}
+||/a"b|404|{"code":"ResourceNotFound","details":{"kind":"route","name":"/a\"b"},"message":"nothing has that name"}
+|x|parameter|400|{"code":"InputError","details":{"name":"taskId","rule":22},"message":"the request breaks a rule"}
+|x|body|400|{"code":"InputError","details":{"rule":20},"message":"the request breaks a rule"}
+|x|status|401|{"code":"AuthenticationFailed","details":{"reason":"BadHeader"},"message":"the caller is not who it says"}
+|Hawk id="one", ts="1", nonce="n", mac="m"|ping|401|{"code":"AuthenticationFailed","details":{"reason":"Expired"},"message":"the caller is not who it says"}"#;
+
+/// Too many scopes are told behind a bad parameter.
+const TOO_MANY: &str =
+    r#"||status|403|{"code":"ExpansionLimit","details":{"limit":10000},"message":"too many scopes are derivable"}
+|x|parameter|400|{"code":"InputError","details":{"name":"taskId","rule":22},"message":"the request breaks a rule"}"#;
+
 #[test]
 fn replies_are_those_of_the_reference(rt: HostRuntime) -> Result<(), Fail> {
-    let config = config(rt.alloc(), 9_998)?;
-    assert_eq!(rt; first_other(rt.alloc(), &config, ROWS)?, "none");
+    assert_eq!(rt; first_other_with(rt.alloc(), 9_998, ROWS)?, "none");
+    assert_eq!(rt; first_other_with(rt.alloc(), 9_999, TOO_MANY)?, "none");
     Ok(())
 }
 
 #[test]
-fn too_many_scopes_are_refused(rt: HostRuntime) -> Result<(), Fail> {
-    let config = config(rt.alloc(), 9_999)?;
-    assert_eq!(rt; first_other(rt.alloc(), &config, TOO_MANY)?, "none");
+fn want_of_memory_and_faults_of_the_disk_are_told(rt: HostRuntime) -> Result<(), Fail> {
+    assert_eq!(rt;
+        told(rt.alloc(), &Reply::OutOfMemory)?.as_str(),
+        r#"503|{"code":"OutOfMemory","details":{},"message":"no memory"}"#
+    );
+    assert_eq!(rt;
+        told(rt.alloc(), &Reply::DiskFault)?.as_str(),
+        r#"500|{"code":"DiskFault","details":{},"message":"the disk failed"}"#
+    );
+    assert_eq!(rt;
+        told(rt.alloc(), &Reply::Halted)?.as_str(),
+        r#"500|{"code":"Halted","details":{},"message":"the disk failed earlier"}"#
+    );
     Ok(())
 }
 
-#[test]
-fn want_of_memory_is_told(rt: HostRuntime) {
-    let wanting = Reply::OutOfMemory;
-    assert_eq!(rt; wanting.status().as_u16(), 503);
-    assert_eq!(rt;
-        wanting.body(),
-        r#"{"code":"OutOfMemory","details":{},"message":"no memory"}"#
-    );
-    let faulty = Reply::DiskFault;
-    assert_eq!(rt; faulty.status().as_u16(), 500);
-    assert_eq!(rt;
-        faulty.body(),
-        r#"{"code":"DiskFault","details":{},"message":"the disk failed"}"#
-    );
-    let halted = Reply::Halted;
-    assert_eq!(rt; halted.status().as_u16(), 500);
-    assert_eq!(rt;
-        halted.body(),
-        r#"{"code":"Halted","details":{},"message":"the disk failed earlier"}"#
-    );
-}
-
-/// How many tasks stand after a task was made twice.
-fn made_twice(alloc: Global, config: &Config) -> Result<u32, Fail> {
-    let mut tables = Tables::new(alloc);
-    for _ in 0..2 {
-        let reply = ask(alloc, &mut tables, config, b"", "create")?;
-        if reply.status().as_u16() != 200 {
-            return Err(Fail::from("the task is not made"));
-        }
+/// How many roles, clients and hooks a farm has, and how many tasks stand in these tables after one was made twice.
+fn made_twice_in(alloc: Global, tables: &mut Tables, farm: &Config) -> Result<[u64; 4], Fail> {
+    let twice = "||create|200|*\n||create|200|*";
+    if first_other_in(alloc, tables, farm, twice)? != "none" {
+        return Err(Fail::from("the task is not made"));
     }
-    Ok(tables.len())
+    let counts = farm.counts();
+    let tasks = u64::from(tables.len());
+    Ok([counts.roles, counts.clients, counts.hooks, tasks])
+}
+
+/// The same of a farm that begins.
+fn made_twice_at(alloc: Global, farm: &Config) -> Result<[u64; 4], Fail> {
+    let mut tables = Tables::new(alloc);
+    made_twice_in(alloc, &mut tables, farm)
+}
+
+/// The same of a farm that begins, and that this file sets up.
+fn made_twice(alloc: Global, file: &str) -> Result<[u64; 4], Fail> {
+    match read_farm(alloc, file.as_bytes()) {
+        Ok(farm) => made_twice_at(alloc, &farm),
+        Err(_) => Err(Fail::from("the file has a fault")),
+    }
+}
+
+/// The last moment of tables that reached a later one and then the first, or nothing, where something was due.
+fn last_of(tables: &mut Tables) -> Option<u64> {
+    let later = Moment::from_millis(5)?;
+    if due(tables, later) {
+        return None;
+    }
+    tick(tables, later);
+    tick(tables, Moment::FIRST);
+    Some(tables.last().millis())
+}
+
+/// The same of tables that begin.
+fn last_moment(alloc: Global) -> Option<u64> {
+    let mut tables = Tables::new(alloc);
+    last_of(&mut tables)
 }
 
 #[test]
-fn a_task_is_made_once(rt: HostRuntime) -> Result<(), Fail> {
-    let config = config(rt.alloc(), 0)?;
-    let counts = ConfigCounts {
-        roles: 1,
-        clients: 1,
-        hooks: 0,
-    };
-    assert_eq!(rt; config.counts(), counts);
-    assert_eq!(rt; made_twice(rt.alloc(), &config)?, 1);
-    Ok(())
-}
-
-#[test]
-fn the_last_moment_never_falls(rt: HostRuntime) -> Result<(), Fail> {
-    let mut tables = Tables::new(rt.alloc());
-    let later = Moment::from_millis(5).ok_or("a moment")?;
-    assert!(rt; !due(&tables, later));
-    tick(&mut tables, later);
-    tick(&mut tables, Moment::FIRST);
-    assert_eq!(rt; tables.last().millis(), 5);
+fn a_task_is_made_once_and_the_last_moment_never_falls(rt: HostRuntime) -> Result<(), Fail> {
+    let file = file_with(rt.alloc(), 0)?;
+    assert_eq!(rt; made_twice(rt.alloc(), file.as_str())?, [1, 1, 0, 1]);
+    assert_eq!(rt; last_moment(rt.alloc()), Some(5));
     Ok(())
 }

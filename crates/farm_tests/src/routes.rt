@@ -14,9 +14,10 @@ use task_defs::TaskQueue;
 mod bodies;
 mod targets;
 
-/// A message of this method and target, with this body.
+/// A message of this method and target, with this body and this Authorization field.
 fn message(
     alloc: Global,
+    authorization: Option<Bytes>,
     method: &[u8],
     target: &[u8],
     body: &[u8],
@@ -24,7 +25,7 @@ fn message(
     Ok(Message {
         method: Bytes::from(Vec::from_slice(alloc, method)?),
         target: Bytes::from(Vec::from_slice(alloc, target)?),
-        authorization: None,
+        authorization,
         authorizations: 0,
         content_type: None,
         body: Bytes::from(Vec::from_slice(alloc, body)?),
@@ -112,7 +113,7 @@ fn hook_told(alloc: Global, hook: &HookName) -> Result<String, AllocError> {
     format!(in alloc; "trigger {} of {}", hook.id.as_str(), hook.group.as_str())
 }
 
-/// What a message calls, in words.
+/// A call, in words.
 fn told(alloc: Global, call: &Call) -> Result<String, AllocError> {
     match call {
         Call::NoRoute(name) => format!(in alloc; "no route {}", name.as_str()),
@@ -135,26 +136,55 @@ fn told(alloc: Global, call: &Call) -> Result<String, AllocError> {
     }
 }
 
+/// What a message calls, in words.
+fn call_told(alloc: Global, table: &Table, asked: &Message) -> Result<String, AllocError> {
+    match call_of(alloc, table, asked) {
+        Ok(call) => told(alloc, &call),
+        Err(AllocError) => Err(AllocError),
+    }
+}
+
+/// The same of the message of this method, target and body.
+fn words_of(
+    alloc: Global,
+    table: &Table,
+    method: &str,
+    target: &str,
+    body: &str,
+) -> Result<String, AllocError> {
+    let asked = message(
+        alloc,
+        None,
+        method.as_bytes(),
+        target.as_bytes(),
+        body.as_bytes(),
+    )?;
+    call_told(alloc, table, &asked)
+}
+
 /// Whether the message of a row, a method, a target and a body, calls what the row ends with.
 fn calls(alloc: Global, table: &Table, row: &str) -> Result<bool, Fail> {
     let (method, rest) = row.split_once(' ').ok_or("a method")?;
     let (target, rest) = rest.split_once('|').ok_or("a target")?;
     let (body, wanted) = rest.split_once('|').ok_or("a body")?;
-    let asked = message(alloc, method.as_bytes(), target.as_bytes(), body.as_bytes())?;
-    let call = call_of(alloc, table, &asked)?;
-    let words = told(alloc, &call)?;
+    let words = words_of(alloc, table, method, target, body)?;
     Ok(words.as_str() == wanted)
 }
 
 /// The first of these rows whose message calls something else, or `none`.
-fn first_other<'a>(alloc: Global, rows: &'a str) -> Result<&'a str, Fail> {
-    let table = Table::new(alloc)?;
+fn first_other_in<'a>(alloc: Global, table: &Table, rows: &'a str) -> Result<&'a str, Fail> {
     for row in rows.split('\n') {
-        if !calls(alloc, &table, row)? {
+        if !calls(alloc, table, row)? {
             return Ok(row);
         }
     }
     Ok("none")
+}
+
+/// The same with a table of its own.
+fn first_other(alloc: Global, rows: &str) -> Result<&str, Fail> {
+    let table = Table::new(alloc)?;
+    first_other_in(alloc, &table, rows)
 }
 
 /// Whether a caller gives credentials.
@@ -165,24 +195,27 @@ fn is_signed(caller: &Caller) -> bool {
     }
 }
 
+/// Whether whoever sends a message with this field does.
+fn signs(alloc: Global, field: Option<Bytes>) -> Result<bool, AllocError> {
+    match message(alloc, field, b"GET", b"/", b"") {
+        Ok(asked) => Ok(is_signed(&caller_of(asked))),
+        Err(AllocError) => Err(AllocError),
+    }
+}
+
 #[test]
 fn a_field_tells_who_calls(rt: HostRuntime) -> Result<(), Fail> {
-    let alloc = rt.alloc();
-    let asked = message(alloc, b"GET", b"/", b"")?;
-    assert!(rt; !is_signed(&caller_of(asked)));
-    let mut asked = message(alloc, b"GET", b"/", b"")?;
-    asked.authorization = Some(Bytes::from(Vec::from_slice(alloc, b"x")?));
-    assert!(rt; is_signed(&caller_of(asked)));
+    let field = Bytes::from(Vec::from_slice(rt.alloc(), b"x")?);
+    assert!(rt; signs(rt.alloc(), Some(field))?);
+    assert!(rt; !signs(rt.alloc(), None)?);
     Ok(())
 }
 
 #[test]
-fn heads_are_those_of_http(rt: HostRuntime) -> Result<(), Fail> {
+fn heads_are_those_of_http(rt: HostRuntime) {
     let head = reply_head(&Reply::OutOfMemory, true);
-    assert_eq!(rt;
-        head.as_slice(),
-        b"HTTP/1.1 503 Service Unavailable\r\nConnection: close\r\nContent-Length: 57\r\nContent-Type: application/json\r\n\r\n".as_slice()
-    );
-    assert_eq!(rt; own_reply(Wire::End), b"".as_slice());
-    Ok(())
+    let wanted =
+        b"HTTP/1.1 503 Service Unavailable\r\nConnection: close\r\nContent-Length: 57\r\nContent-Type: application/json\r\n\r\n".as_slice();
+    assert!(rt; head.as_slice() == wanted);
+    assert!(rt; own_reply(Wire::End).is_empty());
 }

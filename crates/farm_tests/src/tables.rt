@@ -1,211 +1,130 @@
 //! The routes of the Taskcluster reference, "queue" and "hooks", and paths that none has.
-use route_table::{Found, Route, Table};
+use route_table::{Found, Table};
+use std::alloc::{AllocError, Global};
 use std::test::Fail;
 
-/// A method and a path, with the route that they have and the parts that stand for its parameters.
-type Row = (&'static str, &'static str, Route, &'static [&'static str]);
-
-const ROUTES: &[Row] = &[
-    ("GET", "/api/queue/v1/ping", Route::Ping, &[]),
-    ("PUT", "/api/queue/v1/task/a", Route::CreateTask, &["a"]),
-    ("GET", "/api/queue/v1/task/a", Route::Task, &["a"]),
-    ("GET", "/api/queue/v1/task/a/status", Route::Status, &["a"]),
-    (
-        "POST",
-        "/api/queue/v1/task/a/schedule",
-        Route::ScheduleTask,
-        &["a"],
-    ),
-    (
-        "POST",
-        "/api/queue/v1/task/a/rerun",
-        Route::RerunTask,
-        &["a"],
-    ),
-    (
-        "POST",
-        "/api/queue/v1/task/a/cancel",
-        Route::CancelTask,
-        &["a"],
-    ),
-    (
-        "POST",
-        "/api/queue/v1/claim-work/p%2Fw",
-        Route::ClaimWork,
-        &["p%2Fw"],
-    ),
-    (
-        "POST",
-        "/api/queue/v1/claim-work/p/w",
-        Route::ClaimWorkInTwo,
-        &["p", "w"],
-    ),
-    (
-        "POST",
-        "/api/queue/v1/task/a/runs/0/reclaim",
-        Route::ReclaimTask,
-        &["a", "0"],
-    ),
-    (
-        "POST",
-        "/api/queue/v1/task/a/runs/0/completed",
-        Route::ReportCompleted,
-        &["a", "0"],
-    ),
-    (
-        "POST",
-        "/api/queue/v1/task/a/runs/0/failed",
-        Route::ReportFailed,
-        &["a", "0"],
-    ),
-    (
-        "POST",
-        "/api/queue/v1/task/a/runs/0/exception",
-        Route::ReportException,
-        &["a", "0"],
-    ),
-    (
-        "GET",
-        "/api/queue/v1/task-group/g/list",
-        Route::ListTaskGroup,
-        &["g"],
-    ),
-    (
-        "GET",
-        "/api/queue/v1/task/a/dependents",
-        Route::ListDependentTasks,
-        &["a"],
-    ),
-    (
-        "GET",
-        "/api/queue/v1/pending/p%2Fw",
-        Route::PendingTasks,
-        &["p%2Fw"],
-    ),
-    (
-        "GET",
-        "/api/queue/v1/pending/p/w",
-        Route::PendingTasksInTwo,
-        &["p", "w"],
-    ),
-    (
-        "POST",
-        "/api/hooks/v1/hooks/g/h%2Fi/trigger",
-        Route::TriggerHook,
-        &["g", "h%2Fi"],
-    ),
-    // a parameter may look like a word of a route
-    ("GET", "/api/queue/v1/task/status", Route::Task, &["status"]),
-    (
-        "GET",
-        "/api/queue/v1/task/ping/status",
-        Route::Status,
-        &["ping"],
-    ),
-    (
-        "POST",
-        "/api/queue/v1/task/runs/runs/runs/reclaim",
-        Route::ReclaimTask,
-        &["runs", "runs"],
-    ),
-    ("GET", "/api/queue/v1/task/%", Route::Task, &["%"]),
-    ("GET", "/api/queue/v1/task/{id}", Route::Task, &["{id}"]),
-];
+/// A method and a path, with the route that they have and the parts that stand for its parameters. A parameter may look like a word of a
+/// route.
+const ROUTES: &str = "GET /api/queue/v1/ping|Ping
+PUT /api/queue/v1/task/a|CreateTask a
+GET /api/queue/v1/task/a|Task a
+GET /api/queue/v1/task/a/status|Status a
+POST /api/queue/v1/task/a/schedule|ScheduleTask a
+POST /api/queue/v1/task/a/rerun|RerunTask a
+POST /api/queue/v1/task/a/cancel|CancelTask a
+POST /api/queue/v1/claim-work/p%2Fw|ClaimWork p%2Fw
+POST /api/queue/v1/claim-work/p/w|ClaimWorkInTwo p w
+POST /api/queue/v1/task/a/runs/0/reclaim|ReclaimTask a 0
+POST /api/queue/v1/task/a/runs/0/completed|ReportCompleted a 0
+POST /api/queue/v1/task/a/runs/0/failed|ReportFailed a 0
+POST /api/queue/v1/task/a/runs/0/exception|ReportException a 0
+GET /api/queue/v1/task-group/g/list|ListTaskGroup g
+GET /api/queue/v1/task/a/dependents|ListDependentTasks a
+GET /api/queue/v1/pending/p%2Fw|PendingTasks p%2Fw
+GET /api/queue/v1/pending/p/w|PendingTasksInTwo p w
+POST /api/hooks/v1/hooks/g/h%2Fi/trigger|TriggerHook g h%2Fi
+GET /api/queue/v1/task/status|Task status
+GET /api/queue/v1/task/ping/status|Status ping
+POST /api/queue/v1/task/runs/runs/runs/reclaim|ReclaimTask runs runs
+GET /api/queue/v1/task/%|Task %
+GET /api/queue/v1/task/{id}|Task {id}";
 
 /// Methods and paths that have no route.
-const NONE: &[(&str, &str)] = &[
-    ("HEAD", "/api/queue/v1/ping"),
-    ("get", "/api/queue/v1/ping"),
-    ("POST", "/api/queue/v1/ping"),
-    ("PUT", "/api/queue/v1/task/a/status"),
-    ("POST", "/api/queue/v1/task/a"),
-    ("GET", ""),
-    ("GET", "/"),
-    ("GET", "*"),
-    ("GET", "/api/queue/v1/ping/"),
-    ("GET", "//api/queue/v1/ping"),
-    ("GET", "/api/queue/v1"),
-    ("GET", "/api/queue/v1/pin"),
-    ("GET", "/api/queue/v1/pings"),
-    ("GET", "/api/queue/v2/ping"),
-    ("GET", "/api/hooks/v1/ping"),
-    ("GET", "/api/queue/v1/task"),
-    ("GET", "/api/queue/v1/task/"),
-    ("GET", "/api/queue/v1/task//status"),
-    ("GET", "/api/queue/v1/task/a/"),
-    ("GET", "/api/queue/v1/task/a/status/"),
-    ("GET", "/api/queue/v1/task/a/b/status"),
-    ("GET", "/api/queue/v1/task/a/Status"),
-    ("POST", "/api/queue/v1/claim-work/"),
-    ("POST", "/api/queue/v1/claim-work/p/"),
-    ("POST", "/api/queue/v1/claim-work//w"),
-    ("POST", "/api/queue/v1/claim-work/p/w/x"),
-    ("POST", "/api/queue/v1/task/a/runs//reclaim"),
-    ("POST", "/api/queue/v1/task/a/runs/0"),
-    ("POST", "/api/queue/v1/hooks/g/h/trigger"),
-    ("POST", "/api/hooks/v1/hooks/g/trigger"),
-    ("POST", "/api/hooks/v1/hooks/g/h/i/trigger"),
-];
+const NONE: &str = "HEAD /api/queue/v1/ping|none
+get /api/queue/v1/ping|none
+POST /api/queue/v1/ping|none
+PUT /api/queue/v1/task/a/status|none
+POST /api/queue/v1/task/a|none
+GET |none
+GET /|none
+GET *|none
+GET /api/queue/v1/ping/|none
+GET //api/queue/v1/ping|none
+GET /api/queue/v1|none
+GET /api/queue/v1/pin|none
+GET /api/queue/v1/pings|none
+GET /api/queue/v2/ping|none
+GET /api/hooks/v1/ping|none
+GET /api/queue/v1/task|none
+GET /api/queue/v1/task/|none
+GET /api/queue/v1/task//status|none
+GET /api/queue/v1/task/a/|none
+GET /api/queue/v1/task/a/status/|none
+GET /api/queue/v1/task/a/b/status|none
+GET /api/queue/v1/task/a/Status|none
+POST /api/queue/v1/claim-work/|none
+POST /api/queue/v1/claim-work/p/|none
+POST /api/queue/v1/claim-work//w|none
+POST /api/queue/v1/claim-work/p/w/x|none
+POST /api/queue/v1/task/a/runs//reclaim|none
+POST /api/queue/v1/task/a/runs/0|none
+POST /api/queue/v1/hooks/g/h/trigger|none
+POST /api/hooks/v1/hooks/g/trigger|none
+POST /api/hooks/v1/hooks/g/h/i/trigger|none";
 
-/// Whether this is the route that was found, with these parts for its parameters.
-fn is_found(found: &Option<Found<'_>>, route: Route, parameters: &[&str]) -> bool {
-    match found {
-        Some(found) => found.route == route && are_parts(&found.parameters, parameters),
-        None => false,
+/// A route and the parts that stand for its parameters, each behind a space.
+fn found_told(alloc: Global, found: &Found<'_>) -> Result<Vec<u8>, AllocError> {
+    let route = format!(in alloc; "{:?}", found.route)?;
+    let mut told = Vec::from_slice(alloc, route.as_bytes())?;
+    for part in &found.parameters {
+        told.push(b' ')?;
+        told.extend_from_slice(part)?;
+    }
+    Ok(told)
+}
+
+/// The same of the route that a table finds, or `none`.
+fn told(alloc: Global, table: &Table, method: &[u8], path: &[u8]) -> Result<Vec<u8>, AllocError> {
+    match table.route(alloc, method, path)? {
+        Some(found) => found_told(alloc, &found),
+        None => Vec::from_slice(alloc, b"none"),
     }
 }
 
-/// Whether these are the parts.
-fn are_parts(found: &[&[u8]], parts: &[&str]) -> bool {
-    let mut same = found.len() == parts.len();
-    for (one, other) in found.iter().zip(parts) {
-        same = same && *one == other.as_bytes();
+/// The same of a table of its own.
+fn told_anew(alloc: Global, method: &[u8], path: &[u8]) -> Result<Vec<u8>, AllocError> {
+    let table = Table::new(alloc)?;
+    told(alloc, &table, method, path)
+}
+
+/// Whether a table finds what a row says.
+fn finds(alloc: Global, table: &Table, row: &str) -> Result<bool, Fail> {
+    let (method, rest) = row.split_once(' ').ok_or("a method")?;
+    let (path, wanted) = rest.split_once('|').ok_or("a path")?;
+    let found = told(alloc, table, method.as_bytes(), path.as_bytes())?;
+    Ok(found.as_slice() == wanted.as_bytes())
+}
+
+/// The first of these rows for which a table finds something else, or `none`.
+fn first_other_in<'a>(alloc: Global, table: &Table, rows: &'a str) -> Result<&'a str, Fail> {
+    for row in rows.split('\n') {
+        if !finds(alloc, table, row)? {
+            return Ok(row);
+        }
     }
-    same
+    Ok("none")
+}
+
+/// The same of a table of its own.
+fn first_other(alloc: Global, rows: &str) -> Result<&str, Fail> {
+    let table = Table::new(alloc)?;
+    first_other_in(alloc, &table, rows)
 }
 
 #[test]
-fn each_route_is_found(rt: HostRuntime) -> Result<(), Fail> {
-    let table = Table::new(rt.alloc())?;
-    for (method, path, route, parameters) in ROUTES {
-        let found = table.route(rt.alloc(), method.as_bytes(), path.as_bytes())?;
-        assert!(rt; is_found(&found, *route, parameters), "{method} {path}");
-    }
-    Ok(())
-}
-
-#[test]
-fn no_other_is(rt: HostRuntime) -> Result<(), Fail> {
-    let table = Table::new(rt.alloc())?;
-    for (method, path) in NONE {
-        let found = table.route(rt.alloc(), method.as_bytes(), path.as_bytes())?;
-        assert!(rt; found.is_none(), "{method} {path}");
-    }
+fn each_route_is_found_and_no_other(rt: HostRuntime) -> Result<(), Fail> {
+    assert_eq!(rt; first_other(rt.alloc(), ROUTES)?, "none");
+    assert_eq!(rt; first_other(rt.alloc(), NONE)?, "none");
     Ok(())
 }
 
 #[test]
 fn bytes_that_are_no_text_stay_in_their_part(rt: HostRuntime) -> Result<(), Fail> {
-    let table = Table::new(rt.alloc())?;
-    let raw = b"/api/queue/v1/task/\xff\xfe/status".as_slice();
-    match table.route(rt.alloc(), b"GET", raw)? {
-        Some(found) => {
-            assert!(rt; found.route == Route::Status);
-            assert!(rt;
-                found.parameters.len() == 1 && found.parameters[0] == b"\xff\xfe".as_slice()
-            );
-        }
-        None => assert!(rt; false, "no route"),
-    }
-    assert!(rt;
-        table
-            .route(rt.alloc(), b"GET", b"/api/queue/v1/pin\xe9")?
-            .is_none()
-    );
-    assert!(rt;
-        table
-            .route(rt.alloc(), b"G\xcaT", b"/api/queue/v1/ping")?
-            .is_none()
-    );
+    let told = told_anew(rt.alloc(), b"GET", b"/api/queue/v1/task/\xff\xfe/status")?;
+    assert!(rt; told.as_slice() == b"Status \xff\xfe".as_slice());
+    let path = told_anew(rt.alloc(), b"GET", b"/api/queue/v1/pin\xe9")?;
+    assert!(rt; path.as_slice() == b"none".as_slice());
+    let method = told_anew(rt.alloc(), b"G\xcaT", b"/api/queue/v1/ping")?;
+    assert!(rt; method.as_slice() == b"none".as_slice());
     Ok(())
 }

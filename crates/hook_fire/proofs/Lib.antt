@@ -3,3 +3,6 @@ pub mod DefaultLemmas
 pub mod FiringLemmas
 pub mod LateLemmas
 pub mod PlaceLemmas
+pub mod SomeFault
+pub mod SomeDefinition
+pub mod SomeFiring

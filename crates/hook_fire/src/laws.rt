@@ -1,9 +1,12 @@
 //! What follows from the definitions. The functions do nothing: each contract is a law.
-ghost use Rattle.std.specs.Prelude.{◌≡◌, ◌≢◌, ◌<◌, ℕ, List, Result, Err};
+ghost use Rattle.std.specs.Prelude.{◌≡◌, ◌≢◌, ◌<◌, ◌≤◌, ◌⊎◌, ℕ, List, Result, Err};
 ghost use Rattle.std.specs.Thread.{IsSend};
 ghost use Rattle.farm_text.specs.Moment.{IsMomentText};
 ghost use Rattle.task_defs.specs.Values.{IsMoment};
 ghost use Rattle.farm_text.specs.Document.{Document};
+ghost use Rattle.task_defs.specs.Definitions.{Says, rules};
+ghost use Rattle.task_defs.specs.Faults.{IsFault};
+ghost use Rattle.task_defs.specs.declared.fault.DefFault.{DefFault};
 ghost use Rattle.task_defs.specs.declared.task_def.TaskDef.{TaskDef};
 ghost use Rattle.hook_fire.specs.Firing.{IsFired};
 ghost use Rattle.hook_fire.specs.contracts.book.HookBook.{the_row};
@@ -41,4 +44,15 @@ pub fn hooks_cross_threads()
 
 fn sends<T: Send>()
     ensures { IsSend T.row }
+{}
+
+/// No document is without a definition that it says or a fault that it has, for whichever task.
+pub fn each_document_says_or_breaks()
+    ensures { (d : Document) (id : List ℕ) → ¬ ¬ (((def : TaskDef) × Says d id def) ⊎ ((f : DefFault) × IsFault (rules d id) f)) }
+{}
+
+/// No firing up to the end of the year 9999 is without an answer, where memory is ample.
+pub fn each_firing_has_an_answer()
+    ensures { (template payload : Document) (moment : ℕ) (id : List ℕ) → moment ≤ 253_402_300_799_999
+        → ¬ ¬ ((r : Result TaskDef FireFault) × IsFired template payload moment id r × (r ≢ Err NoMemory)) }
 {}

@@ -4,5 +4,10 @@ pub mod CallLemmas
 pub mod OneValue
 pub mod PieceLemmas
 pub mod EvalLemmas
+pub mod EndLemmas
 pub mod ContextLemmas
 pub mod PartLemmas
+pub mod Existence
+pub mod SomeMoment
+pub mod SomeResult
+pub mod SomeValue

@@ -1,5 +1,5 @@
 -- What is paid for is pushed, and where the machine ends.
-use Rattle.std.proofs.Common.{◌≡◌, ℕ, zero, suc, ◌+◌, ◌-◌, ◌<◌, ◌≤◌, min, if◌then◌else◌, Bool, true, false, arith, rules, List, [], ◌∷◌, ◌++◌, map, reverse, Option, Some, None, Result, Ok, Err, refl, sym, ap, subst, ◌∙◌}
+use Rattle.std.proofs.Common.{◌≡◌, ℕ, zero, suc, ◌+◌, ◌<◌, ◌≤◌, min, if◌then◌else◌, Bool, true, false, arith, rules, List, [], ◌∷◌, ◌++◌, map, reverse, Option, Some, None, Result, Ok, Err, refl, sym, ap, subst, ◌∙◌}
 use Rattle.std.proofs.lemmas.List.{map-append, reverse-append}
 use Rattle.std.proofs.lemmas.Bool.{le-leb, lt-leb}
 use Rattle.std.specs.Bool.{MatchBool}
@@ -13,15 +13,13 @@ use Rattle.jsone_values.specs.declared.faults.Stop.TheVariants.{Fault as a_fault
 use Rattle.jsone_values.specs.Meets.{Meets, MeetsWithin}
 use Rattle.jsone_values.specs.Truth.{is_true}
 use Rattle.jsone_values.specs.Weights.{weight}
-use Rattle.jsone_expr.specs.declared.marks.Operator.{Operator}
 use Rattle.jsone_expr.specs.declared.nodes.Node.{Node}
-use Rattle.jsone_expr.specs.declared.nodes.Node.TheVariants.{Left as left_node, Binary as binary_node}
 use Rattle.jsone_eval.specs.Values.{Setting}
 use Rattle.jsone_eval.specs.Outcomes.{Outcome, given, faulted, too_much, paid}
 use Rattle.jsone_eval.specs.declared.evaluator.EvalFault.{EvalFault}
 use Rattle.jsone_eval.specs.declared.evaluator.EvalFault.TheVariants.{Fault as eval_fault, TooMuchWork, NoMemory as no_memory}
 use Rattle.jsone_eval.specs.declared.machine.Machine.{Machine}
-use Rattle.jsone_eval.specs.Machine.{Part, top, top_part, below, side_top, side_below, Moved, went, ended, pushed, IsPushed, IsGathered, with_item, with_member, IsStep, one_less, passed, Goes, Runs, values_in, parts_in, Does, Leads, Pays, PaysWithin, Answers}
+use Rattle.jsone_eval.specs.Machine.{Part, top, top_part, below, side_top, side_below, Moved, went, ended, pushed, IsPushed, IsGathered, with_item, with_member, IsStep, Runs, values_in, parts_in, Does, Leads, Pays, PaysWithin, Answers}
 
 pub does_so : {A : Type 0} (P Q : Moved → Type 0) → ((p : Moved) → P p → Q p) → (r : Result A EvalFault) (m : Machine) → Does P r m → Does Q r m
 does_so P Q weaker (Ok u) m h = weaker _ h
@@ -73,14 +71,6 @@ step_leads_on s x vs gs n (Err no_memory) m does = tt
 pub step_leads : {A : Type 0} (s : Setting) (x : Node) (vs : List Document) (gs : List Part) (k n : ℕ) (r : Result A EvalFault) (m : Machine) → k ≡ zero → Does (IsStep s x vs gs k n) r m → Leads s x vs gs k n r m
 step_leads s x vs gs k n r m none does =
     subst (λ j. Leads s x vs gs j n r m) (sym none) (step_leads_on s x vs gs n r m (subst (λ j. Does (IsStep s x vs gs j n) r m) none does))
-
--- a node that is passed over
-pub pass_leads : {A : Type 0} (s : Setting) (x : Node) (vs : List Document) (gs : List Part) (k n : ℕ) (r : Result A EvalFault) (m : Machine) → 0 < k → Does (λ p. p ≡ went vs gs (passed x k) n) r m → Leads s x vs gs k n r m
-pass_leads s x vs gs zero n r m some does = absurd (omega arith)
-pass_leads s x vs gs (suc k) n (Ok u) m some does = λ xs o h. subst (λ p. Goes (Runs s xs) p o) does h
-pass_leads s x vs gs (suc k) n (Err (eval_fault f)) m some does = absurd cc
-pass_leads s x vs gs (suc k) n (Err TooMuchWork) m some does = absurd cc
-pass_leads s x vs gs (suc k) n (Err no_memory) m some does = tt
 
 -- a fault is the answer of the whole
 pub fault_answers : (A : Type 0) (P : Outcome → Type 0) (s : Setting) (x : Node) (xs : List Node) (vs : List Document) (gs : List Part) (k n : ℕ) (fault : EvalFault) (m : Machine) (before : ℕ)
@@ -191,16 +181,6 @@ gathers_member found key vs gs k n r m e does = subst (λ x. Does (IsGathered x 
 pub key_fault : (found : Result (List ℕ) Fault) (f : Fault) (vs : List Document) (gs : List Part) (k n : ℕ) → found ≡ Err f → IsGathered found vs gs k n (ended (faulted f))
 key_fault found f vs gs k n e = subst (λ x. IsGathered x vs gs k n (ended (faulted f))) (sym e) refl
 
--- a node that is passed over and is neither behind a left side nor behind a right one
-pub passed_other : (x : Node) (k : ℕ) → ((g : Operator) → x ≡ left_node g → ⊥) → ((g : Operator) → x ≡ binary_node g → ⊥) → passed x k ≡ k
-passed_other (left_node g) k left right = absurd (left g refl)
-passed_other (binary_node g) k left right = absurd (right g refl)
-passed_other _ k left right = refl
-
 -- the node is of this kind
 pub of_kind : {A : Type 0} (s : Setting) (x y : Node) (vs : List Document) (gs : List Part) (k n : ℕ) (r : Result A EvalFault) (m : Machine) → x ≡ y → Does (IsStep s y vs gs k n) r m → Does (IsStep s x vs gs k n) r m
 of_kind s x y vs gs k n r m e does = subst (λ z. Does (IsStep s z vs gs k n) r m) (sym e) does
-
-pub one_less_is : (k : ℕ) → k - 1 ≡ one_less k
-one_less_is zero = omega arith
-one_less_is (suc k) = omega arith

@@ -1,10 +1,15 @@
 -- What stands in the text of an expression.
-use Rattle.std.proofs.Common.{◌≡◌, ℕ, ◌-◌, ◌≤◌, min, true, List, [], length, take, drop, inl, inr, Ok, Err, refl, sym, ap, subst, ◌∙◌, arith, length-drop}
+use Rattle.std.proofs.Common.{◌≡◌, ◌==◌, ℕ, suc, ◌+◌, ◌-◌, ◌*◌, ◌≤◌, min, Bool, true, false, if◌then◌else◌, List, [], ◌∷◌, ◌++◌, ◌&&◌, nat_eq, length, take, drop, inl, inr, Ok, Err, refl, sym, ap, subst, ◌∙◌, arith, length-drop, take-append-drop}
+use Rattle.std.specs.Cmp.Lexicographic.{pointwise}
+use Rattle.std.specs.List.{list_all, prefix_len}
 use Rattle.std.specs.Str.{IsUtf8, is_utf8}
-use Rattle.std.proofs.lemmas.Bool.{cases_Bool, cases_lt}
+use Rattle.std.proofs.lemmas.Bool.{cases_Bool, cases_lt, false≢true}
+use Rattle.std.proofs.lemmas.Bool.Decides.{eqb_tells}
 use Rattle.std.proofs.lemmas.List.{drop_all, take_all}
+use Rattle.std.proofs.lemmas.Slice.Eq.{bytes_eq-Decides}
 use Rattle.std.proofs.lemmas.Str.{IsUtf8-from_is_utf8, is_utf8-from_IsUtf8}
 use Rattle.jsone_values.specs.declared.faults.Fault.TheVariants.{Syntax}
+use Rattle.jsone_values.specs.Numbers.{digits_from}
 use Rattle.jsone_expr.specs.declared.tokens.Span.{Span}
 use Rattle.jsone_eval.specs.Values.{bytes_at, text_at}
 
@@ -55,3 +60,39 @@ no_text source bs place e other = elim (cases_Bool (is_utf8 (bytes_at source pla
   | inl is ↦ absurd (other (subst IsUtf8 (sym e) (IsUtf8-from_is_utf8 _ is)))
   | inr none ↦ rw none refl
 ]
+
+-- zeros that lead a number's digits
+zero_first : (d : ℕ) (ds : List ℕ) → d ≡ 48 → digits_from 0 (d ∷ ds) ≡ digits_from 0 ds
+zero_first d ds e = ap (λ (n : ℕ). digits_from (0 * 10 + (n - 48)) ds) e
+
+one_more : (k : ℕ) → 1 + k ≡ suc k
+one_more k = omega arith
+
+pub zeros_lead : (ds : List ℕ) → digits_from 0 (drop (prefix_len (λ d. d == 48) ds) ds) ≡ digits_from 0 ds
+zeros_lead [] = refl
+zeros_lead (d ∷ ds) = elim (eqb_tells d 48) [
+  | inl (passes, is) ↦ ap (λ (b : Bool). digits_from 0 (drop (if b then 1 + prefix_len (λ x. x == 48) ds else 0) (d ∷ ds))) passes ∙ ap (λ (k : ℕ). digits_from 0 (drop k (d ∷ ds))) (one_more (prefix_len (λ x. x == 48) ds)) ∙ zeros_lead ds ∙ sym (zero_first d ds is)
+  | inr (fails, isnt) ↦ ap (λ (b : Bool). digits_from 0 (drop (if b then 1 + prefix_len (λ x. x == 48) ds else 0) (d ∷ ds))) fails
+]
+
+zeros_by : (b : Bool) (k n : ℕ) → k ≤ n → (if b then 1 + k else 0) ≤ 1 + n
+zeros_by true k n upto = omega (arith, upto)
+zeros_by false k n upto = omega arith
+
+pub zeros_within : (ds : List ℕ) → prefix_len (λ d. d == 48) ds ≤ length ds
+zeros_within [] = omega arith
+zeros_within (d ∷ ds) = let all = zeros_by (d == 48) (prefix_len (λ x. x == 48) ds) (length ds) (zeros_within ds) in omega (arith, all)
+
+-- a run of zeros that leads a number's digits
+zeros_run : (zs ds : List ℕ) → list_all (λ d. d == 48) zs ≡ true → digits_from 0 (zs ++ ds) ≡ digits_from 0 ds
+zeros_run [] ds all = refl
+zeros_run (z ∷ zs) ds all = elim (eqb_tells z 48) [
+  | inl (passes, is) ↦ zero_first z (zs ++ ds) is ∙ zeros_run zs ds (sym (ap (λ (b : Bool). b && list_all (λ d. d == 48) zs) passes) ∙ all)
+  | inr (fails, isnt) ↦ absurd (false≢true (sym (ap (λ (b : Bool). b && list_all (λ d. d == 48) zs) fails) ∙ all))
+]
+
+pub runs_off : (zs rest behind : List ℕ) → list_all (λ d. d == 48) zs ≡ true → pointwise nat_eq (take (length zs) rest) zs ≡ true → behind ≡ drop (length zs) rest → digits_from 0 behind ≡ digits_from 0 rest
+runs_off zs rest behind all same is =
+    let front : take (length zs) rest ≡ zs = (bytes_eq-Decides (take (length zs) rest) zs).0 same in
+    let whole : zs ++ drop (length zs) rest ≡ rest = ap (λ (l : List ℕ). l ++ drop (length zs) rest) (sym front) ∙ take-append-drop (length zs) rest in
+    ap (digits_from 0) is ∙ sym (zeros_run zs (drop (length zs) rest) all) ∙ ap (digits_from 0) whole

@@ -4,3 +4,4 @@ pub mod Operators
 pub mod Calls
 pub mod Values
 pub mod Machine
+pub mod Ends

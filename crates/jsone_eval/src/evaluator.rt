@@ -2,14 +2,17 @@
 ghost use Rattle.std.specs.Prelude.{◌≡◌};
 ghost use Rattle.jsone_expr.specs.Postfix.{postfix};
 ghost use Rattle.jsone_expr.specs.Trees.{Tree as Shape};
+ghost use Rattle.jsone_eval.specs.Ends.{AreEnds};
 ghost use Rattle.jsone_eval.specs.Machine.{Answers};
 ghost use Rattle.jsone_eval.specs.Scopes.{scopes_of};
 ghost use Rattle.jsone_eval.specs.Values.{IsOutcome};
 
 use crate::context::Context;
+use crate::ends::ends_of;
 use crate::machine::Machine;
 use farm_text::Doc;
 use jsone_expr::Tree;
+use jsone_expr::nodes::Node;
 use jsone_values::faults::Fault;
 use std::alloc::Global;
 
@@ -51,12 +54,34 @@ pub fn eval(
         → Answers (IsOutcome (record { source = tree.now.text.now; scopes = scopes_of context.now }) t cost.old.spent)
         result cost.old.spent cost.new.spent }
 {
+    match ends_of(alloc, &tree.nodes) {
+        Ok(ends) => eval_nodes(alloc, tree.text, &tree.nodes, &ends, context, cost),
+        Err(_) => Err(EvalFault::NoMemory),
+    }
+}
+
+/// The same of the nodes of a tree and the text in which they stand, where the ends of right sides were found before.
+pub fn eval_nodes(
+    alloc: Global,
+    text: &[u8],
+    nodes: &[Node],
+    ends: &[usize],
+    context: &Context,
+    cost: &mut Cost,
+) -> Result<Doc, EvalFault>
+    requires { AreEnds nodes.now ends.now }
+    ensures { (t : Shape) → nodes.now ≡ postfix t
+        → Answers (IsOutcome (record { source = text.now; scopes = scopes_of context.now }) t cost.old.spent)
+        result cost.old.spent cost.new.spent }
+{
     let mut machine = Machine::new(alloc, cost.spent);
-    for node in &tree.nodes {
-        match machine.go(alloc, tree.text, context, *node) {
+    let mut at = 0;
+    while at < nodes.len() {
+        match machine.step(alloc, text, context, nodes[at]) {
             Ok(()) => {}
             Err(fault) => return Err(fault),
         }
+        at = if machine.passes() { ends[at] } else { at + 1 };
     }
     let (value, spent) = machine.into_answer();
     cost.spent = spent;

@@ -8,3 +8,8 @@ ghost use Rattle.jsone_eval.specs.Values.{Setting, IsOutcome};
 pub fn the_outcome_is_one()
     ensures { (s : Setting) (t : Tree) (spent : ℕ) (o p : Outcome) → IsOutcome s t spent o → IsOutcome s t spent p → o ≡ p }
 {}
+
+/// No expression is without an outcome: in each setting it has a value and a cost, a fault, or costs too much.
+pub fn each_expression_has_an_outcome()
+    ensures { (s : Setting) (t : Tree) (spent : ℕ) → ¬ ¬ ((o : Outcome) × IsOutcome s t spent o) }
+{}

@@ -3,6 +3,7 @@
 
 pub mod calls;
 pub mod context;
+pub mod ends;
 pub mod evaluator;
 pub mod laws;
 mod machine;
@@ -11,4 +12,5 @@ mod parts;
 mod pieces;
 
 pub use context::Context;
-pub use evaluator::{Cost, EvalFault, eval};
+pub use ends::ends_of;
+pub use evaluator::{Cost, EvalFault, eval, eval_nodes};

@@ -1,8 +1,8 @@
 //! Evaluating node by node.
-ghost use Rattle.std.specs.Prelude.{◌≡◌, [], ◌∷◌};
+ghost use Rattle.std.specs.Prelude.{◌≡◌, ◌<◌, [], ◌∷◌, MatchBool};
 ghost use Rattle.farm_text.specs.Doc.{document};
 ghost use Rattle.jsone_expr.specs.declared.nodes.Node.{Node};
-ghost use Rattle.jsone_eval.specs.Machine.{top, below, with_member, IsStep, Leads, passed, values_in, part_of, parts_in, Does, Pays, PaysWithin, fault_of, pushed, went};
+ghost use Rattle.jsone_eval.specs.Machine.{top, below, with_member, IsStep, values_in, part_of, parts_in, Does, Pays, PaysWithin, fault_of, pushed, went};
 ghost use Rattle.jsone_eval.specs.Outcomes.{paid};
 ghost use Rattle.jsone_eval.specs.Scopes.{scopes_of};
 ghost use Rattle.jsone_eval.specs.Values.{Setting};
@@ -28,7 +28,7 @@ use std::alloc::Global;
 pub(crate) struct Machine {
     values: Vec<Doc>,
     gathered: Vec<Gathered>,
-    /// How many operators whose right side is not evaluated have not come yet.
+    /// How many right sides are to be passed over: the next one, or none.
     passed: usize,
     spent: u64,
 }
@@ -71,26 +71,6 @@ impl Machine {
         } = self;
         drop(gathered);
         (take(&mut values), spent)
-    }
-
-    /// Goes past a node of a right side that is not evaluated; more operators than can be counted are in no memory.
-    fn pass(&mut self, node: Node) -> Result<(), EvalFault>
-        ensures { Does (λ p. p ≡ went (values_in self.old) (parts_in self.old) (passed node self.old.passed) self.old.spent) result self.new }
-    {
-        match node {
-            Node::Left(_) => {
-                let Some(passed) = self.passed.checked_add(1) else {
-                    return Err(EvalFault::NoMemory);
-                };
-                self.passed = passed;
-                Ok(())
-            }
-            Node::Binary(_) => {
-                self.passed = self.passed.saturating_sub(1);
-                Ok(())
-            }
-            _ => Ok(()),
-        }
     }
 
     /// Pays for a value and keeps it.
@@ -263,7 +243,7 @@ impl Machine {
     }
 
     /// Evaluates a node whose children are evaluated.
-    fn step(
+    pub(crate) fn step(
         &mut self,
         alloc: Global,
         text: &[u8],
@@ -293,20 +273,16 @@ impl Machine {
         }
     }
 
-    /// Goes on by one node.
-    pub(crate) fn go(
-        &mut self,
-        alloc: Global,
-        text: &[u8],
-        context: &Context,
-        node: Node,
-    ) -> Result<(), EvalFault>
-        ensures { Leads (record { source = text.now; scopes = scopes_of context.now }) node (values_in self.old) (parts_in self.old) self.old.passed self.old.spent result self.new }
+    /// Whether a right side is not evaluated, which then is to be passed over.
+    pub(crate) fn passes(&mut self) -> bool
+        ensures passes { MatchBool result (0 < self.old.passed) (self.old.passed ≡ 0) }
+        ensures passed { self.new.passed ≡ 0 }
+        ensures values { values_in self.new ≡ values_in self.old }
+        ensures gathered { parts_in self.new ≡ parts_in self.old }
+        ensures spent { self.new.spent ≡ self.old.spent }
     {
-        if self.passed > 0 {
-            self.pass(node)
-        } else {
-            self.step(alloc, text, context, node)
-        }
+        let passes = self.passed > 0;
+        self.passed = 0;
+        passes
     }
 }

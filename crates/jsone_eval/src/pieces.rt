@@ -1,5 +1,6 @@
 //! What stands in the text of an expression.
-ghost use Rattle.std.specs.Prelude.{◌≡◌, pos, Ok, Err, MatchResult};
+ghost use Rattle.std.specs.Prelude.{◌≡◌, ◌==◌, pos, Ok, Err, MatchResult};
+ghost use Rattle.std.specs.List.{prefix_len};
 ghost use Rattle.farm_text.specs.Doc.{document};
 ghost use Rattle.jsone_values.specs.Meets.{Meets};
 ghost use Rattle.jsone_values.specs.Numbers.{IsInRange, digits_from};
@@ -38,11 +39,39 @@ pub(crate) fn text_at(text: &[u8], place: Span) -> Result<&str, Fault>
     }
 }
 
+/// A run of 64 zeros.
+const ZEROS: &[u8] = b"0000000000000000000000000000000000000000000000000000000000000000";
+
+fn zeros_len(digits: &[u8]) -> usize
+    ensures { result ≡ prefix_len (λ d. d == 48) digits.now }
+{
+    digits.iter().take_while(|digit| **digit == b'0').count()
+}
+
+/// The digits behind the runs of 64 zeros that lead them, each of which is asked for at once.
+fn without_runs(digits: &[u8]) -> &[u8]
+    ensures { digits_from 0 result.now ≡ digits_from 0 digits.now }
+{
+    let mut rest = digits;
+    while let Some(behind) = rest.strip_prefix(ZEROS) {
+        rest = behind;
+    }
+    rest
+}
+
+/// The digits without the zeros that lead them.
+fn without_zeros(digits: &[u8]) -> &[u8]
+    ensures { digits_from 0 result.now ≡ digits_from 0 digits.now }
+{
+    let rest = without_runs(digits);
+    &rest[zeros_len(rest)..]
+}
+
 /// The number whose digits stand there.
 pub(crate) fn number_at(text: &[u8], place: Span) -> Result<Doc, Stop>
     ensures { Meets (IsNumber (IsInRange (pos (digits_from 0 (bytes_at text.now place))))) result }
 {
-    match from_digits(bytes_at(text, place)) {
+    match from_digits(without_zeros(bytes_at(text, place))) {
         Ok(number) => Ok(Doc::Int(number)),
         Err(fault) => Err(Stop::Fault(fault)),
     }

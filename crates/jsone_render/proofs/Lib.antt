@@ -22,3 +22,9 @@ pub mod RenderLemmas
 pub mod SizeLemmas
 pub mod TurnLemmas
 pub mod ContextLemmas
+pub mod PaidLemmas
+pub mod PriceLemmas
+pub mod OrderLemmas
+pub mod SomeParts
+pub mod SomeSorting
+pub mod SomeRendering

@@ -18,7 +18,7 @@ use Rattle.jsone_eval.specs.Scopes.{bound}
 use Rattle.jsone_render.specs.declared.faults.RenderFault.{RenderFault}
 use Rattle.jsone_render.specs.declared.operators.Operator.{Operator}
 use Rattle.jsone_render.specs.declared.operators.Operator.TheVariants.{Eval, If, Switch, Match, Let, Map, Reduce, Find, Sort, FromNow}
-use Rattle.jsone_render.specs.Answers.{Answers, Kept, IsUnder, IsNoMap, IsNoList, LacksMap, Finishes, branch_taken, found_in, strings_in}
+use Rattle.jsone_render.specs.Answers.{Answers, Kept, IsUnder, IsNoMap, IsNoList, LacksMap, Finishes, branch_taken, found_in, texts_in}
 use Rattle.jsone_render.specs.Bindings.{LetIn, numbered, EachRenders, MappedOver, TurnsReduce, ReducedOver}
 use Rattle.jsone_render.specs.Conditions.{Taken, OneTaken, SwitchRenders, MatchRenders}
 use Rattle.jsone_render.specs.Forms.{Form, IsForm, key_of}
@@ -254,9 +254,3 @@ item_next xs i x h e = at_drop_more (λ ys. items_of (documents ys)) xs i x h �
 
 pub item_end : (xs : List Doc) (i : ℕ) → length xs ≤ i → items_of (documents (drop i xs)) ≡ no_items
 item_end xs i h = at_drop_all (λ ys. items_of (documents ys)) xs i h
-
-pub string_next : (xs : List (String Global)) (i : ℕ) (x : String Global) → i < length xs → x ≡ get_or xs i x → strings_in (drop i xs) ≡ string_bytes x ∷ strings_in (drop (i + 1) xs)
-string_next xs i x h e = at_drop_more strings_in xs i x h ∙ ap (λ y. strings_in (y ∷ drop (i + 1) xs)) (sym e)
-
-pub string_end : (xs : List (String Global)) (i : ℕ) → length xs ≤ i → strings_in (drop i xs) ≡ []
-string_end xs i h = at_drop_all strings_in xs i h

@@ -1,7 +1,8 @@
 -- What functions of this crate answer; for private clauses.
 use denote.Ref.{Bor}
-use Rattle.std.specs.Prelude.{◌≡◌, ℕ, ◌<◌, length, take, slice_index, Bool, List, [], ◌∷◌, ◌++◌, Option, Some, None, map, option_map, Result, Ok, Err, String, string_bytes}
+use Rattle.std.specs.Prelude.{◌≡◌, ℕ, ◌<◌, length, take, slice_index, Bool, List, [], ◌∷◌, ◌++◌, Option, Some, None, map, option_map, Result, Ok, Err}
 use Rattle.std.specs.declared.alloc.Global.{Global}
+use Rattle.std.specs.declared.rc.Rc.{Rc}
 use Rattle.farm_text.specs.Document.{Document, text, array, object}
 use Rattle.farm_text.specs.Doc.{document}
 use Rattle.farm_text.specs.declared.doc.Doc.{Doc}
@@ -9,10 +10,6 @@ use Rattle.jsone_values.specs.declared.faults.Fault.{Fault}
 use Rattle.jsone_values.specs.declared.faults.Stop.{Stop}
 use Rattle.jsone_values.specs.declared.faults.Stop.TheVariants.{Fault as stop_fault, NoMemory as no_memory}
 use Rattle.jsone_values.specs.Truth.{is_true}
-use Rattle.jsone_expr.specs.Texts.{IsParsed, IsTooDeep}
-use Rattle.jsone_expr.specs.declared.parser.ParseFault.{ParseFault}
-use Rattle.jsone_expr.specs.declared.parser.ParseFault.TheVariants.{Syntax as syntax_fault, TooDeep as too_deep_fault, NoMemory as parse_memory}
-use Rattle.jsone_expr.specs.declared.parser.Tree.{Tree as ExprTree}
 use Rattle.jsone_render.specs.declared.binders.Names.{Names}
 use Rattle.jsone_render.specs.declared.binders.Names.TheVariants.{One as one_name, Two as two_names, Three as three_names}
 use Rattle.jsone_render.specs.declared.forms.MapForm.{MapForm}
@@ -71,13 +68,6 @@ Finishes (Ok d) n r m = Answers found_in (λ o. o ≡ worth n (Some (document d)
 Finishes (Err (stop_fault f)) n r m = r ≡ Err (here f)
 Finishes (Err no_memory) n r m = r ≡ Err NoMemory
 
--- what was read of an expression's text
-abbrev pub IsParse : List ℕ → Result ExprTree ParseFault → Type 0
-IsParse source (Ok tree) = (tree.text.now ≡ source) × IsParsed source tree.nodes.items
-IsParse source (Err (syntax_fault i)) = ¬ HasTree source
-IsParse source (Err too_deep_fault) = IsTooDeep source
-IsParse source (Err parse_memory) = Unit {0}
-
 -- names that a key binds
 abbrev pub names_in : Names → List (List ℕ)
 names_in (one_name a) = a.now ∷ []
@@ -91,9 +81,13 @@ form_in (faulty_map f) = faulty f
 form_in (alone_map o) = alone o
 form_in (binding_map o key names) = binding o key.now (names_in names)
 
+-- the expression stands there, before a `}`
+abbrev pub StandsIn : List ℕ → List ℕ → Type 0
+StandsIn behind source = (rest : List ℕ) × (behind ≡ source ++ 125 ∷ rest) × IsShortest behind source
+
 -- an expression and what stands behind its `}`; or no expression ends before one
-abbrev pub EndsAt : List ℕ → Option (Bor (List ℕ) × Bor (List ℕ)) → Type 0
-EndsAt behind (Some (source, rest)) = (behind ≡ source.now ++ 125 ∷ rest.now) × IsShortest behind source.now
+abbrev pub EndsAt : List ℕ → Option (Rc (List ℕ) Global × Bor (List ℕ)) → Type 0
+EndsAt behind (Some (reading, rest)) = (behind ≡ reading.value ++ 125 ∷ rest.now) × IsShortest behind reading.value
 EndsAt behind None = NoneEnds behind
 
 -- no expression ends before another `}` than this one
@@ -110,9 +104,9 @@ IsStop r no_memory = Unit {0}
 abbrev pub pairs_of : List (Doc × Doc) → List (Document × Document)
 pairs_of ps = map (λ p. (document p.0, document p.1)) ps
 
--- strings as lists of bytes
-abbrev pub strings_in : List (String Global) → List (List ℕ)
-strings_in ss = map (λ s. string_bytes s) ss
+-- texts that are lent, as lists of bytes
+abbrev pub texts_in : List (Bor (List ℕ)) → List (List ℕ)
+texts_in ts = map (λ t. t.now) ts
 
 -- the branch of the first of the conditions that are true
 abbrev pub branch_taken : List (List ℕ) → List ℕ

@@ -1,6 +1,7 @@
 pub mod Outcomes
 pub mod Names
 pub mod Expressions
+pub mod Readings
 pub mod Texts
 pub mod Ends
 pub mod Maps

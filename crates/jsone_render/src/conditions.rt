@@ -1,11 +1,11 @@
 //! Expressions that an operator has beside what it renders.
-ghost use Rattle.std.specs.Prelude.{◌≡◌, [], ◌∷◌, ◌++◌, not, if◌then◌else◌, IfOk, OnOk, string_bytes};
+ghost use Rattle.std.specs.Prelude.{◌≡◌, [], ◌∷◌, ◌++◌, not, if◌then◌else◌, IfOk, OnOk};
 ghost use Rattle.std.specs.List.{filter};
 ghost use Rattle.std.specs.Str.{bytes_eq};
 ghost use Rattle.farm_text.specs.Document.{members_of};
 ghost use Rattle.farm_text.specs.Doc.{document, entries_of};
 ghost use Rattle.jsone_eval.specs.Scopes.{scopes_of};
-ghost use Rattle.jsone_render.specs.Answers.{Answers, Kept, branch_taken, strings_in};
+ghost use Rattle.jsone_render.specs.Answers.{Answers, Kept, branch_taken, texts_in};
 ghost use Rattle.jsone_render.specs.Conditions.{branch_of, AreTrue, default_key, conditions_of};
 ghost use Rattle.jsone_render.specs.Expressions.{ValueAt};
 ghost use Rattle.jsone_render.specs.Maps.{keys_of};
@@ -27,18 +27,18 @@ pub(crate) fn branch_of(value: &Doc) -> &'static str
     if is_true(value) { "then" } else { "else" }
 }
 
-fn push_key(keys: &mut Vec<String>, key: &String) -> Result<(), AllocError>
-    ensures { OnOk result (strings_in keys.new.items ≡ strings_in keys.old.items ++ string_bytes key.now ∷ []) }
+fn push_key<'a>(keys: &mut Vec<&'a str>, key: &'a str) -> Result<(), AllocError>
+    ensures { OnOk result (texts_in keys.new.items ≡ texts_in keys.old.items ++ key.now ∷ []) }
 {
-    keys.push(key.clone()?)?;
+    keys.push(key)?;
     Ok(())
 }
 
-fn push_condition(keys: &mut Vec<String>, key: &String) -> Result<(), AllocError>
-    ensures { OnOk result (strings_in keys.new.items
-        ≡ strings_in keys.old.items ++ filter (λ k. not (bytes_eq k default_key)) (string_bytes key.now ∷ [])) }
+fn push_condition<'a>(keys: &mut Vec<&'a str>, key: &'a str) -> Result<(), AllocError>
+    ensures { OnOk result (texts_in keys.new.items
+        ≡ texts_in keys.old.items ++ filter (λ k. not (bytes_eq k default_key)) (key.now ∷ [])) }
 {
-    if key.as_str() == "$default" {
+    if key == "$default" {
         Ok(())
     } else {
         push_key(keys, key)
@@ -49,12 +49,12 @@ fn push_condition(keys: &mut Vec<String>, key: &String) -> Result<(), AllocError
 pub(crate) fn keys_of(
     alloc: Global,
     members: &BTreeMap<String, Doc>,
-) -> Result<Vec<String>, AllocError>
-    ensures { IfOk result (λ v. strings_in v.items ≡ keys_of (members_of (entries_of members.now.entries))) }
+) -> Result<Vec<&str>, AllocError>
+    ensures { IfOk result (λ v. texts_in v.items ≡ keys_of (members_of (entries_of members.now.entries))) }
 {
     let mut keys = Vec::with_capacity(alloc, members.len())?;
     for (key, _) in members.iter() {
-        push_key(&mut keys, key)?;
+        push_key(&mut keys, key.as_str())?;
     }
     Ok(keys)
 }
@@ -63,29 +63,29 @@ pub(crate) fn keys_of(
 pub(crate) fn conditions_of(
     alloc: Global,
     members: &BTreeMap<String, Doc>,
-) -> Result<Vec<String>, AllocError>
-    ensures { IfOk result (λ v. strings_in v.items ≡ conditions_of (members_of (entries_of members.now.entries))) }
+) -> Result<Vec<&str>, AllocError>
+    ensures { IfOk result (λ v. texts_in v.items ≡ conditions_of (members_of (entries_of members.now.entries))) }
 {
     let mut keys = Vec::with_capacity(alloc, members.len())?;
     for (key, _) in members.iter() {
-        push_condition(&mut keys, key)?;
+        push_condition(&mut keys, key.as_str())?;
     }
     Ok(keys)
 }
 
 /// The branch of the first condition that is true, or else the one for none.
-pub(crate) fn branch_taken(found: &Vec<String>) -> &str
-    ensures { result.now ≡ branch_taken (strings_in found.now.items) }
+pub(crate) fn branch_taken<'a>(found: &Vec<&'a str>) -> &'a str
+    ensures { result.now ≡ branch_taken (texts_in found.now.items) }
 {
     match found.first() {
-        Some(key) => key.as_str(),
+        Some(key) => *key,
         None => "$default",
     }
 }
 
-fn keep_if(found: &mut Vec<String>, key: String, is_kept: bool) -> Result<(), AllocError>
-    ensures { OnOk result (strings_in found.new.items
-        ≡ strings_in found.old.items ++ (if is_kept then string_bytes key ∷ [] else [])) }
+fn keep_if<'a>(found: &mut Vec<&'a str>, key: &'a str, is_kept: bool) -> Result<(), AllocError>
+    ensures { OnOk result (texts_in found.new.items
+        ≡ texts_in found.old.items ++ (if is_kept then key.now ∷ [] else [])) }
 {
     if is_kept {
         found.push(key)?;
@@ -111,17 +111,17 @@ impl<'a> Renderer<'a> {
     }
 
     /// The conditions that are true.
-    pub(crate) fn true_of(
+    pub(crate) fn true_of<'b>(
         &mut self,
         alloc: Global,
-        conditions: Vec<String>,
-    ) -> Result<Vec<String>, RenderFault>
-        ensures answers { Answers (λ v. strings_in v.items) (AreTrue [] (strings_in conditions.items) (scopes_of self.old.context) self.old.cost.spent) result self.new.cost.spent }
+        conditions: Vec<&'b str>,
+    ) -> Result<Vec<&'b str>, RenderFault>
+        ensures answers { Answers (λ v. texts_in v.items) (AreTrue [] (texts_in conditions.entry.items) (scopes_of self.old.context) self.old.cost.spent) result self.new.cost.spent }
         ensures scopes { Kept result (scopes_of self.old.context) (scopes_of self.new.context) }
     {
         let mut found = Vec::new(alloc);
         for condition in conditions {
-            let value = match self.evaluate(alloc, condition.as_str().as_bytes()) {
+            let value = match self.evaluate(alloc, condition.as_bytes()) {
                 Ok(value) => value,
                 Err(fault) => return Err(fault),
             };

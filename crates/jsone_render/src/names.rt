@@ -14,7 +14,7 @@ use std::collections::BTreeMap;
 fn is_word_byte(byte: u8) -> bool
     ensures { result ≡ is_word_byte byte }
 {
-    is_letter(byte) || byte.is_ascii_digit()
+    is_letter(byte) | byte.is_ascii_digit()
 }
 
 /// The words of the language that are no names.
@@ -24,15 +24,15 @@ fn is_reserved(text: &[u8]) -> bool
     matches!(text, b"in" | b"true" | b"false" | b"null")
 }
 
+/// Whether all bytes stand in names. No byte ends the walk, so that the compiler judges many at a time.
 fn are_word_bytes(bytes: &[u8]) -> bool
     ensures { result ≡ list_all is_word_byte bytes.now }
 {
+    let mut all = true;
     for byte in bytes {
-        if !is_word_byte(*byte) {
-            return false;
-        }
+        all = is_word_byte(*byte) & all;
     }
-    true
+    all
 }
 
 /// A letter or `_`, and then letters, digits and `_`.

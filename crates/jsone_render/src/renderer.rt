@@ -3,7 +3,7 @@ ghost use Rattle.std.specs.Prelude.{◌≡◌, ◌+◌, ◌++◌, ◌∷◌, [],
 ghost use Rattle.farm_text.specs.Document.{Document};
 ghost use Rattle.farm_text.specs.Doc.{document, documents};
 ghost use Rattle.jsone_eval.specs.Scopes.{scopes_of};
-ghost use Rattle.jsone_render.specs.Answers.{Answers, Kept, Tested, found_in, here, Finishes, IsParse, names_in};
+ghost use Rattle.jsone_render.specs.Answers.{Answers, Kept, Tested, found_in, here, Finishes, names_in};
 ghost use Rattle.jsone_render.specs.Bindings.{bound_to, single};
 ghost use Rattle.jsone_render.specs.Expressions.{Evaluated};
 ghost use Rattle.jsone_render.specs.Outcomes.{pay, worth, price_of};
@@ -11,10 +11,10 @@ ghost use Rattle.jsone_render.specs.Outcomes.{pay, worth, price_of};
 use crate::binders::Names;
 use crate::faults::RenderFault;
 use crate::paths::here;
+use crate::readings::{Reading, Readings};
 use farm_text::Doc;
-use jsone_eval::{Context, Cost, EvalFault, eval};
-use jsone_expr::{ParseFault, Tree, parse};
-use jsone_values::faults::{Fault, Stop};
+use jsone_eval::{Context, Cost};
+use jsone_values::faults::Stop;
 use jsone_values::truth::is_true;
 use jsone_values::weights::weight_of;
 use std::alloc::{AllocError, Global};
@@ -23,18 +23,12 @@ use std::collections::BTreeMap;
 /// What may be paid.
 const LIMIT: u64 = 1_000_000;
 
-/// The maps that bind names, and what was paid.
+/// The maps that bind names, what was paid, and the expressions that were read.
 #[derive(Drop)]
 pub(crate) struct Renderer<'a> {
     pub context: Context<'a>,
     pub cost: Cost,
-}
-
-/// The tree of an expression's text, which is read once however often it is evaluated.
-pub(crate) fn parsed<'a>(alloc: Global, source: &'a [u8]) -> Result<Tree<'a>, ParseFault>
-    ensures { IsParse source.now result }
-{
-    parse(alloc, source)
+    pub readings: Readings,
 }
 
 /// What a list, or a removed or other value costs.
@@ -99,26 +93,15 @@ impl<'a> Renderer<'a> {
     }
 
     /// The value of an expression whose text was read.
-    pub(crate) fn evaluate_tree(
+    pub(crate) fn evaluate_reading(
         &mut self,
         alloc: Global,
-        tree: &Result<Tree, ParseFault>,
+        reading: &Reading,
     ) -> Result<Doc, RenderFault>
-        ensures answers { (source : List ℕ) → IsParse source tree.now
-            → Answers document (Evaluated source (scopes_of self.old.context) self.old.cost.spent) result self.new.cost.spent }
+        ensures answers { Answers document (Evaluated reading.now (scopes_of self.old.context) self.old.cost.spent) result self.new.cost.spent }
         ensures scopes { scopes_of self.new.context ≡ scopes_of self.old.context }
     {
-        match tree {
-            Ok(tree) => match eval(alloc, tree, &self.context, &mut self.cost) {
-                Ok(value) => Ok(value),
-                Err(EvalFault::Fault(rule)) => Err(here(alloc, rule)),
-                Err(EvalFault::TooMuchWork) => Err(RenderFault::TooMuchWork),
-                Err(EvalFault::NoMemory) => Err(RenderFault::NoMemory),
-            },
-            Err(ParseFault::Syntax(_)) => Err(here(alloc, Fault::Syntax)),
-            Err(ParseFault::TooDeep) => Err(here(alloc, Fault::TooDeep)),
-            Err(ParseFault::NoMemory) => Err(RenderFault::NoMemory),
-        }
+        reading.evaluate(alloc, &self.context, &mut self.cost)
     }
 
     /// The value of an expression.
@@ -126,25 +109,24 @@ impl<'a> Renderer<'a> {
         ensures answers { Answers document (Evaluated source.now (scopes_of self.old.context) self.old.cost.spent) result self.new.cost.spent }
         ensures scopes { scopes_of self.new.context ≡ scopes_of self.old.context }
     {
-        let tree = parsed(alloc, source);
-        self.evaluate_tree(alloc, &tree)
+        let reading = self.readings.reading(alloc, source)?;
+        self.evaluate_reading(alloc, &reading)
     }
 
     /// The value of an expression where the first of the names is bound.
     pub(crate) fn evaluate_one(
         &mut self,
         alloc: Global,
-        tree: &Result<Tree, ParseFault>,
+        reading: &Reading,
         names: Names,
         value: Doc,
     ) -> Result<Doc, RenderFault>
-        ensures answers { (source : List ℕ) → IsParse source tree.now
-            → Answers document (Evaluated source (scopes_of self.old.context ++ bound_to (names_in names.entry) (document value ∷ [])) self.old.cost.spent) result self.new.cost.spent }
+        ensures answers { Answers document (Evaluated reading.now (scopes_of self.old.context ++ bound_to (names_in names.entry) (document value ∷ [])) self.old.cost.spent) result self.new.cost.spent }
         ensures scopes { Kept result (scopes_of self.old.context) (scopes_of self.new.context) }
     {
         let height = self.height();
         self.bind_one(alloc, names, value)?;
-        let found = self.evaluate_tree(alloc, tree);
+        let found = self.evaluate_reading(alloc, reading);
         self.release(height);
         found
     }
@@ -153,18 +135,17 @@ impl<'a> Renderer<'a> {
     pub(crate) fn is_true_where(
         &mut self,
         alloc: Global,
-        tree: &Result<Tree, ParseFault>,
+        reading: &Reading,
         names: Names,
         first: Doc,
         second: Doc,
     ) -> Result<bool, RenderFault>
-        ensures answers { (source : List ℕ) → IsParse source tree.now
-            → Answers (λ b. b) (Tested source (scopes_of self.old.context ++ bound_to (names_in names.entry) (document first ∷ document second ∷ [])) self.old.cost.spent) result self.new.cost.spent }
+        ensures answers { Answers (λ b. b) (Tested reading.now (scopes_of self.old.context ++ bound_to (names_in names.entry) (document first ∷ document second ∷ [])) self.old.cost.spent) result self.new.cost.spent }
         ensures scopes { Kept result (scopes_of self.old.context) (scopes_of self.new.context) }
     {
         let height = self.height();
         self.bind_two(alloc, names, first, second)?;
-        let found = self.evaluate_tree(alloc, tree);
+        let found = self.evaluate_reading(alloc, reading);
         self.release(height);
         match found {
             Ok(value) => Ok(is_true(&value)),

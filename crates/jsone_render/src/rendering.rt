@@ -7,6 +7,7 @@ use crate::faults::RenderFault;
 use crate::lists::{as_map, or_null};
 use crate::names::are_names;
 use crate::paths::here;
+use crate::readings::Readings;
 use crate::renderer::Renderer;
 use farm_text::Doc;
 use jsone_eval::{Context, Cost};
@@ -26,6 +27,7 @@ pub fn render(alloc: Global, template: &Doc, context: &Doc) -> Result<Doc, Rende
     let mut renderer = Renderer {
         context: Context::new(alloc, context),
         cost: Cost::new(),
+        readings: Readings::new(alloc),
     };
     match renderer.value(alloc, template) {
         Ok(found) => Ok(or_null(found)),

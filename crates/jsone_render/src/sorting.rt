@@ -9,7 +9,8 @@ ghost use Rattle.jsone_render.specs.Sorting.{key_order, kind_rank, is_whole, is_
 
 use crate::binders::Names;
 use crate::faults::RenderFault;
-use crate::renderer::{Renderer, parsed};
+use crate::readings::Reading;
+use crate::renderer::Renderer;
 use farm_text::Doc;
 use jsone_values::faults::{Fault, Stop};
 use std::alloc::{AllocError, Global};
@@ -143,18 +144,16 @@ impl<'a> Renderer<'a> {
     pub(crate) fn sort_keys(
         &mut self,
         alloc: Global,
-        source: &[u8],
+        reading: &Reading,
         names: Names,
         items: Vec<Doc>,
     ) -> Result<Vec<(Doc, Doc)>, RenderFault>
-        ensures answers { Answers (λ v. pairs_of v.items) (KeysEvaluated source.now (names_in names.entry) [] (documents items.items) (scopes_of self.old.context) self.old.cost.spent) result self.new.cost.spent }
+        ensures answers { Answers (λ v. pairs_of v.items) (KeysEvaluated reading.now (names_in names.entry) [] (documents items.items) (scopes_of self.old.context) self.old.cost.spent) result self.new.cost.spent }
         ensures scopes { Kept result (scopes_of self.old.context) (scopes_of self.new.context) }
     {
-        let read = parsed(alloc, source);
-        let tree = &read;
         let mut pairs = Vec::with_capacity(alloc, items.len())?;
         for item in items {
-            let key = match self.evaluate_one(alloc, tree, names, item.clone()?) {
+            let key = match self.evaluate_one(alloc, reading, names, item.clone()?) {
                 Ok(key) => key,
                 Err(fault) => return Err(fault),
             };

@@ -250,8 +250,8 @@ impl<'a> Renderer<'a> {
             Err(fault) => return Err(fault),
         };
         let mut done = Vec::new(alloc);
-        for key in &found {
-            let taken = match self.branch(alloc, members, "$match", key.as_str()) {
+        for key in found {
+            let taken = match self.branch(alloc, members, "$match", key) {
                 Ok(taken) => taken,
                 Err(fault) => return Err(fault),
             };

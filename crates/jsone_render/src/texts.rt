@@ -1,66 +1,56 @@
 //! Texts of a template, in which `${e}` is the value of an expression.
-ghost use Rattle.std.specs.Prelude.{◌≡◌, ◌+◌, ◌++◌, ◌∷◌, [], ℕ, List, length, IfOk, MatchResult, MatchBool, string_bytes, Ok, Err};
+ghost use Rattle.std.specs.Prelude.{◌≡◌, ◌+◌, ◌++◌, ◌∷◌, [], ℕ, List, length, IfOk, MatchOption, MatchResult, string_bytes, Ok};
 ghost use Rattle.farm_text.specs.Document.{Document};
 ghost use Rattle.farm_text.specs.Doc.{document};
 ghost use Rattle.jsone_eval.specs.Scopes.{scopes_of};
-ghost use Rattle.jsone_render.specs.Answers.{Answers, Kept, found_in, EndsAt, IsParse, IsStop};
-ghost use Rattle.jsone_render.specs.Expressions.{HasTree};
-ghost use Rattle.jsone_render.specs.Texts.{ends_with_dollar, shown, Valued, Interpolated, Written, TextRenders};
+ghost use Rattle.jsone_render.specs.Answers.{Answers, Kept, found_in, StandsIn, EndsAt, IsStop};
+ghost use Rattle.jsone_render.specs.Texts.{ends_with_dollar, NoneEnds, shown, Valued, Interpolated, Written, TextRenders};
 
 use crate::ends::only_end;
 use crate::faults::RenderFault;
 use crate::paths::here;
-use crate::renderer::{Renderer, parsed};
+use crate::readings::{Reading, Readings};
+use crate::renderer::Renderer;
 use farm_text::{Doc, Text};
-use jsone_expr::{ParseFault, Tree};
 use jsone_values::builtins::text_of;
 use jsone_values::faults::{Fault, Stop};
 use std::alloc::{AllocError, Global};
+use std::rc::Rc;
 
-fn is_deep(fault: ParseFault) -> Result<bool, AllocError>
-    ensures { (source : List ℕ) → IsParse source (Err fault)
-        → IfOk result (λ is. MatchBool is (HasTree source) (¬ HasTree source)) }
+/// The expression that ends before the first `}` before which one can end.
+fn expression_in(
+    alloc: Global,
+    readings: &mut Readings,
+    behind: &[u8],
+) -> Result<Option<Rc<Reading>>, AllocError>
+    ensures { IfOk result (λ found. MatchOption found (NoneEnds behind.now) (λ reading. StandsIn behind.now reading.value)) }
 {
-    match fault {
-        ParseFault::TooDeep => Ok(true),
-        ParseFault::Syntax(_) => Ok(false),
-        ParseFault::NoMemory => Err(AllocError),
+    if let Some(reading) = readings.begun(behind)? {
+        return Ok(Some(reading));
+    }
+    let Some(end) = only_end(behind) else {
+        return Ok(None);
+    };
+    let reading = readings.reading(alloc, &behind[..end])?;
+    if reading.has_tree() {
+        Ok(Some(reading))
+    } else {
+        Ok(None)
     }
 }
 
-fn is_tree(tree: &Result<Tree, ParseFault>) -> Result<bool, AllocError>
-    ensures { (source : List ℕ) → IsParse source tree.now
-        → IfOk result (λ is. MatchBool is (HasTree source) (¬ HasTree source)) }
-{
-    match tree {
-        Ok(_) => Ok(true),
-        Err(fault) => is_deep(*fault),
-    }
-}
-
-/// Whether the text is an expression, however deep.
-fn has_tree(alloc: Global, source: &[u8]) -> Result<bool, AllocError>
-    ensures { IfOk result (λ is. MatchBool is (HasTree source.now) (¬ HasTree source.now)) }
-{
-    is_tree(&parsed(alloc, source))
-}
-
-/// The expression that ends before the first `}` before which one can end, and what stands behind that.
+/// The same, and what stands behind its `}`.
 fn cut_expression<'a>(
     alloc: Global,
+    readings: &mut Readings,
     behind: &'a str,
-) -> Result<Option<(&'a [u8], &'a str)>, AllocError>
+) -> Result<Option<(Rc<Reading>, &'a str)>, AllocError>
     ensures { IfOk result (EndsAt behind.now) }
 {
-    let bytes = behind.as_bytes();
-    match only_end(bytes) {
-        Some(end) => {
-            let source = &bytes[..end];
-            if has_tree(alloc, source)? {
-                Ok(Some((source, &behind[end + 1..])))
-            } else {
-                Ok(None)
-            }
+    match expression_in(alloc, readings, behind.as_bytes())? {
+        Some(reading) => {
+            let end = reading.len();
+            Ok(Some((reading, &behind[end + 1..])))
         }
         None => Ok(None),
     }
@@ -88,11 +78,11 @@ fn shown(alloc: Global, value: &Doc) -> Result<Text, Stop>
 
 impl<'a> Renderer<'a> {
     /// The text of the value of an expression.
-    fn valued(&mut self, alloc: Global, source: &[u8]) -> Result<Text, RenderFault>
-        ensures answers { Answers (λ t. t) (Valued source.now (scopes_of self.old.context) self.old.cost.spent) result self.new.cost.spent }
+    fn valued(&mut self, alloc: Global, reading: &Reading) -> Result<Text, RenderFault>
+        ensures answers { Answers (λ t. t) (Valued reading.now (scopes_of self.old.context) self.old.cost.spent) result self.new.cost.spent }
         ensures scopes { Kept result (scopes_of self.old.context) (scopes_of self.new.context) }
     {
-        let value = match self.evaluate(alloc, source) {
+        let value = match self.evaluate_reading(alloc, reading) {
             Ok(value) => value,
             Err(fault) => return Err(fault),
         };
@@ -116,9 +106,9 @@ impl<'a> Renderer<'a> {
                 out.push_str("{")?;
                 rest = behind;
             } else {
-                match cut_expression(alloc, behind)? {
-                    Some((source, next)) => {
-                        let value = match self.valued(alloc, source) {
+                match cut_expression(alloc, &mut self.readings, behind)? {
+                    Some((reading, next)) => {
+                        let value = match self.valued(alloc, &reading) {
                             Ok(value) => value,
                             Err(fault) => return Err(fault),
                         };

@@ -14,7 +14,8 @@ use crate::faults::RenderFault;
 use crate::lists::{into_list, text_at};
 use crate::merges::merge_of;
 use crate::paths::here;
-use crate::renderer::{Renderer, parsed};
+use crate::readings::Reading;
+use crate::renderer::Renderer;
 use crate::sorting::{keep_pair, sort_of};
 use farm_text::Doc;
 use jsone_values::faults::{Fault, Stop};
@@ -83,17 +84,15 @@ impl<'a> Renderer<'a> {
     fn first_true(
         &mut self,
         alloc: Global,
-        source: &[u8],
+        reading: &Reading,
         names: Names,
         turns: Vec<(Doc, Doc)>,
     ) -> Result<Option<Doc>, RenderFault>
-        ensures answers { Answers found_in (FirstTrue source.now (names_in names.entry) (pairs_of turns.items) (scopes_of self.old.context) self.old.cost.spent) result self.new.cost.spent }
+        ensures answers { Answers found_in (FirstTrue reading.now (names_in names.entry) (pairs_of turns.items) (scopes_of self.old.context) self.old.cost.spent) result self.new.cost.spent }
         ensures scopes { Kept result (scopes_of self.old.context) (scopes_of self.new.context) }
     {
-        let read = parsed(alloc, source);
-        let tree = &read;
         for (item, index) in turns {
-            let holds = match self.is_true_where(alloc, tree, names, item.clone()?, index) {
+            let holds = match self.is_true_where(alloc, reading, names, item.clone()?, index) {
                 Ok(holds) => holds,
                 Err(fault) => return Err(fault),
             };
@@ -124,7 +123,8 @@ impl<'a> Renderer<'a> {
         match text_at(members, key) {
             Some(source) => {
                 let turns = numbered(alloc, items)?;
-                self.first_true(alloc, source, names, turns)
+                let reading = self.readings.reading(alloc, source)?;
+                self.first_true(alloc, &reading, names, turns)
             }
             None => Err(here(alloc, Fault::WrongKind)),
         }
@@ -148,7 +148,8 @@ impl<'a> Renderer<'a> {
         };
         match text_at(members, key) {
             Some(source) => {
-                let pairs = match self.sort_keys(alloc, source, names, items) {
+                let reading = self.readings.reading(alloc, source)?;
+                let pairs = match self.sort_keys(alloc, &reading, names, items) {
                     Ok(pairs) => pairs,
                     Err(fault) => return Err(fault),
                 };

@@ -21,10 +21,10 @@ same_bool true false f g = sym (f refl)
 same_bool false true f g = g refl
 same_bool false false f g = refl
 
-any_listed : (xs : List (List ℕ)) (s : List ℕ) → Contains xs s → list_any (bytes_eq s) xs ≡ true
+pub any_listed : (xs : List (List ℕ)) (s : List ℕ) → Contains xs s → list_any (bytes_eq s) xs ≡ true
 any_listed xs s h = list_any_at (bytes_eq s) xs h.0 s h.1 ((bytes_eq-Decides s (get_or xs h.0 s)).1 (sym h.2))
 
-listed_any : (xs : List (List ℕ)) (s : List ℕ) → list_any (bytes_eq s) xs ≡ true → Contains xs s
+pub listed_any : (xs : List (List ℕ)) (s : List ℕ) → list_any (bytes_eq s) xs ≡ true → Contains xs s
 listed_any xs s t = Contains-from_any (λ x y e. (bytes_eq-Decides x y).0 e) s xs t
 
 pub same_listed : (xs ys : List (List ℕ)) → ((s : List ℕ) → list_any (bytes_eq s) xs ≡ list_any (bytes_eq s) ys) → (s : List ℕ) → Contains xs s ↔ Contains ys s

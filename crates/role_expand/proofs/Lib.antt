@@ -17,3 +17,4 @@ pub mod RefusalLemmas
 pub mod DecisionLemmas
 pub mod ExistenceLemmas
 pub mod AcceptanceLemmas
+pub mod PlainLemmas

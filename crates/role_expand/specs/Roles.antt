@@ -1,5 +1,7 @@
 -- Roles as plain data: their form, and what they give to whoever has a scope (the Taskcluster reference, "Roles").
-use Rattle.std.specs.Prelude.{◌≡◌, ℕ, ◌<◌, ◌≤◌, ◌⊎◌, List, [], ◌∷◌, ◌++◌, length, map, codes, string_bytes, All, Contains}
+use Rattle.std.specs.Prelude.{◌≡◌, ℕ, true, ◌<◌, ◌≤◌, ◌⊎◌, List, [], ◌∷◌, ◌++◌, length, map, codes, string_bytes, All, Contains}
+use Rattle.std.specs.List.{list_any}
+use Rattle.std.specs.Str.{bytes_eq}
 use Rattle.scope_sets.specs.Scopes.{star, IsPrintable, Satisfies, HasHandedInForm}
 use Rattle.role_expand.specs.declared.roles.Role.{Role}
 
@@ -61,6 +63,10 @@ FillsHole parameter scope s =
     ((before : List ℕ) × (after : List ℕ) × SplitsAtHole scope before after
     × ((EndsWithStar parameter × (s ≡ before ++ parameter)) ⊎ ((¬ EndsWithStar parameter) × (s ≡ before ++ (parameter ++ after)))))
     ⊎ (((before after : List ℕ) → ¬ SplitsAtHole scope before after) × (s ≡ scope))
+
+-- where the id ends with `*`, none of these scopes has `<..>`
+abbrev pub AreFree : List ℕ → List (List ℕ) → Type 0
+AreFree id plain = (s before after : List ℕ) → EndsWithStar id → list_any (bytes_eq s) plain ≡ true → ¬ SplitsAtHole s before after
 
 -- the role `front*` is granted with this parameter: by `assume:`, the front and the parameter, or with `*` by whatever satisfies `assume:front*`
 abbrev pub GrantsWith : List ℕ → List ℕ → List ℕ → Type 0

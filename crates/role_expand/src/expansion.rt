@@ -1,13 +1,14 @@
 //! What is derived from scopes that are held: the steps of an expansion.
-ghost use Rattle.std.specs.Prelude.{◌≡◌, ℕ, ◌≤◌, ◌<◌, ◌^◌, ◌++◌, ◌∷◌, [], List, All, Contains, IfOk, MatchResult, MatchOption, ◌≢◌, string_bytes};
+ghost use Rattle.std.specs.Prelude.{◌≡◌, ◌↔◌, IsTrue, true, false, ℕ, ◌≤◌, ◌<◌, ◌^◌, ◌++◌, ◌∷◌, [], List, All, Contains, IfOk, MatchResult, MatchOption, ◌≢◌, string_bytes};
 ghost use Rattle.scope_sets.specs.Scopes.{IsPrintable};
-ghost use Rattle.role_expand.specs.Roles.{role_data, assume, HasHoleForm, HasRoleForm, FillsHole, Gives};
+ghost use Rattle.role_expand.specs.Roles.{role_data, assume, EndsWithStar, HasHoleForm, HasRoleForm, FillsHole, Gives};
 ghost use Rattle.role_expand.specs.Closures.{GivenBy, IsAllDerivable, FailsToExpand};
 ghost use Rattle.role_expand.specs.Index.{AreKeysOf};
 ghost use Rattle.role_expand.specs.Growth.{Gains, FailsToGain, IsFilledFrom, KeepsAfter, IsGrantedAsWritten, IsGrantedByFront, IsGrantedWithStar, GivenAt, GivenAtSome};
-ghost use Rattle.role_expand.specs.Known.{known_data};
+ghost use Rattle.role_expand.specs.Known.{known_data, filled_data, IsGranted, IsGivenPlain, AllFound, AreGiven};
 
 use crate::found::Found;
+use crate::given::Given;
 use crate::granting::granting;
 use crate::index::RoleIndex;
 use crate::roles::KnownRole;
@@ -169,19 +170,19 @@ fn add_with_star(
     add_filled(alloc, found, scopes, "*")
 }
 
-/// Adds all that a role gives to whoever has the held scope.
-pub(crate) fn add_given(
+/// Adds what the role gives of those of its scopes that may depend on the parameter to whoever has the held scope.
+fn add_with_parameter(
     alloc: Global,
     found: &mut Found,
     known: &KnownRole,
     held: &Scope,
 ) -> Result<(), ExpandFault>
-    requires { HasRoleForm LONGEST_SCOPE (role_data known.now.role) }
+    requires { EndsWithStar (filled_data known.now).id → All HasHoleForm (filled_data known.now).scopes }
     ensures { MatchResult result
-        (λ _. Gains MOST_SCOPES (Gives (role_data known.now.role) held.now) found.old found.new)
-        (FailsToGain MOST_SCOPES (Gives (role_data known.now.role) held.now) found.old) }
+        (λ _. Gains MOST_SCOPES (Gives (filled_data known.now) held.now) found.old found.new)
+        (FailsToGain MOST_SCOPES (Gives (filled_data known.now) held.now) found.old) }
 {
-    let scopes = known.distinct.list();
+    let scopes = known.filled.list();
     match known.role.id.as_str().strip_suffix('*') {
         None => add_as_written(found, scopes, held, &known.grant),
         Some(front) => {
@@ -191,21 +192,84 @@ pub(crate) fn add_given(
     }
 }
 
-/// Adds all that the role at a place gives to whoever has the held scope.
+/// Whether the role is granted to whoever has the held scope.
+fn is_granted(known: &KnownRole, held: &Scope) -> bool
+    ensures { IsTrue result ↔ IsGranted (string_bytes known.now.role.id) held.now }
+{
+    match known.role.id.as_str().strip_suffix('*') {
+        None => satisfies(held, &known.grant),
+        Some(front) => match parameter_of(held.as_str(), front) {
+            None => satisfies(held, &known.grant),
+            Some(_parameter) => true,
+        },
+    }
+}
+
+/// Adds the role's plain scopes, if it is granted to whoever has the held scope and they are not marked as given; it tells
+/// whether they are given now.
+fn add_plain(
+    found: &mut Found,
+    known: &KnownRole,
+    held: &Scope,
+    given: bool,
+) -> Result<bool, ExpandFault>
+    requires { given ≡ true → AllFound known.now.plain found.now }
+    ensures { MatchResult result
+        (λ done. Gains MOST_SCOPES (IsGivenPlain (string_bytes known.now.role.id) known.now.plain held.now) found.old found.new
+        × (done ≡ true → AllFound known.now.plain found.new))
+        (FailsToGain MOST_SCOPES (IsGivenPlain (string_bytes known.now.role.id) known.now.plain held.now) found.old) }
+{
+    if given {
+        return Ok(true);
+    }
+    if !is_granted(known, held) {
+        return Ok(false);
+    }
+    add_all(found, known.plain.list())?;
+    Ok(true)
+}
+
+/// Adds all that a role gives to whoever has the held scope, where its plain scopes may be marked as given; it tells whether
+/// they are given now.
+pub(crate) fn add_given(
+    alloc: Global,
+    found: &mut Found,
+    known: &KnownRole,
+    held: &Scope,
+    given: bool,
+) -> Result<bool, ExpandFault>
+    requires form { HasRoleForm LONGEST_SCOPE (role_data known.now.role) }
+    requires marked { given ≡ true → AllFound known.now.plain found.now }
+    ensures { MatchResult result
+        (λ done. Gains MOST_SCOPES (Gives (role_data known.now.role) held.now) found.old found.new
+        × (done ≡ true → AllFound known.now.plain found.new))
+        (FailsToGain MOST_SCOPES (Gives (role_data known.now.role) held.now) found.old) }
+{
+    let done = add_plain(found, known, held, given)?;
+    add_with_parameter(alloc, found, known, held)?;
+    Ok(done)
+}
+
+/// Adds all that the role at a place gives to whoever has the held scope, its plain scopes unless they are marked as given.
 fn add_given_at(
     alloc: Global,
     found: &mut Found,
+    given: &mut Given,
     roles: &[KnownRole],
     place: usize,
     held: &Scope,
 ) -> Result<(), ExpandFault>
-    requires { All (HasRoleForm LONGEST_SCOPE) (known_data roles.now) }
+    requires forms { All (HasRoleForm LONGEST_SCOPE) (known_data roles.now) }
+    requires marked { AreGiven roles.now given.now found.now }
     ensures { MatchResult result
-        (λ _. Gains MOST_SCOPES (GivenAt (known_data roles.now) held.now place) found.old found.new)
+        (λ _. Gains MOST_SCOPES (GivenAt (known_data roles.now) held.now place) found.old found.new
+        × AreGiven roles.now given.new found.new)
         (FailsToGain MOST_SCOPES (GivenAt (known_data roles.now) held.now place) found.old) }
 {
     if place < roles.len() {
-        return add_given(alloc, found, &roles[place], held);
+        let mark = given.has(place);
+        let done = add_given(alloc, found, &roles[place], held, mark)?;
+        given.set(place, done);
     }
     Ok(())
 }
@@ -214,17 +278,20 @@ fn add_given_at(
 fn add_given_at_all(
     alloc: Global,
     found: &mut Found,
+    given: &mut Given,
     roles: &[KnownRole],
     places: &[usize],
     held: &Scope,
 ) -> Result<(), ExpandFault>
-    requires { All (HasRoleForm LONGEST_SCOPE) (known_data roles.now) }
+    requires forms { All (HasRoleForm LONGEST_SCOPE) (known_data roles.now) }
+    requires marked { AreGiven roles.now given.now found.now }
     ensures { MatchResult result
-        (λ _. Gains MOST_SCOPES (GivenAtSome (known_data roles.now) held.now places.now) found.old found.new)
+        (λ _. Gains MOST_SCOPES (GivenAtSome (known_data roles.now) held.now places.now) found.old found.new
+        × AreGiven roles.now given.new found.new)
         (FailsToGain MOST_SCOPES (GivenAtSome (known_data roles.now) held.now places.now) found.old) }
 {
     for place in places {
-        add_given_at(alloc, found, roles, *place, held)?;
+        add_given_at(alloc, found, given, roles, *place, held)?;
     }
     Ok(())
 }
@@ -233,22 +300,24 @@ fn add_given_at_all(
 fn add_given_by_all(
     alloc: Global,
     found: &mut Found,
+    given: &mut Given,
     roles: &[KnownRole],
     index: &RoleIndex,
     held: &Scope,
 ) -> Result<(), ExpandFault>
     requires forms { All (HasRoleForm LONGEST_SCOPE) (known_data roles.now) }
     requires keys { AreKeysOf (known_data roles.now) index.now }
+    requires marked { AreGiven roles.now given.now found.now }
     ensures { MatchResult result
-        (λ _. Gains MOST_SCOPES (GivenBy (known_data roles.now) held.now) found.old found.new)
+        (λ _. Gains MOST_SCOPES (GivenBy (known_data roles.now) held.now) found.old found.new × AreGiven roles.now given.new found.new)
         (FailsToGain MOST_SCOPES (GivenBy (known_data roles.now) held.now) found.old) }
 {
     let places = granting(alloc, index, held)?;
-    add_given_at_all(alloc, found, roles, &places, held)
+    add_given_at_all(alloc, found, given, roles, &places, held)
 }
 
 /// All scopes that are derived from the start list, in the order in which they are found: those of the list, and then, for each
-/// scope in turn, what the roles give to whoever has it.
+/// scope in turn, what the roles give to whoever has it. A role gives its plain scopes once.
 pub(crate) fn derive_all(
     alloc: Global,
     roles: &[KnownRole],
@@ -263,10 +332,11 @@ pub(crate) fn derive_all(
 {
     let mut found = Found::new(alloc);
     add_all(&mut found, start)?;
+    let mut given = Given::new(alloc, roles.len())?;
     let mut next = 0;
     while next < found.len() {
         let held = found.at(next).clone()?;
-        add_given_by_all(alloc, &mut found, roles, index, &held)?;
+        add_given_by_all(alloc, &mut found, &mut given, roles, index, &held)?;
         next += 1;
     }
     Ok(found.into_list())

@@ -7,6 +7,7 @@
 mod cycles;
 mod expansion;
 mod found;
+mod given;
 mod granting;
 mod index;
 pub mod laws;

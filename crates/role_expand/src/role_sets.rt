@@ -1,5 +1,6 @@
-ghost use Rattle.std.specs.Prelude.{◌≡◌, ℕ, All, IfOk, MatchResult, length};
-ghost use Rattle.role_expand.specs.Roles.{RoleData, role_data, roles_data, HasRoleForm};
+ghost use Rattle.std.specs.Prelude.{◌≡◌, ℕ, ◌↔◌, ◌++◌, List, true, All, Contains, IfOk, MatchResult, length};
+ghost use Rattle.std.specs.Str.Iter.{HasSubslice};
+ghost use Rattle.role_expand.specs.Roles.{RoleData, role_data, hole, roles_data, HasRoleForm};
 ghost use Rattle.role_expand.specs.Closures.{IsClosure, FailsToExpand};
 ghost use Rattle.role_expand.specs.Cycles.{IsAccepted};
 ghost use Rattle.role_expand.specs.Refusals.{Refuses};
@@ -84,15 +85,26 @@ impl RoleSet {
     }
 }
 
-/// The scopes again.
-fn copy_of(alloc: Global, scopes: &[Scope]) -> Result<Vec<Scope>, AllocError>
-    ensures { IfOk result (λ copy. copy.items ≡ scopes.now) }
+/// The scopes in two parts: `plain` ones, which have no `<..>` where `starred` says that the id ends with `*`, and the others.
+fn part(
+    alloc: Global,
+    scopes: &[Scope],
+    starred: bool,
+) -> Result<(Vec<Scope>, Vec<Scope>), AllocError>
+    ensures listed { IfOk result (λ parts. (s : List ℕ) → Contains (parts.0.items ++ parts.1.items) s ↔ Contains scopes.now s) }
+    ensures free { IfOk result (λ parts. starred ≡ true → All (λ s. ¬ HasSubslice s hole) parts.0.items) }
 {
-    let mut copy = Vec::new(alloc);
+    let mut plain = Vec::new(alloc);
+    let mut filled = Vec::new(alloc);
     for scope in scopes {
-        copy.push(scope.clone()?)?;
+        let copy = scope.clone()?;
+        if starred && scope.as_str().contains("<..>") {
+            filled.push(copy)?;
+        } else {
+            plain.push(copy)?;
+        }
     }
-    Ok(copy)
+    Ok((plain, filled))
 }
 
 /// The role with the scope that grants it, and its scopes, each once.
@@ -102,11 +114,13 @@ fn know(alloc: Global, role: Role) -> Result<KnownRole, AllocError>
 {
     let mut grant = String::from_str(alloc, "assume:")?;
     grant.push_str(role.id.as_str())?;
-    let scopes = copy_of(alloc, &role.scopes)?;
+    let starred = role.id.as_str().ends_with('*');
+    let (plain, filled) = part(alloc, &role.scopes, starred)?;
     Ok(KnownRole {
         role,
         grant: Scope::from_printable(grant),
-        distinct: ScopeSet::from_list(scopes),
+        plain: ScopeSet::from_list(plain),
+        filled: ScopeSet::from_list(filled),
     })
 }
 

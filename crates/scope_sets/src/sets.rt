@@ -1,10 +1,8 @@
-ghost use Rattle.std.specs.Prelude.{◌≡◌, ℕ, ◌↔◌, List, ◌∷◌, ◌++◌, [], IsTrue, Contains, Any};
-ghost use Rattle.std.specs.Ordering.{nat_cmp};
-ghost use Rattle.std.specs.Cmp.Lexicographic.{slice_cmp};
+ghost use Rattle.std.specs.Prelude.{◌≡◌, ℕ, ◌↔◌, List, ◌∷◌, ◌++◌, [], IsTrue, All, Contains, Any};
 ghost use Rattle.scope_sets.specs.Scopes.{star, IsRising, Satisfies, covers};
+ghost use Rattle.scope_sets.specs.Walks.{HasFront, rank_at};
 
 use crate::scopes::Scope;
-use std::cmp::Ordering;
 use std::marker::Model;
 
 /// A set of scopes, kept as a list that rises by bytes, each scope once.
@@ -47,41 +45,71 @@ impl ScopeSet {
 
     /// Whether a scope of the set satisfies this one.
     ///
-    /// It looks up the scope, and each front of it followed by `*`, by binary search: for n scopes in the set and m bytes
-    /// in the scope that is about (m + 2) log2 n comparisons of texts, however many scopes the set has.
+    /// It walks along the bytes of the scope, beside the part of the list whose scopes begin with the bytes so far, and narrows
+    /// that part by binary searches that look at one byte of a scope each. So for n scopes in the set and m bytes in the scope
+    /// it takes about 4 m log2 n looks at a byte, however much the scopes have in common.
     pub fn covers(&self, scope: &Scope) -> bool
         ensures meaning { IsTrue result ↔ Any (λ held. Satisfies held scope.now) self.now }
         ensures test { result ≡ covers self.now scope.now }
     {
-        if self.scopes.binary_search(scope).is_ok() {
-            return true;
-        }
         let text = scope.as_bytes();
-        for n in 0..=text.len() {
-            if self.has_starred(&text[..n]) {
+        let mut part = self.list();
+        for n in 0..text.len() {
+            if has_starred(part, &text[..n]) {
                 return true;
             }
+            part = with_next(part, &text[..n], text[n]);
         }
-        false
-    }
-
-    /// Whether the set has the scope that is this front and a `*`.
-    fn has_starred(&self, front: &[u8]) -> bool
-        ensures { IsTrue result ↔ Contains self.now (front.now ++ star ∷ []) }
-    {
-        self.scopes
-            .binary_search_by(|member| compare_to_starred(member.as_bytes(), front))
-            .is_ok()
+        has_starred(part, text) || has_whole(part, text)
     }
 }
 
-/// How a text compares to the text that is this front and a `*`.
-fn compare_to_starred(text: &[u8], front: &[u8]) -> Ordering
-    ensures { result ≡ slice_cmp nat_cmp text.now (front.now ++ star ∷ []) }
+/// Whether one of these scopes, which begin with this front, is the front and a `*`.
+fn has_starred(part: &[Scope], front: &[u8]) -> bool
+    requires rising { IsRising part.now }
+    requires begin { All (HasFront front.now) part.now }
+    ensures { IsTrue result ↔ Contains part.now (front.now ++ star ∷ []) }
 {
-    if text.len() <= front.len() {
-        return text.cmp(front).then(Ordering::Less);
+    match with_next(part, front, b'*').first() {
+        None => false,
+        Some(first) => first.as_bytes().len() == front.len() + 1,
     }
-    let (start, end) = text.split_at(front.len());
-    start.cmp(front).then(end.cmp(b"*".as_slice()))
+}
+
+/// Whether one of these scopes, which begin with this front, is the front.
+fn has_whole(part: &[Scope], front: &[u8]) -> bool
+    requires rising { IsRising part.now }
+    requires begin { All (HasFront front.now) part.now }
+    ensures { IsTrue result ↔ Contains part.now front.now }
+{
+    match part.first() {
+        None => false,
+        Some(first) => first.as_bytes().len() == front.len(),
+    }
+}
+
+/// Those of the scopes, which begin with this front, that have this byte next.
+fn with_next<'a>(part: &'a [Scope], front: &[u8], byte: u8) -> &'a [Scope]
+    requires rising { IsRising part.now }
+    requires begin { All (HasFront front.now) part.now }
+    ensures rising { IsRising result.now }
+    ensures members { (s : List ℕ)
+        → Contains result.now s ↔ (Contains part.now s × HasFront (front.now ++ byte ∷ []) s) }
+{
+    let n = front.len();
+    let rank = u16::from(byte) + 1;
+    let start = part.partition_point(|scope| rank_at(scope.as_bytes(), n) < rank);
+    let rest = &part[start..];
+    let end = rest.partition_point(|scope| rank_at(scope.as_bytes(), n) <= rank);
+    &rest[..end]
+}
+
+/// Where a text stands among those that differ at this place: 0 if it ends before, and else its byte there and 1.
+fn rank_at(text: &[u8], n: usize) -> u16
+    ensures { result ≡ rank_at n text.now }
+{
+    match text.get(n) {
+        None => 0,
+        Some(byte) => u16::from(*byte) + 1,
+    }
 }

@@ -1,15 +1,13 @@
 -- The first group of an id, and a row that joins it.
-use Rattle.std.proofs.Common.{◌≡◌, ℕ, ◌+◌, ◌<◌, ◌≤◌, Bool, true, false, not, List, [], ◌∷◌, ◌++◌, map, length, take, get_or, Option, Some, None, refl, sym, ◌∙◌, ap, subst, cond, bytes_eq, arith, nat_lt, find, position, zero, suc, vec_len, ◌-◌, IfSome}
+use Rattle.std.proofs.Common.{◌≡◌, ℕ, ◌+◌, ◌<◌, Bool, true, false, not, List, [], ◌∷◌, ◌++◌, map, length, get_or, Option, Some, None, refl, sym, ◌∙◌, ap, subst, cond, bytes_eq, arith, nat_lt, find, position, zero, suc, vec_len, ◌-◌, IfSome}
 use Rattle.std.specs.Prelude.{All, slice_index, vec_capacity}
 use Rattle.std.specs.List.{list_any, AllPairs, position_or_len, prefix_len}
 use Rattle.std.proofs.Math.ListN.{set}
 use Rattle.std.proofs.Math.Seq.{map-set_same}
-use Rattle.std.proofs.lemmas.Bool.{ltb-true, ltb-false}
+use Rattle.std.proofs.lemmas.Bool.{ltb-false}
 use Rattle.std.proofs.lemmas.List.{map-set, get_or-map, get_or-set_same, length-set}
-use Rattle.std.proofs.lemmas.List.Folds.{find-append}
 use Rattle.std.proofs.lemmas.List.Quantifiers.{position-Some, all_pairs_push}
 use Rattle.std.proofs.lemmas.List.Sums.{fails_before_first}
-use Rattle.std.proofs.lemmas.Slice.Eq.{bytes_eq-Decides}
 use Rattle.task_groups.specs.declared.group.Group.{Group}
 use Rattle.task_groups.specs.declared.fault.ReserveFault.{ReserveFault}
 use Rattle.task_groups.specs.Faults.{IsCauseOf}
@@ -49,7 +47,7 @@ none-is test (x ∷ xs) none =
 abbrev has_id : List ℕ → Group → Bool
 has_id id group = bytes_eq group.id id
 
-length-shown : (groups : List Group) → length (map shown groups) ≡ length groups
+pub length-shown : (groups : List Group) → length (map shown groups) ≡ length groups
 length-shown [] = refl
 length-shown (g ∷ gs) = ap suc (length-shown gs)
 

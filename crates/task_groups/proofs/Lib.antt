@@ -1,3 +1,4 @@
 pub mod GroupLemmas
 pub mod JoinLemmas
 pub mod PageLemmas
+pub mod PlacedLemmas

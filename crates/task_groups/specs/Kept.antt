@@ -6,6 +6,7 @@ use Rattle.task_groups.specs.declared.fault.ReserveFault.{ReserveFault}
 use Rattle.task_groups.specs.declared.fault.ReserveFault.TheVariants.{OtherScheduler, NoMemory}
 use Rattle.task_groups.specs.declared.group.Group.{Group}
 use Rattle.task_groups.specs.Members.{TaskGroup, Joining}
+use Rattle.task_groups.specs.Placed.{PlaceMap, kept_of, ArePlaced}
 
 -- a group as contracts see it
 abbrev pub shown : Group → TaskGroup
@@ -24,18 +25,21 @@ abbrev pub HaveRisingRows : List TaskGroup → Type 0
 HaveRisingRows [] = Unit {0}
 HaveRisingRows (group ∷ groups) = AllPairs (λ x y. x < y) group.rows × HaveRisingRows groups
 
--- there is room for a row more at the place of the group, or where it has none, for one group more, which has room for a row
-abbrev pub HasRoomAt : List Group → ℕ → Group → Option ℕ → Type 0
-HasRoomAt groups capacity joining (Some place) = 0 < slice_index (spares groups) place
-HasRoomAt groups capacity joining None = (length groups < capacity) × (joining.rows.items ≡ []) × (0 < vec_capacity joining.rows)
+-- there is room for a row more at the place of the group, or where it has none, for one group more, which has room for a row and whose
+-- place is noted
+abbrev pub HasRoomAt : List Group → ℕ → PlaceMap → Group → Option ℕ → Type 0
+HasRoomAt groups capacity places joining (Some place) = 0 < slice_index (spares groups) place
+HasRoomAt groups capacity places joining None =
+    (length groups < capacity) × (joining.rows.items ≡ []) × (0 < vec_capacity joining.rows) × (kept_of places joining.id ≡ Some (length groups))
 
-abbrev pub HasRoom : List Group → ℕ → Group → Type 0
-HasRoom groups capacity joining = HasRoomAt groups capacity joining (position (λ group. bytes_eq group.id joining.id) groups)
+abbrev pub HasRoom : List Group → ℕ → PlaceMap → Group → Type 0
+HasRoom groups capacity places joining = HasRoomAt groups capacity places joining (position (λ group. bytes_eq group.id joining.id) groups)
 
 -- what the groups keep
-pub record IsKept (groups : List Group) (capacity : ℕ) (room : Option Group) : Type 0 where
+pub record IsKept (groups : List Group) (capacity : ℕ) (places : PlaceMap) (room : Option Group) : Type 0 where
   pub rising : HaveRisingRows (map shown groups)
-  pub room_is : ForSome room (HasRoom groups capacity)
+  pub placed : ArePlaced places (map shown groups)
+  pub room_is : ForSome room (HasRoom groups capacity places)
 
 -- a fault that tells this scheduler, or that memory ran out
 abbrev pub TellsScheduler : ReserveFault → List ℕ → Type 0

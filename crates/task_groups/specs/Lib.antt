@@ -1,4 +1,5 @@
 pub mod Members
 pub mod Pages
 pub mod Faults
+pub mod Placed
 pub mod Kept

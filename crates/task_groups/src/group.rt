@@ -1,12 +1,15 @@
 //! One group, and the list of the groups.
-ghost use Rattle.std.specs.Prelude.{◌≡◌, ◌<◌, [], ◌∷◌, ◌++◌, map, length, position, bytes_eq, slice_set, slice_index, slice_index_or, vec_len, vec_capacity, OnOk, IfOk, IfErr, IfSome, Some, IsTrue, ◌↔◌};
+ghost use Rattle.std.specs.Prelude.{◌≡◌, ◌<◌, [], ◌∷◌, ◌++◌, map, length, slice_set, slice_index, slice_index_or, vec_len, vec_capacity, OnOk, IfOk, IfErr, IfSome, Some, IsTrue, ◌↔◌};
 ghost use Rattle.std.specs.List.{AllPairs};
 ghost use Rattle.task_groups.specs.Faults.{IsCauseOf};
 ghost use Rattle.task_groups.specs.Members.{TaskGroup, rows_of, kept_scheduler, with_row, joined};
+ghost use Rattle.task_groups.specs.Placed.{ArePlaced};
 ghost use Rattle.task_groups.specs.Kept.{shown, spares, HaveRisingRows, HasRoom, TellsScheduler};
 
 use crate::fault::ReserveFault;
+use crate::places::{note_new, place_of};
 use farm_text::{SlugId, Text};
+use slug_places::places::Places;
 use std::alloc::{AllocError, Global};
 
 /// A group: its id, the scheduler of its tasks, and their rows.
@@ -17,20 +20,14 @@ pub(crate) struct Group {
     pub(crate) rows: Vec<u32>,
 }
 
-/// The place of the group with this id.
-pub(crate) fn place_of(groups: &[Group], id: SlugId) -> Option<usize>
-    ensures { result ≡ position (λ group. bytes_eq group.id id) groups.now }
-{
-    groups.iter().position(|group| group.id == id)
-}
-
 /// The rows of the group with this id, and none where it has none.
-pub(crate) fn rows_of<'a>(groups: &'a [Group], id: SlugId) -> &'a [u32]
-    requires { HaveRisingRows (map shown groups.now) }
+pub(crate) fn rows_of<'a>(groups: &'a [Group], places: &Places, id: SlugId) -> &'a [u32]
+    requires rising { HaveRisingRows (map shown groups.now) }
+    requires placed { ArePlaced places.now (map shown groups.now) }
     ensures value { result.now ≡ rows_of id (map shown groups.now) }
     ensures rising { AllPairs (λ x y. x < y) (rows_of id (map shown groups.now)) }
 {
-    match place_of(groups, id) {
+    match place_of(groups, places, id) {
         Some(place) => &groups[place].rows,
         None => &[],
     }
@@ -50,11 +47,12 @@ pub(crate) fn make_room(groups: &mut Vec<Group>, place: usize) -> Result<(), All
 }
 
 /// Adds a row to the group that it joins, for which there is room.
-pub(crate) fn add_row(groups: &mut Vec<Group>, joining: Group, row: u32)
-    requires { HasRoom groups.old.items (vec_capacity groups.old) joining }
+pub(crate) fn add_row(groups: &mut Vec<Group>, places: &Places, joining: Group, row: u32)
+    requires placed { ArePlaced places.now (map shown groups.old.items) }
+    requires room { HasRoom groups.old.items (vec_capacity groups.old) places.now joining }
     ensures { map shown groups.new.items ≡ joined joining.id joining.scheduler row (map shown groups.old.items) }
 {
-    match place_of(groups, joining.id) {
+    match place_of(groups, places, joining.id) {
         Some(place) => push_row(groups, place, row),
         None => push_group(groups, joining, row),
     }
@@ -93,24 +91,32 @@ fn push_group(groups: &mut Vec<Group>, mut joining: Group, row: u32)
 pub(crate) fn joining(
     alloc: Global,
     groups: &mut Vec<Group>,
+    places: &mut Places,
     id: SlugId,
     scheduler: &str,
 ) -> Result<Group, ReserveFault>
+    requires { ArePlaced places.old (map shown groups.old.items) }
     ensures same { map shown groups.new.items ≡ map shown groups.old.items }
-    ensures room { IfOk result (λ joining. HasRoom groups.new.items (vec_capacity groups.new) joining) }
+    ensures placed { ArePlaced places.new (map shown groups.new.items) }
+    ensures room { IfOk result (λ joining. HasRoom groups.new.items (vec_capacity groups.new) places.new joining) }
     ensures named { IfOk result (λ joining. (joining.id ≡ id) × (joining.scheduler ≡ scheduler.now)) }
     ensures served { OnOk result (IfSome (kept_scheduler id (map shown groups.old.items)) (λ kept. kept ≡ scheduler.now)) }
     ensures refused { IfErr result (λ fault. IsCauseOf fault (kept_scheduler id (map shown groups.old.items)) scheduler.now) }
 {
-    match place_of(groups, id) {
+    match place_of(groups, places, id) {
         Some(place) => match joining_at(alloc, groups, place, id, scheduler) {
             Ok(joining) => Ok(joining),
             Err(fault) => Err(fault),
         },
-        None => match joining_first(alloc, groups, id, scheduler) {
-            Ok(joining) => Ok(joining),
-            Err(fault) => Err(fault),
-        },
+        None => {
+            let Ok(()) = note_new(places, id, groups.len()) else {
+                return Err(ReserveFault::NoMemory);
+            };
+            match joining_first(alloc, groups, id, scheduler) {
+                Ok(joining) => Ok(joining),
+                Err(fault) => Err(fault),
+            }
+        }
     }
 }
 

@@ -10,13 +10,17 @@ use crate::fault::ReserveFault;
 use crate::group::{Group, add_row, joining, rows_of};
 use crate::page::{Page, last_of, page_of};
 use farm_text::SlugId;
+use slug_places::places::Places;
 use std::alloc::Global;
+use std::collections::BTreeMap;
 use std::marker::Model;
 
 /// The groups of the tasks of a farm, in the order of their first tasks, and the room for one task that joins one of them.
 #[derive(Debug, Drop)]
 pub struct Groups {
     groups: Vec<Group>,
+    /// The place of each group by its id.
+    places: Places,
     /// The task that joins, for which there is room.
     room: Option<Group>,
 }
@@ -30,7 +34,7 @@ impl Model for Groups {
 
     ghost view = { λ g. record { groups = map shown g.groups.items; room = option_map joining_of g.room } };
 
-    ghost invariant = { λ g. IsKept g.groups.items (vec_capacity g.groups) g.room };
+    ghost invariant = { λ g. IsKept g.groups.items (vec_capacity g.groups) g.places g.room };
 }
 
 impl Groups {
@@ -40,6 +44,7 @@ impl Groups {
     {
         Groups {
             groups: Vec::new(alloc),
+            places: BTreeMap::new(alloc),
             room: None,
         }
     }
@@ -58,7 +63,7 @@ impl Groups {
         ensures refused { IfErr result (λ fault. IsCauseOf fault (kept_scheduler group self.old.groups) scheduler.now) }
     {
         self.room = None;
-        match joining(alloc, &mut self.groups, group, scheduler) {
+        match joining(alloc, &mut self.groups, &mut self.places, group, scheduler) {
             Ok(joining) => {
                 self.room = Some(joining);
                 Ok(())
@@ -77,14 +82,14 @@ impl Groups {
         let Some(joining) = self.room.take() else {
             unreachable!();
         };
-        add_row(&mut self.groups, joining, row);
+        add_row(&mut self.groups, &self.places, joining, row);
     }
 
     /// The last row that the group has.
     pub fn last(&self, group: SlugId) -> Option<u32>
         ensures { result ≡ last_row group self.now.groups }
     {
-        last_of(rows_of(&self.groups, group))
+        last_of(rows_of(&self.groups, &self.places, group))
     }
 
     /// A page of the group's tasks, in the order of creation: those behind the row of a token, where there is one, and so many at most.
@@ -95,7 +100,7 @@ impl Groups {
         ensures more { IfSome result (λ page. page.more ≡ has_more after limit (rows_of group self.now.groups)) }
         ensures rising { AllPairs (λ x y. x < y) (rows_of group self.now.groups) }
     {
-        let rows = rows_of(&self.groups, group);
+        let rows = rows_of(&self.groups, &self.places, group);
         if rows.is_empty() {
             return None;
         }

@@ -9,6 +9,7 @@ mod group;
 mod groups;
 mod laws;
 mod page;
+mod places;
 
 pub use fault::ReserveFault;
 pub use groups::Groups;

@@ -2,8 +2,6 @@
 use farm_text::{Doc, Moment, SlugId, Text};
 use hook_fire::{FireFault, Hook, fire};
 use std::alloc::{AllocError, Global};
-use std::process::Abort;
-use std::test::Fail;
 use task_defs::TaskDef;
 
 const DRAWN: &[u8] = b"AAAAAAAAQACAAAAAAAAAAg";
@@ -11,20 +9,10 @@ const DRAWN: &[u8] = b"AAAAAAAAQACAAAAAAAAAAg";
 /// 2024-01-01T00:00:00.000Z.
 const NEW_YEAR: u64 = 1_704_067_200_000;
 
-/// 9998-12-31T23:59:59.999Z, the last moment that is read.
-const LAST_READ: u64 = 253_370_764_799_999;
-
-const DAY: u64 = 86_400_000;
-
 const SENT: &str = r#"{"x":"one"}"#;
 
 /// A template that has all that a definition needs but its queue, a payload, `created` and `deadline`, without its last brace.
 const FRONT: &str = r#"{"metadata":{"description":"d","name":"n","owner":"o","source":"s"}"#;
-
-/// The value of a JSON text, which each text here has.
-fn read(alloc: Global, text: &str) -> Result<Doc, Fail> {
-    Ok(Doc::read(alloc, text.as_bytes()).ok().ok_or("no JSON")?)
-}
 
 /// The text of a template: the front and what follows it, or the text itself where it does not begin with a comma.
 fn whole(alloc: Global, template: &str) -> Result<String, AllocError> {
@@ -35,20 +23,25 @@ fn whole(alloc: Global, template: &str) -> Result<String, AllocError> {
     }
 }
 
-fn hook_of(alloc: Global, template: Doc) -> Result<Hook, AllocError> {
-    let group = Text::from_str(alloc, "g")?;
-    let id = Text::from_str(alloc, "h")?;
-    Ok(Hook {
-        group,
-        id,
-        template,
-    })
+/// The hook `h` of group `g` with a template. Here and below `None` is want of memory, or a text that is no JSON.
+fn hook(alloc: Global, template: &str) -> Option<Hook> {
+    match whole(alloc, template) {
+        Ok(text) => hook_of(alloc, text.as_str()),
+        Err(_) => None,
+    }
 }
 
-fn hook(alloc: Global, template: &str) -> Result<Hook, Fail> {
-    let text = whole(alloc, template)?;
-    let template = read(alloc, text.as_str())?;
-    Ok(hook_of(alloc, template)?)
+fn hook_of(alloc: Global, template: &str) -> Option<Hook> {
+    let group = Text::from_str(alloc, "g").ok()?;
+    let id = Text::from_str(alloc, "h").ok()?;
+    match Doc::read(alloc, template.as_bytes()) {
+        Ok(template) => Some(Hook {
+            group,
+            id,
+            template,
+        }),
+        Err(_) => None,
+    }
 }
 
 /// The full form of a definition.
@@ -91,57 +84,80 @@ fn is_told(alloc: Global, fired: &Result<TaskDef, FireFault>, wanted: &str) -> b
     }
 }
 
-/// Whether a hook gives this. Here alone a definition is owned, so that the proofs of the tests are short.
-fn tells(
-    alloc: Global,
-    hook: &Hook,
-    payload: &Doc,
+/// A payload, the moment and the id of a firing, and what it gives.
+#[derive(Clone, Copy)]
+struct Firing<'a> {
+    payload: &'a str,
     moment: Moment,
     drawn: SlugId,
-    wanted: &str,
-) -> bool {
-    let fired = fire(alloc, hook, payload, moment, drawn);
-    is_told(alloc, &fired, wanted)
+    wanted: &'a str,
+}
+
+/// Whether a hook gives this. Here alone a definition is owned, so that the proofs of the tests are short.
+fn tells(alloc: Global, hook: &Hook, payload: &Doc, firing: &Firing) -> bool {
+    let fired = fire(alloc, hook, payload, firing.moment, firing.drawn);
+    let is_so = is_told(alloc, &fired, firing.wanted);
+    drop(fired);
+    is_so
+}
+
+fn fires(alloc: Global, hook: &Hook, firing: &Firing) -> bool {
+    match Doc::read(alloc, firing.payload.as_bytes()) {
+        Ok(payload) => tells(alloc, hook, &payload, firing),
+        Err(_) => false,
+    }
+}
+
+fn hook_fires(alloc: Global, template: &str, firing: &Firing) -> bool {
+    match hook(alloc, template) {
+        Some(hook) => fires(alloc, &hook, firing),
+        None => false,
+    }
 }
 
 /// Whether the hook of a template gives this, fired at this moment with this payload.
-fn gives(
-    alloc: Global,
-    template: &str,
-    payload: &str,
-    millis: u64,
-    wanted: &str,
-) -> Result<bool, Fail> {
-    let moment = Moment::from_millis(millis).ok_or("no moment")?;
-    let drawn = SlugId::read(DRAWN).ok_or("no slugid")?;
-    let hook = hook(alloc, template)?;
-    let payload = read(alloc, payload)?;
-    Ok(tells(alloc, &hook, &payload, moment, drawn, wanted))
-}
-
-/// A line of the table is a template and what is wanted of it, with ` ~ ` between them.
-fn all_give(rt: &impl Abort, alloc: Global, table: &str) -> Result<(), Fail> {
-    for row in table.lines() {
-        let (template, wanted) = row.split_once(" ~ ").ok_or("no row")?;
-        assert!(rt; gives(alloc, template, SENT, NEW_YEAR, wanted)?, "{row}");
+fn gives(alloc: Global, template: &str, payload: &str, millis: u64, wanted: &str) -> bool {
+    match (Moment::from_millis(millis), SlugId::read(DRAWN)) {
+        (Some(moment), Some(drawn)) => {
+            let firing = Firing {
+                payload,
+                moment,
+                drawn,
+                wanted,
+            };
+            hook_fires(alloc, template, &firing)
+        }
+        _ => false,
     }
-    Ok(())
 }
 
-const ROUTED: &str = r#","payload":{},"routes":["r.${payload.x}"],"taskQueueId":"prov/wt""#;
-
-const ROUTED_IN_FULL: &str =
-    r#"{"created":"2024-01-01T00:00:00.000Z","deadline":"2024-01-02T00:00:00.000Z","dependencies":[],"expires":"2025-01-01T00:00:00.000Z","extra":{},"metadata":{"description":"d","name":"n","owner":"o","source":"s"},"payload":{},"priority":"lowest","projectId":"none","provisionerId":"prov","requires":"all-completed","retries":5,"routes":["r.one"],"schedulerId":"-","scopes":[],"tags":{},"taskGroupId":"AAAAAAAAQACAAAAAAAAAAg","taskQueueId":"prov/wt","workerType":"wt"}"#;
-
-#[test]
-fn the_route_is_of_the_payload(rt: HostRuntime) -> Result<(), Fail> {
-    assert!(rt; gives(rt.alloc(), ROUTED, SENT, NEW_YEAR, ROUTED_IN_FULL)?);
-    assert!(rt; gives(rt.alloc(), ROUTED, "{}", NEW_YEAR, "fault 6 /routes/0")?);
-    Ok(())
+/// Whether the template of a row, fired at the new year, gives what stands behind it.
+fn row_gives(alloc: Global, payload: &str, row: &str) -> bool {
+    match row.split_once(" ~ ") {
+        Some((template, wanted)) => gives(alloc, template, payload, NEW_YEAR, wanted),
+        None => false,
+    }
 }
 
+/// The same at the moment of so many milliseconds, with which the row begins.
+fn row_gives_at(alloc: Global, row: &str) -> bool {
+    match row.split_once(" ~ ") {
+        Some((millis, row)) => match (millis.parse::<u64>(), row.split_once(" ~ ")) {
+            (Ok(millis), Some((template, wanted))) => gives(alloc, template, SENT, millis, wanted),
+            _ => false,
+        },
+        None => false,
+    }
+}
+
+/// A template whose route is of the payload, where that has no such member.
+const UNROUTED: &str =
+    r#","payload":{},"routes":["r.${payload.x}"],"taskQueueId":"prov/wt" ~ fault 6 /routes/0"#;
+
+/// Templates, and what they give: one whose route is of the payload, others, and some without what need not be said.
 const TEMPLATES: &str =
-    r#","payload":{"by":{"$eval":"firedBy"},"id":{"$eval":"taskId"},"now":{"$eval":"now"},"sent":{"$eval":"payload"}},"taskQueueId":"prov/wt" ~ "payload":{"by":"triggerHook","id":"AAAAAAAAQACAAAAAAAAAAg","now":"2024-01-01T00:00:00.000Z","sent":{"x":"one"}}
+    r#","payload":{},"routes":["r.${payload.x}"],"taskQueueId":"prov/wt" ~ {"created":"2024-01-01T00:00:00.000Z","deadline":"2024-01-02T00:00:00.000Z","dependencies":[],"expires":"2025-01-01T00:00:00.000Z","extra":{},"metadata":{"description":"d","name":"n","owner":"o","source":"s"},"payload":{},"priority":"lowest","projectId":"none","provisionerId":"prov","requires":"all-completed","retries":5,"routes":["r.one"],"schedulerId":"-","scopes":[],"tags":{},"taskGroupId":"AAAAAAAAQACAAAAAAAAAAg","taskQueueId":"prov/wt","workerType":"wt"}
+,"payload":{"by":{"$eval":"firedBy"},"id":{"$eval":"taskId"},"now":{"$eval":"now"},"sent":{"$eval":"payload"}},"taskQueueId":"prov/wt" ~ "payload":{"by":"triggerHook","id":"AAAAAAAAQACAAAAAAAAAAg","now":"2024-01-01T00:00:00.000Z","sent":{"x":"one"}}
 ,"payload":{"other":"${hookId}"},"taskQueueId":"prov/wt" ~ fault 2 /payload/other
 ,"payload":{},"routes":["r.${payload.x}"],"taskQueueId":"prov" ~ rule 2 taskQueueId
 ,"payload":{},"taskQueueId":{"$if":"false","then":"prov/wt"} ~ rule 1 taskQueueId
@@ -151,15 +167,8 @@ const TEMPLATES: &str =
 "text" ~ rule 1
 7 ~ rule 1
 {"$if":"false","then":{}} ~ rule 1
-{} ~ rule 1 metadata"#;
-
-#[test]
-fn what_templates_give(rt: HostRuntime) -> Result<(), Fail> {
-    all_give(&rt, rt.alloc(), TEMPLATES)
-}
-
-const DEFAULTS: &str =
-    r#","created":"2023-12-31T12:00:00.000Z","payload":{},"taskQueueId":"prov/wt" ~ {"created":"2023-12-31T12:00:00.000Z","deadline":"2024-01-02T00:00:00.000Z",
+{} ~ rule 1 metadata
+,"created":"2023-12-31T12:00:00.000Z","payload":{},"taskQueueId":"prov/wt" ~ {"created":"2023-12-31T12:00:00.000Z","deadline":"2024-01-02T00:00:00.000Z",
 ,"deadline":"2024-01-01T06:00:00.000Z","payload":{},"taskQueueId":"prov/wt" ~ {"created":"2024-01-01T00:00:00.000Z","deadline":"2024-01-01T06:00:00.000Z",
 ,"created":"2024-01-02T00:00:00.000Z","deadline":{"$fromNow":"2 days"},"payload":{},"taskQueueId":"prov/wt" ~ {"created":"2024-01-02T00:00:00.000Z","deadline":"2024-01-03T00:00:00.000Z",
 ,"created":{"$if":"false","then":"x"},"payload":{},"taskQueueId":"prov/wt" ~ {"created":"2024-01-01T00:00:00.000Z","deadline":"2024-01-02T00:00:00.000Z",
@@ -170,50 +179,30 @@ const DEFAULTS: &str =
 ,"deadline":"2024-01-01T00:00:00.000Z","payload":{},"taskQueueId":"prov/wt" ~ rule 11 deadline"#;
 
 #[test]
-fn what_need_not_be_said(rt: HostRuntime) -> Result<(), Fail> {
-    all_give(&rt, rt.alloc(), DEFAULTS)
+fn what_templates_give(rt: HostRuntime) {
+    assert!(rt; row_gives(rt.alloc(), "{}", UNROUTED));
+    for row in TEMPLATES.lines() {
+        assert!(rt; row_gives(rt.alloc(), SENT, row), "{row}");
+    }
 }
 
-const PLAIN: &str = r#","payload":{},"taskQueueId":"prov/wt""#;
+/// Deadlines past the last moment that is read, 9998-12-31T23:59:59.999Z (253370764799999): the moment of the firing, a template, and what
+/// it gives.
+const LATE: &str =
+    r#"253370678399998 ~ ,"payload":{},"taskQueueId":"prov/wt" ~ "deadline":"9998-12-31T23:59:59.998Z"
+253370678399999 ~ ,"payload":{},"taskQueueId":"prov/wt" ~ rule 12 expires
+253370678400000 ~ ,"payload":{},"taskQueueId":"prov/wt" ~ rule 10 deadline
+253370764799999 ~ ,"payload":{},"taskQueueId":"prov/wt" ~ rule 10 deadline
+253370764800000 ~ ,"payload":{},"taskQueueId":"prov/wt" ~ rule 10 created
+253402300799999 ~ ,"payload":{},"taskQueueId":"prov/wt" ~ rule 10 created
+253370764799999 ~ ,"created":"x","payload":{},"taskQueueId":"prov/wt" ~ rule 10 created
+253370764799999 ~ ,"payload":{},"taskQueueId":"prov" ~ rule 2 taskQueueId
+253370764799999 ~ ,"payload":{},"retries":50,"taskQueueId":"prov/wt" ~ rule 9 retries
+253370764799999 ~ ,"payload":{},"scopes":[""],"taskQueueId":"prov/wt" ~ rule 10 deadline"#;
 
 #[test]
-fn deadlines_past_the_last_moment(rt: HostRuntime) -> Result<(), Fail> {
-    for (template, millis, wanted) in [
-        (
-            PLAIN,
-            LAST_READ - DAY - 1,
-            r#""deadline":"9998-12-31T23:59:59.998Z""#,
-        ),
-        (PLAIN, LAST_READ - DAY, "rule 12 expires"),
-        (PLAIN, LAST_READ - DAY + 1, "rule 10 deadline"),
-        (PLAIN, LAST_READ, "rule 10 deadline"),
-        (PLAIN, LAST_READ + 1, "rule 10 created"),
-        (PLAIN, 253_402_300_799_999, "rule 10 created"),
-        (
-            r#","created":"x","payload":{},"taskQueueId":"prov/wt""#,
-            LAST_READ,
-            "rule 10 created",
-        ),
-        (
-            r#","payload":{},"taskQueueId":"prov""#,
-            LAST_READ,
-            "rule 2 taskQueueId",
-        ),
-        (
-            r#","payload":{},"retries":50,"taskQueueId":"prov/wt""#,
-            LAST_READ,
-            "rule 9 retries",
-        ),
-        (
-            r#","payload":{},"scopes":[""],"taskQueueId":"prov/wt""#,
-            LAST_READ,
-            "rule 10 deadline",
-        ),
-    ] {
-        assert!(rt;
-            gives(rt.alloc(), template, SENT, millis, wanted)?,
-            "{wanted}"
-        );
+fn deadlines_past_the_last_moment(rt: HostRuntime) {
+    for row in LATE.lines() {
+        assert!(rt; row_gives_at(rt.alloc(), row), "{row}");
     }
-    Ok(())
 }

@@ -17,4 +17,4 @@ mod runs;
 #[cfg(test)]
 mod scopes;
 #[cfg(test)]
-mod statuses;
+mod words;

@@ -1,200 +1,222 @@
-//! Tasks that are created and fall due, against rows that were worked by hand.
-mod claims;
-mod waiting;
+//! Tables of tasks, step by step, against rows that were worked by hand.
+//!
+//! A step is what it comes to, a word for what is done or asked, and its parts. `made`, `refused`: whether a change may be made, and the
+//! plan showed its task as it stands then. The parts of a change are its moment, a task, and what the change is of: the definition of
+//! `create`, the run and the end of `claim` and `reclaim`, the run of a report. `tick` reaches a moment; `is` and `list` ask, and come to
+//! `yes` or `no`. `each` makes steps for each number that is `#` in them.
+ghost use Rattle.farm_rows.specs.Plans.{IsPlanOn};
 
-use farm_record::{Change, Creation, Kind};
-use farm_rows::{RowCounts, TaskTables};
-use farm_text::{Doc, LAST_TOLD_MOMENT, Moment, SlugId};
-use run_states::{Outcome, ReasonCreated, ReasonResolved, Run};
+mod bodies;
+mod looks;
+mod scripts;
+
+use crate::words::{id_of, identifier, moment, next, numbered, report, truth};
+use farm_record::{Change, Claim, Kind, Reclaim, Resolution, RunName, RunNames};
+use farm_rows::{TaskPlan, TaskTables};
+use farm_text::{LAST_TOLD_MOMENT, SlugId};
+use run_states::{RunState, TaskRow};
 use std::alloc::Global;
-use std::test::Fail;
-use task_defs::read_task;
 
-/// 2024-01-01T00:00:00.000Z, 12 hours and 24 hours later.
-const CREATED: u64 = 1_704_067_200_000;
-
-const NOON: u64 = 1_704_110_400_000;
-
-const DEADLINE: u64 = 1_704_153_600_000;
-
-const PLAIN: &'static str =
-    r#"{"created":"2024-01-01T00:00:00.000Z","deadline":"2024-01-02T00:00:00.000Z","metadata":{"description":"d","name":"n","owner":"o@example.com","source":"https://example.com/"},"payload":{},"taskQueueId":"prov/wt"}"#;
-
-/// The same, but due at noon, and with two retries.
-const DUE_AT_NOON: &'static str =
-    r#"{"created":"2024-01-01T00:00:00.000Z","deadline":"2024-01-01T12:00:00.000Z","metadata":{"description":"d","name":"n","owner":"o@example.com","source":"https://example.com/"},"payload":{},"retries":2,"taskQueueId":"prov/wt"}"#;
-
-/// A moment, and the first one where there is none.
-fn moment(millis: u64) -> Moment {
-    Moment::from_millis(millis).unwrap_or(Moment::FIRST)
-}
-
-/// The id of this number.
-fn task(number: u8) -> Result<SlugId, Fail> {
-    let uuid = [0, 0, 0, 0, 0, 0, 0x40, 0, 0x80, 0, 0, 0, 0, 0, 0, number];
-    Ok(SlugId::of_uuid(uuid).ok_or("no id")?)
-}
-
-/// The creation of the task of this number.
-fn creation(alloc: Global, id: SlugId, body: &str) -> Result<Creation, Fail> {
-    let doc = Doc::read(alloc, body.as_bytes()).map_err(|_| "no document")?;
-    let definition = read_task(alloc, &doc, id).map_err(|_| "no definition")?;
-    Ok(Creation { id, definition })
-}
-
-/// Creates the task of this number at a moment, where it may be created, and tells whether it was.
-fn create(
-    alloc: Global,
-    tables: &mut TaskTables,
-    millis: u64,
-    number: u8,
-    body: &str,
-) -> Result<bool, Fail> {
-    let creation = creation(alloc, task(number)?, body)?;
-    let change = Change {
-        at: moment(millis),
-        kind: Kind::Create(creation),
-    };
-    match tables.plan(alloc, change)? {
-        Some(plan) => {
-            tables.apply(plan);
-            Ok(true)
+/// The first step of some scripts, between empty lines, that comes to something else than it says, or `none`.
+fn other_script<'a>(alloc: Global, scripts: &'a str) -> &'a str {
+    for script in scripts.split("\n\n") {
+        let other = first_other(alloc, script);
+        if other != "none" {
+            return other;
         }
-        None => Ok(false),
+    }
+    "none"
+}
+
+/// The first step of some that comes to something else than it says, or `none`. Here alone tables are owned.
+fn first_other<'a>(alloc: Global, steps: &'a str) -> &'a str {
+    let mut tables = TaskTables::new(alloc);
+    let other = other_in(alloc, &mut tables, steps);
+    drop(tables);
+    other
+}
+
+fn other_in<'a>(alloc: Global, tables: &mut TaskTables, steps: &'a str) -> &'a str {
+    for step in steps.lines() {
+        if !goes(alloc, tables, step) {
+            return step;
+        }
+    }
+    "none"
+}
+
+fn goes(alloc: Global, tables: &mut TaskTables, step: &str) -> bool {
+    match step.strip_prefix("each ") {
+        Some(rounds) => each_goes(alloc, tables, rounds) == Some(true),
+        None => comes_so(alloc, tables, step),
     }
 }
 
-/// Reaches a moment that a clock may tell.
-fn reach(tables: &mut TaskTables, millis: u64) {
-    let at = moment(millis);
-    if at.millis() <= LAST_TOLD_MOMENT {
-        tables.tick(at);
+/// Whether the steps between semicolons go so with each number from the first one on, below the second.
+fn each_goes(alloc: Global, tables: &mut TaskTables, rounds: &str) -> Option<bool> {
+    let (from, rest) = next(rounds);
+    let (to, steps) = next(rest);
+    let from = from.parse::<u8>().ok()?;
+    let to = to.parse::<u8>().ok()?;
+    let mut all = true;
+    for number in from..to {
+        for step in steps.split(';') {
+            all &= goes_with(alloc, tables, step, number);
+        }
     }
+    Some(all)
 }
 
-/// Whether the task of a number has one run, with this number, which was scheduled as it was created, and has this outcome.
-fn has_run(tables: &TaskTables, id: SlugId, number: u64, outcome: Option<Outcome>) -> bool {
-    match tables.row(id) {
-        Some(row) => has_only(row.runs(), number, outcome),
+fn goes_with(alloc: Global, tables: &mut TaskTables, step: &str, number: u8) -> bool {
+    match numbered(alloc, step, number) {
+        Some(step) => comes_so(alloc, tables, step.as_str()),
         None => false,
     }
 }
 
-fn has_only(runs: &[Run], number: u64, outcome: Option<Outcome>) -> bool {
-    match runs {
-        [only] => is_scheduled(only, number) && only.outcome == outcome,
+/// Whether a step comes to what it begins with.
+fn comes_so(alloc: Global, tables: &mut TaskTables, step: &str) -> bool {
+    let (wanted, rest) = next(step);
+    let (word, parts) = next(rest);
+    match outcome(alloc, tables, word, parts) {
+        Some(outcome) => outcome == wanted,
+        None => false,
+    }
+}
+
+/// What a step comes to.
+fn outcome(
+    alloc: Global,
+    tables: &mut TaskTables,
+    word: &str,
+    parts: &str,
+) -> Option<&'static str> {
+    match word {
+        "tick" => Some(truth(reach(tables, parts))),
+        "is" => Some(truth(looks::are(alloc, tables, parts)?)),
+        "list" => Some(truth(looks::list(alloc, tables, parts)?)),
+        _ => change(alloc, tables, word, parts),
+    }
+}
+
+/// Reaches a moment, where a clock may tell it.
+fn reach(tables: &mut TaskTables, at: &str) -> bool {
+    match moment(at) {
+        Some(at) if at.millis() <= LAST_TOLD_MOMENT => {
+            tables.tick(at);
+            true
+        }
         _ => false,
     }
 }
 
-fn is_scheduled(run: &Run, number: u64) -> bool {
-    run.created == ReasonCreated::Scheduled
-        && run.number == Some(number)
-        && run.scheduled == moment(CREATED)
-        && run.claim.is_none()
-}
-
-/// The outcome of a task whose deadline came at this moment.
-fn exceeded(millis: u64) -> Option<Outcome> {
-    Some(Outcome {
-        reason: ReasonResolved::DeadlineExceeded,
-        at: moment(millis),
-    })
-}
-
-/// Whether so many tasks stand, as many numbers are drawn, and this moment is the last.
-fn counts(tables: &TaskTables, rows: u32, last: u64) -> bool {
-    let expected = RowCounts {
-        rows,
-        next: u64::from(rows),
-        last: moment(last),
-    };
-    tables.counts() == expected
-}
-
-/// Tables with the plain task.
-fn plain_tables(alloc: Global) -> Result<TaskTables, Fail> {
-    let mut tables = TaskTables::new(alloc);
-    if create(alloc, &mut tables, CREATED, 1, PLAIN)? {
-        Ok(tables)
-    } else {
-        Err(Fail::from("it is not created"))
+/// Makes a change, where it may be made.
+fn change(alloc: Global, tables: &mut TaskTables, word: &str, parts: &str) -> Option<&'static str> {
+    let (at, parts) = next(parts);
+    let at = moment(at)?;
+    match kind(alloc, word, parts) {
+        Some(kind) => Some(made(alloc, tables, Change { at, kind })),
+        None => None,
     }
 }
 
-#[test]
-fn a_task_is_pending_as_it_is_created(rt: HostRuntime) -> Result<(), Fail> {
-    let tables = plain_tables(rt.alloc())?;
-    assert!(rt; has_run(&tables, task(1)?, 0, None));
-    assert!(rt; counts(&tables, 1, CREATED));
-    assert!(rt; !tables.due(moment(DEADLINE - 1)));
-    assert!(rt; tables.due(moment(DEADLINE)));
-    Ok(())
-}
-
-#[test]
-fn a_deadline_falls_due_at_its_very_moment(rt: HostRuntime) -> Result<(), Fail> {
-    let mut tables = plain_tables(rt.alloc())?;
-    let id = task(1)?;
-    reach(&mut tables, DEADLINE - 1);
-    assert!(rt; has_run(&tables, id, 0, None));
-    reach(&mut tables, DEADLINE);
-    assert!(rt; has_run(&tables, id, 0, exceeded(DEADLINE)));
-    assert!(rt; matches!(tables.row(id), Some(row) if row.retries_left() == 5));
-    assert!(rt; !tables.due(moment(DEADLINE)));
-    Ok(())
-}
-
-#[test]
-fn each_deadline_counts_in_one_tick(rt: HostRuntime) -> Result<(), Fail> {
-    let mut tables = plain_tables(rt.alloc())?;
-    assert!(rt; create(rt.alloc(), &mut tables, CREATED, 2, DUE_AT_NOON)?);
-    assert!(rt; tables.due(moment(NOON)));
-    reach(&mut tables, DEADLINE + 5);
-    assert!(rt; has_run(&tables, task(1)?, 0, exceeded(DEADLINE)));
-    assert!(rt; has_run(&tables, task(2)?, 1, exceeded(NOON)));
-    assert!(rt; counts(&tables, 2, DEADLINE + 5));
-    Ok(())
-}
-
-#[test]
-fn what_may_not_be_created_is_not(rt: HostRuntime) -> Result<(), Fail> {
-    let mut tables = plain_tables(rt.alloc())?;
-    assert!(rt; !create(rt.alloc(), &mut tables, CREATED, 1, DUE_AT_NOON)?);
-    assert!(rt; !create(rt.alloc(), &mut tables, NOON, 2, DUE_AT_NOON)?);
-    assert!(rt; !create(rt.alloc(), &mut tables, CREATED - 1, 2, PLAIN)?);
-    assert!(rt; !create(rt.alloc(), &mut tables, DEADLINE, 2, PLAIN)?);
-    assert!(rt; counts(&tables, 1, CREATED));
-    Ok(())
-}
-
-#[test]
-fn a_pending_task_is_not_scheduled(rt: HostRuntime) -> Result<(), Fail> {
-    let mut tables = plain_tables(rt.alloc())?;
-    let change = Change {
-        at: moment(NOON),
-        kind: Kind::Schedule(task(1)?),
-    };
-    assert!(rt; tables.plan(rt.alloc(), change)?.is_none());
-    Ok(())
-}
-
-/// Creates so many tasks, where each may be created.
-fn create_many(alloc: Global, tables: &mut TaskTables, count: u8) -> Result<bool, Fail> {
-    let mut all = true;
-    for number in 0..count {
-        all &= create(alloc, tables, CREATED, number, PLAIN)?;
+/// What changes.
+fn kind(alloc: Global, word: &str, parts: &str) -> Option<Kind> {
+    let (task, parts) = next(parts);
+    let id = id_of(task)?;
+    match word {
+        "create" => bodies::creation(alloc, id, task, parts),
+        "schedule" => Some(Kind::Schedule(id)),
+        "rerun" => Some(Kind::Rerun(id)),
+        "cancel" => Some(Kind::Cancel(id)),
+        "claim" => claim(alloc, id, parts),
+        "reclaim" => reclaim(id, parts),
+        _ => resolve(id, word, parts),
     }
-    Ok(all)
 }
 
-/// More tasks than the first list of the tables has room for.
-#[test]
-fn the_tables_grow(rt: HostRuntime) -> Result<(), Fail> {
-    let mut tables = TaskTables::new(rt.alloc());
-    assert!(rt; create_many(rt.alloc(), &mut tables, 70)?);
-    assert!(rt; counts(&tables, 70, CREATED));
-    assert!(rt; has_run(&tables, task(0)?, 0, None));
-    assert!(rt; has_run(&tables, task(69)?, 69, None));
-    Ok(())
+fn made(alloc: Global, tables: &mut TaskTables, change: Change) -> &'static str {
+    match tables.plan(alloc, change) {
+        Ok(Some(plan)) => applied(tables, plan),
+        Ok(None) => "refused",
+        Err(_) => "no memory",
+    }
+}
+
+/// The id of a task, how many runs it has, its state, and the retries that are left.
+type Seen = (SlugId, usize, Option<RunState>, u8);
+
+fn seen(row: &TaskRow) -> Seen {
+    (row.id(), row.runs().len(), row.state(), row.retries_left())
+}
+
+fn first_seen(plan: &TaskPlan) -> Option<Seen> {
+    match plan.rows().first() {
+        Some(row) => Some(seen(row)),
+        None => None,
+    }
+}
+
+/// Applies a plan, and tells whether its first task stands then as it was shown.
+fn applied(tables: &mut TaskTables, plan: TaskPlan) -> &'static str
+    requires { IsPlanOn tables.old plan }
+{
+    let shown = first_seen(&plan);
+    tables.apply(plan);
+    match shown {
+        Some(shown) if stands_so(tables, shown) => "made",
+        _ => "otherwise",
+    }
+}
+
+fn stands_so(tables: &TaskTables, shown: Seen) -> bool {
+    match tables.row(shown.0) {
+        Some(row) => seen(row) == shown,
+        None => false,
+    }
+}
+
+/// Worker `w` of group `g` takes this run of a task until this moment.
+fn claim(alloc: Global, id: SlugId, parts: &str) -> Option<Kind> {
+    let (run, until) = next(parts);
+    let taken_until = moment(until)?;
+    let name = RunName {
+        id,
+        run: run.parse::<u8>().ok()?,
+    };
+    let worker_group = identifier(alloc, "g")?;
+    let worker_id = identifier(alloc, "w")?;
+    let runs = one_name(alloc, name)?;
+    Some(Kind::Claim(Claim {
+        taken_until,
+        worker_group,
+        worker_id,
+        runs,
+    }))
+}
+
+fn one_name(alloc: Global, name: RunName) -> Option<RunNames> {
+    match Vec::from_array(alloc, [name]) {
+        Ok(names) => RunNames::from_list(names),
+        Err(_) => None,
+    }
+}
+
+/// Its worker keeps this run of a task until this moment.
+fn reclaim(id: SlugId, parts: &str) -> Option<Kind> {
+    let (run, until) = next(parts);
+    Some(Kind::Reclaim(Reclaim {
+        id,
+        run: run.parse::<u8>().ok()?,
+        taken_until: moment(until)?,
+    }))
+}
+
+/// Its worker tells so of this run of a task.
+fn resolve(id: SlugId, name: &str, run: &str) -> Option<Kind> {
+    Some(Kind::Resolve(Resolution {
+        id,
+        run: run.parse::<u8>().ok()?,
+        reason: report(name)?,
+    }))
 }

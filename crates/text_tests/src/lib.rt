@@ -4,6 +4,8 @@
 #![tactic(auto)]
 
 #[cfg(test)]
+mod host;
+#[cfg(test)]
 mod roles;
 #[cfg(test)]
 mod signatures;

@@ -1,11 +1,13 @@
 use role_expand::{BuildFault, ExpandFault, Role, RoleSet};
 use scope_sets::{Scope, ScopeSet};
-use std::alloc::Global;
+use std::alloc::{AllocError, Global};
 
 /// The scope of a text. Here and below `None` is want of memory, or a text that is off its form.
 fn scope(alloc: Global, text: &str) -> Option<Scope> {
-    let text = String::from_str(alloc, text).ok()?;
-    Scope::new(text)
+    match String::from_str(alloc, text) {
+        Ok(text) => Scope::new(text),
+        Err(_) => None,
+    }
 }
 
 /// The scopes between spaces.
@@ -21,8 +23,10 @@ fn scopes(alloc: Global, texts: &str) -> Option<Vec<Scope>> {
 fn role(alloc: Global, row: &str) -> Option<Role> {
     let (id, scope) = row.split_once('|')?;
     let id = String::from_str(alloc, id).ok()?;
-    let scopes = scopes(alloc, scope)?;
-    Some(Role { id, scopes })
+    match scopes(alloc, scope) {
+        Some(scopes) => Some(Role { id, scopes }),
+        None => None,
+    }
 }
 
 /// The roles between spaces.
@@ -32,14 +36,6 @@ fn roles(alloc: Global, rows: &str) -> Option<Vec<Role>> {
         roles.push(role(alloc, row)?).ok()?;
     }
     Some(roles)
-}
-
-fn set(alloc: Global, rows: &str) -> Option<RoleSet> {
-    RoleSet::build(alloc, roles(alloc, rows)?).ok()
-}
-
-fn refusal(alloc: Global, rows: &str) -> Option<BuildFault> {
-    RoleSet::build(alloc, roles(alloc, rows)?).err()
 }
 
 /// Whether these are the scopes of a set.
@@ -66,88 +62,131 @@ fn expands(alloc: Global, roles: &RoleSet, start: &str, all: &str) -> bool {
     }
 }
 
-/// Whether it does with these roles.
-fn gives(alloc: Global, rows: &str, start: &str, all: &str) -> bool {
-    match set(alloc, rows) {
-        Some(roles) => expands(alloc, &roles, start, all),
+/// The words for why roles are refused.
+fn words(alloc: Global, fault: &BuildFault) -> Result<String, AllocError> {
+    match fault {
+        BuildFault::BadRole(place) => format!(in alloc; "bad {place}"),
+        BuildFault::DuplicateRole(first, second) => format!(in alloc; "twice {first} {second}"),
+        BuildFault::ParameterCycle(places) => cycle(alloc, places),
+        BuildFault::NoMemory => String::from_str(alloc, "no memory"),
+    }
+}
+
+fn cycle(alloc: Global, places: &[usize]) -> Result<String, AllocError> {
+    let mut words = String::from_str(alloc, "cycle")?;
+    for place in places {
+        words.push_str(format!(in alloc; " {place}")?.as_str())?;
+    }
+    Ok(words)
+}
+
+fn is_told(alloc: Global, fault: &BuildFault, wanted: &str) -> bool {
+    match words(alloc, fault) {
+        Ok(words) => words.as_str() == wanted,
+        Err(_) => false,
+    }
+}
+
+/// Whether roles come to this: their number, what a scope expands to, or why they are refused. Here alone a set of roles is owned.
+fn come_to(alloc: Global, rows: &str, outcome: &str) -> bool {
+    match roles(alloc, rows) {
+        Some(roles) => match RoleSet::build(alloc, roles) {
+            Ok(roles) => {
+                let is_so = are_so(alloc, &roles, outcome);
+                drop(roles);
+                is_so
+            }
+            Err(fault) => is_told(alloc, &fault, outcome),
+        },
         None => false,
     }
 }
 
-#[test]
-fn plain_roles_and_a_parameter(rt: HostRuntime) {
-    let rows = "a|one ab|two a*|three:<..>";
-    let count = set(rt.alloc(), rows).map(|roles| roles.len());
-    assert!(rt; count == Some(3));
-    let all = "assume:a* one three:* two";
-    assert!(rt; gives(rt.alloc(), rows, "assume:a*", all));
-    let all = "assume:ab three:b two";
-    assert!(rt; gives(rt.alloc(), rows, "assume:ab", all));
-    assert!(rt; !gives(rt.alloc(), rows, "assume:a", all));
+fn are_so(alloc: Global, roles: &RoleSet, outcome: &str) -> bool {
+    match outcome.split_once(' ') {
+        Some(("count", count)) => count.parse::<usize>().ok() == Some(roles.len()),
+        Some((start, all)) => expands(alloc, roles, start, all),
+        None => false,
+    }
 }
+
+/// Whether the roles of a row come to its outcome, as the row says.
+fn is_row(alloc: Global, row: &str) -> bool {
+    match row.split_once(" ~ ") {
+        Some((rows, outcome)) => match outcome.strip_prefix("not ") {
+            Some(other) => !come_to(alloc, rows, other),
+            None => come_to(alloc, rows, outcome),
+        },
+        None => false,
+    }
+}
+
+/// Roles, and what they come to: plain ones and one with a parameter, one with a text behind its parameter, a cycle of one and of two, one id
+/// at two places, and an id off its form.
+const ROLES: &str = "a|one ab|two a*|three:<..> ~ count 3
+a|one ab|two a*|three:<..> ~ assume:a* assume:a* one three:* two
+a|one ab|two a*|three:<..> ~ assume:ab assume:ab three:b two
+a|one ab|two a*|three:<..> ~ not assume:a assume:ab three:b two
+p:*|x:<..>:y ~ assume:p:q* assume:p:q* x:q*
+p:*|x:<..>:y ~ assume:p:q assume:p:q x:q:y
+p:*|x:<..>:y ~ * * x:*
+a*|assume:aa<..> ~ cycle 0
+x|y b*|assume:c<..> c*|assume:b<..> ~ cycle 1 2
+x|y b*|assume:c<..> c*|assume:b<..> ~ not cycle 1
+x|y z|y x|z ~ twice 0 2
+x|y z|y x|z ~ not twice 0 1
+x|y x|a** ~ bad 1
+x|y x|a** ~ not bad 0";
 
 #[test]
-fn what_follows_the_parameter(rt: HostRuntime) {
-    let rows = "p:*|x:<..>:y";
-    assert!(rt; gives(rt.alloc(), rows, "assume:p:q*", "assume:p:q* x:q*"));
-    assert!(rt; gives(rt.alloc(), rows, "assume:p:q", "assume:p:q x:q:y"));
-    assert!(rt; gives(rt.alloc(), rows, "*", "* x:*"));
-}
-
-/// Whether roles are refused for a cycle through these places.
-fn is_cycle(alloc: Global, rows: &str, wanted: &[usize]) -> bool {
-    let refusal = refusal(alloc, rows);
-    matches!(&refusal, Some(BuildFault::ParameterCycle(places)) if places.as_slice() == wanted)
-}
-
-/// Whether roles are refused for one id at two places.
-fn is_twice(alloc: Global, rows: &str, first: usize, second: usize) -> bool {
-    let refusal = refusal(alloc, rows);
-    matches!(&refusal, Some(BuildFault::DuplicateRole(a, b)) if *a == first && *b == second)
-}
-
-/// Whether roles are refused for the one at this place.
-fn is_bad(alloc: Global, rows: &str, wanted: usize) -> bool {
-    let refusal = refusal(alloc, rows);
-    matches!(&refusal, Some(BuildFault::BadRole(place)) if *place == wanted)
-}
-
-#[test]
-fn refusals(rt: HostRuntime) {
-    assert!(rt; is_cycle(rt.alloc(), "a*|assume:aa<..>", &[0]));
-    let two = "x|y b*|assume:c<..> c*|assume:b<..>";
-    assert!(rt; is_cycle(rt.alloc(), two, &[1, 2]));
-    assert!(rt; !is_cycle(rt.alloc(), two, &[1]));
-    assert!(rt; is_twice(rt.alloc(), "x|y z|y x|z", 0, 2));
-    assert!(rt; !is_twice(rt.alloc(), "x|y z|y x|z", 0, 1));
-    assert!(rt; is_bad(rt.alloc(), "x|y x|a**", 1));
-    assert!(rt; !is_bad(rt.alloc(), "x|y x|a**", 0));
+fn roles_come_to_this(rt: HostRuntime) {
+    for row in ROLES.lines() {
+        assert!(rt; is_row(rt.alloc(), row), "{row}");
+    }
 }
 
 /// So many scopes, each of them a number.
 fn numbered(alloc: Global, count: usize) -> Option<Vec<Scope>> {
     let mut scopes = Vec::new(alloc);
     for number in 0..count {
-        let text = format!(in alloc; "{number}").ok()?;
-        scopes.push(Scope::new(text)?).ok()?;
+        scopes.push(number_scope(alloc, number)?).ok()?;
     }
     Some(scopes)
 }
 
-/// How many scopes some expand to without a role, or the fault.
-fn count_of(alloc: Global, start: &[Scope]) -> Option<Result<usize, ExpandFault>> {
-    let none = RoleSet::build(alloc, Vec::new(alloc)).ok()?;
-    Some(none.expand(alloc, start).map(|found| found.list().len()))
+fn number_scope(alloc: Global, number: usize) -> Option<Scope> {
+    match format!(in alloc; "{number}") {
+        Ok(text) => Scope::new(text),
+        Err(_) => None,
+    }
+}
+
+/// How many scopes some expand to by no role; none where they are too many.
+fn count_with(alloc: Global, none: &RoleSet, start: &[Scope]) -> Option<usize> {
+    match none.expand(alloc, start) {
+        Ok(found) => Some(found.list().len()),
+        Err(ExpandFault::TooMany) => None,
+        Err(ExpandFault::NoMemory) => Some(0),
+    }
+}
+
+fn count_of(alloc: Global, start: &[Scope]) -> Option<usize> {
+    match RoleSet::build(alloc, Vec::new(alloc)) {
+        Ok(none) => count_with(alloc, &none, start),
+        Err(_) => Some(0),
+    }
 }
 
 /// The same of so many numbers.
-fn count_of_numbers(alloc: Global, count: usize) -> Option<Result<usize, ExpandFault>> {
-    let start = numbered(alloc, count)?;
-    count_of(alloc, &start)
+fn count_of_numbers(alloc: Global, count: usize) -> Option<usize> {
+    match numbered(alloc, count) {
+        Some(start) => count_of(alloc, &start),
+        None => Some(0),
+    }
 }
 
 #[test]
 fn as_many_scopes_as_may_be(rt: HostRuntime) {
-    assert!(rt; count_of_numbers(rt.alloc(), 10_000) == Some(Ok(10_000)));
-    assert!(rt; count_of_numbers(rt.alloc(), 10_001) == Some(Err(ExpandFault::TooMany)));
+    assert!(rt; count_of_numbers(rt.alloc(), 10_000) == Some(10_000));
+    assert!(rt; count_of_numbers(rt.alloc(), 10_001).is_none());
 }

@@ -1,5 +1,5 @@
 use farm_text::{Moment, Text};
-use hawk_auth::{AuthFault, AuthHead, BookFault, Client, ClientBook, Parts, mac, sign};
+use hawk_auth::{AuthFault, AuthHead, BookFault, Client, ClientBook, Parts, sign};
 use role_expand::{Role, RoleSet};
 use scope_sets::{Expr, Scope, ScopeSet};
 use std::alloc::Global;
@@ -48,8 +48,13 @@ fn example_head(header: &str) -> AuthHead<'_> {
 
 /// The list of one scope. Here and below `None` is want of memory, or a text that is off its form.
 fn scopes(alloc: Global, text: &str) -> Option<Vec<Scope>> {
-    let text = String::from_str(alloc, text).ok()?;
-    let scope = Scope::new(text)?;
+    match String::from_str(alloc, text) {
+        Ok(text) => one_scope(alloc, Scope::new(text)?),
+        Err(_) => None,
+    }
+}
+
+fn one_scope(alloc: Global, scope: Scope) -> Option<Vec<Scope>> {
     Vec::from_array(alloc, [scope]).ok()
 }
 
@@ -57,121 +62,179 @@ fn scopes(alloc: Global, text: &str) -> Option<Vec<Scope>> {
 fn client_of(alloc: Global, id: &str, expires: Moment, disabled: bool) -> Option<Client> {
     let id = Text::from_str(alloc, id).ok()?;
     let token = Text::from_str(alloc, TOKEN).ok()?;
-    let scopes = scopes(alloc, "a")?;
-    Some(Client {
-        id,
-        token,
-        scopes,
-        expires,
-        disabled,
-    })
-}
-
-/// The book of one such client.
-fn book_of(alloc: Global, id: &str, expires: Moment, disabled: bool) -> Option<ClientBook> {
-    let client = client_of(alloc, id, expires, disabled)?;
-    let clients = Vec::from_array(alloc, [client]).ok()?;
-    ClientBook::build(alloc, clients).ok()
+    match scopes(alloc, "a") {
+        Some(scopes) => Some(Client {
+            id,
+            token,
+            scopes,
+            expires,
+            disabled,
+        }),
+        None => None,
+    }
 }
 
 fn role_of(alloc: Global, id: &str, scope: &str) -> Option<Role> {
     let id = String::from_str(alloc, id).ok()?;
-    let scopes = scopes(alloc, scope)?;
-    Some(Role { id, scopes })
+    match scopes(alloc, scope) {
+        Some(scopes) => Some(Role { id, scopes }),
+        None => None,
+    }
 }
 
 /// No roles but one that gives `two` to whoever gives no credentials.
 fn roles(alloc: Global) -> Option<RoleSet> {
     let role = role_of(alloc, "anonymous", "two")?;
-    let roles = Vec::from_array(alloc, [role]).ok()?;
-    RoleSet::build(alloc, roles).ok()
-}
-
-fn name_of(access: &Result<ScopeSet, AuthFault>) -> &'static str {
-    match access {
-        Ok(_) => "let in",
-        Err(AuthFault::BadHeader) => "BadHeader",
-        Err(AuthFault::UnknownClient) => "UnknownClient",
-        Err(AuthFault::Disabled) => "Disabled",
-        Err(AuthFault::Expired) => "Expired",
-        Err(AuthFault::Skew { .. }) => "Skew",
-        Err(AuthFault::BadMac) => "BadMac",
-        Err(AuthFault::BadHash) => "BadHash",
-        Err(AuthFault::BadExt) => "BadExt",
-        Err(AuthFault::Oversteps(_)) => "Oversteps",
-        Err(AuthFault::TooMany) => "TooMany",
-        Err(AuthFault::NoMemory) => "NoMemory",
+    match Vec::from_array(alloc, [role]) {
+        Ok(roles) => RoleSet::build(alloc, roles).ok(),
+        Err(_) => None,
     }
 }
 
-/// What the check of a request answers at a moment.
-fn answer(alloc: Global, book: &ClientBook, head: &AuthHead, now: Moment) -> Option<&'static str> {
-    let roles = roles(alloc)?;
-    Some(name_of(&book.check(alloc, &roles, head, now)))
+/// The one client of a book: its id, when it expires and whether it is disabled; and the milliseconds of a check.
+#[derive(Clone, Copy)]
+struct Known<'a> {
+    id: &'a str,
+    expires: u64,
+    disabled: bool,
+    now: u64,
 }
 
-/// What the check of Hawk's example answers, of a client that expires a millisecond after the moment.
-fn example(alloc: Global, header: &str, millis: u64, disabled: bool) -> Option<&'static str> {
-    let now = Moment::from_millis(millis)?;
-    let expires = Moment::from_millis(millis.saturating_add(1))?;
-    let book = book_of(alloc, "dh37fgj492je", expires, disabled)?;
-    answer(alloc, &book, &example_head(header), now)
-}
-
-#[test]
-fn example_is_signed(rt: HostRuntime) {
-    let text = sign(rt.alloc(), &example_parts());
-    assert!(rt; matches!(&text, Ok(text) if text.as_str() == SIGNED));
-}
-
-#[test]
-fn example_is_checked(rt: HostRuntime) {
-    for (header, millis, disabled, wanted) in [
-        (SIGNED, 1_353_832_234_000, false, "BadExt"),
-        (SIGNED, 1_353_833_134_999, false, "BadExt"),
-        (SIGNED, 1_353_833_135_000, false, "Skew"),
-        (FORGED, 1_353_832_234_000, false, "BadMac"),
-        (FORGED, 1_353_832_234_000, true, "Disabled"),
-    ] {
-        let found = example(rt.alloc(), header, millis, disabled);
-        assert!(rt; found == Some(wanted), "{wanted} at {millis}");
+/// The book of one such client.
+fn book_of(alloc: Global, known: Known) -> Option<ClientBook> {
+    let expires = Moment::from_millis(known.expires)?;
+    let client = client_of(alloc, known.id, expires, known.disabled)?;
+    match Vec::from_array(alloc, [client]) {
+        Ok(clients) => ClientBook::build(alloc, clients).ok(),
+        Err(_) => None,
     }
 }
 
-/// Whether a caller is refused for these seconds, which are too far apart.
-fn are_told(access: &Result<ScopeSet, AuthFault>, of_header: u64, of_moment: u64) -> bool {
-    match access {
-        Err(AuthFault::Skew { ts, now }) => *ts == of_header && *now == of_moment,
-        _ => false,
-    }
-}
-
-/// Whether Hawk's example is refused at a moment for these seconds.
-fn tells(alloc: Global, book: &ClientBook, now: Moment, of_header: u64, of_moment: u64) -> bool {
-    match roles(alloc) {
-        Some(roles) => are_told(
-            &book.check(alloc, &roles, &example_head(SIGNED), now),
-            of_header,
-            of_moment,
-        ),
+/// Whether the check of a request answers so. Here and in the two below alone a book, roles and an answer are owned.
+fn answers(alloc: Global, known: Known, head: &AuthHead, wanted: &str) -> bool {
+    match book_of(alloc, known) {
+        Some(book) => {
+            let is_so = book_answers(alloc, &book, head, known.now, wanted);
+            drop(book);
+            is_so
+        }
         None => false,
     }
 }
 
-/// Whether Hawk's example is refused at second 1353833135 for these seconds.
-fn skew_is(alloc: Global, of_header: u64, of_moment: u64) -> Option<bool> {
-    let now = Moment::from_millis(1_353_833_135_000)?;
-    let expires = Moment::from_millis(1_353_833_135_001)?;
-    let book = book_of(alloc, "dh37fgj492je", expires, false)?;
-    Some(tells(alloc, &book, now, of_header, of_moment))
+fn book_answers(alloc: Global, book: &ClientBook, head: &AuthHead, now: u64, wanted: &str) -> bool {
+    match (roles(alloc), Moment::from_millis(now)) {
+        (Some(roles), Some(now)) => {
+            let access = book.check(alloc, &roles, head, now);
+            let is_so = is_answer(&access, wanted);
+            drop(access);
+            drop(roles);
+            is_so
+        }
+        _ => false,
+    }
 }
 
+/// Whether an answer is this one: `let in`, with the number of scopes where it is told; the name of a fault, with the seconds that are too
+/// far apart, or the one scope that is missing.
+fn is_answer(access: &Result<ScopeSet, AuthFault>, wanted: &str) -> bool {
+    match access {
+        Ok(set) => match wanted.strip_prefix("let in ") {
+            Some(count) => count.parse::<usize>().ok() == Some(set.list().len()),
+            None => wanted == "let in",
+        },
+        Err(AuthFault::Skew { ts, now }) => is_skew(*ts, *now, wanted),
+        Err(AuthFault::Oversteps(missing)) => is_lack(missing, wanted),
+        Err(fault) => name_of(fault) == wanted,
+    }
+}
+
+fn is_skew(of_header: u64, of_moment: u64, wanted: &str) -> bool {
+    let seconds = wanted.strip_prefix("Skew ").unwrap_or(wanted);
+    match seconds.split_once(' ') {
+        Some((ts, now)) => {
+            ts.parse::<u64>().ok() == Some(of_header) && now.parse::<u64>().ok() == Some(of_moment)
+        }
+        None => false,
+    }
+}
+
+fn is_lack(missing: &Expr, wanted: &str) -> bool {
+    match missing {
+        Expr::AllOf(members) => match members.as_slice() {
+            [Expr::One(scope)] => wanted.strip_prefix("Oversteps ") == Some(scope.as_str()),
+            _ => false,
+        },
+        _ => false,
+    }
+}
+
+fn name_of(fault: &AuthFault) -> &'static str {
+    match fault {
+        AuthFault::BadHeader => "BadHeader",
+        AuthFault::UnknownClient => "UnknownClient",
+        AuthFault::Disabled => "Disabled",
+        AuthFault::Expired => "Expired",
+        AuthFault::Skew { .. } => "Skew",
+        AuthFault::BadMac => "BadMac",
+        AuthFault::BadHash => "BadHash",
+        AuthFault::BadExt => "BadExt",
+        AuthFault::Oversteps(_) => "Oversteps",
+        AuthFault::TooMany => "TooMany",
+        AuthFault::NoMemory => "NoMemory",
+    }
+}
+
+/// Whether the check of Hawk's example answers so, of a client that expires a millisecond after the moment.
+fn example(alloc: Global, header: &str, millis: u64, disabled: bool, wanted: &str) -> bool {
+    let known = Known {
+        id: "dh37fgj492je",
+        expires: millis.saturating_add(1),
+        disabled,
+        now: millis,
+    };
+    answers(alloc, known, &example_head(header), wanted)
+}
+
+fn is_example_signed(alloc: Global, wanted: &str) -> bool {
+    match sign(alloc, &example_parts()) {
+        Ok(text) => text.as_str() == wanted,
+        Err(_) => false,
+    }
+}
+
+/// Whether the example or the forged one, at a moment, of a client that is enabled or not, is answered so; or not, where `not` stands.
+fn is_checked(alloc: Global, row: &str) -> bool {
+    match row.split_once('|') {
+        Some((asked, wanted)) => match wanted.strip_prefix("not ") {
+            Some(other) => is_example(alloc, asked, other) == Some(false),
+            None => is_example(alloc, asked, wanted) == Some(true),
+        },
+        None => false,
+    }
+}
+
+fn is_example(alloc: Global, asked: &str, wanted: &str) -> Option<bool> {
+    let (header, rest) = asked.split_once(' ')?;
+    let (millis, state) = rest.split_once(' ')?;
+    let header = if header == "forged" { FORGED } else { SIGNED };
+    let millis = millis.parse::<u64>().ok()?;
+    Some(example(alloc, header, millis, state == "disabled", wanted))
+}
+
+const CHECKED: &str = "signed 1353832234000 enabled|BadExt
+signed 1353833134999 enabled|BadExt
+signed 1353833135000 enabled|Skew 1353832234 1353833135
+signed 1353833135000 enabled|not Skew 1353832234 1353833134
+forged 1353832234000 enabled|BadMac
+forged 1353832234000 disabled|Disabled";
+
 #[test]
-fn skew_tells_both(rt: HostRuntime) {
-    let told = skew_is(rt.alloc(), 1_353_832_234, 1_353_833_135);
-    assert!(rt; told == Some(true));
-    let other = skew_is(rt.alloc(), 1_353_832_234, 1_353_833_134);
-    assert!(rt; other == Some(false));
+fn example_is_checked(rt: HostRuntime) {
+    assert!(rt; is_example_signed(rt.alloc(), SIGNED));
+    for row in CHECKED.lines() {
+        assert!(rt; is_checked(rt.alloc(), row), "{row}");
+    }
 }
 
 fn asks_for_all() -> Parts<'static> {
@@ -189,8 +252,15 @@ fn asks_for_all() -> Parts<'static> {
     }
 }
 
-fn head_of<'a>(header: Option<&'a [u8]>, count: usize) -> AuthHead<'a> {
-    AuthHead {
+/// Whether whoever sends this header so many times, at second 1000, is answered so of a book of client `c`, which expires at second 2000.
+fn sent(alloc: Global, header: Option<&[u8]>, count: usize, wanted: &str) -> bool {
+    let known = Known {
+        id: "c",
+        expires: 2_000_000,
+        disabled: false,
+        now: 1_000_000,
+    };
+    let head = AuthHead {
         header,
         count,
         method: b"GET",
@@ -199,119 +269,54 @@ fn head_of<'a>(header: Option<&'a [u8]>, count: usize) -> AuthHead<'a> {
         body: b"",
         host: "farm",
         port: 80,
-    }
-}
-
-/// The book of client `c`, which expires at second 2000.
-fn book_of_c(alloc: Global) -> Option<ClientBook> {
-    book_of(alloc, "c", Moment::from_millis(2_000_000)?, false)
-}
-
-/// All of this one scope.
-fn all_of(alloc: Global, text: &str) -> Option<Expr> {
-    let text = String::from_str(alloc, text).ok()?;
-    let scope = Scope::new(text)?;
-    let all = Vec::from_array(alloc, [Expr::One(scope)]).ok()?;
-    Some(Expr::AllOf(all))
-}
-
-/// Whether a caller is refused because of this lack.
-fn is_lack(access: &Result<ScopeSet, AuthFault>, missing: &Expr) -> bool {
-    match access {
-        Err(AuthFault::Oversteps(lack)) => lack == missing,
-        _ => false,
-    }
-}
-
-/// Whether what a caller lacks is all of this one scope.
-fn lacks(alloc: Global, access: &Result<ScopeSet, AuthFault>, text: &str) -> bool {
-    match all_of(alloc, text) {
-        Some(missing) => is_lack(access, &missing),
-        None => false,
-    }
-}
-
-/// Whether a client who asks for all in this header lacks this scope.
-fn asks_without(alloc: Global, book: &ClientBook, header: &str, text: &str) -> Option<bool> {
-    let now = Moment::from_millis(1_000_000)?;
-    let roles = roles(alloc)?;
-    let head = head_of(Some(header.as_bytes()), 1);
-    Some(lacks(alloc, &book.check(alloc, &roles, &head, now), text))
-}
-
-/// Whether a client who asks for all lacks this scope.
-fn is_missing(alloc: Global, text: &str) -> Option<bool> {
-    let header = sign(alloc, &asks_for_all()).ok()?;
-    let book = book_of_c(alloc)?;
-    asks_without(alloc, &book, header.as_str(), text)
-}
-
-#[test]
-fn all_is_missing(rt: HostRuntime) {
-    assert!(rt; is_missing(rt.alloc(), "*") == Some(true));
-    assert!(rt; is_missing(rt.alloc(), "a") == Some(false));
-}
-
-/// The number of scopes of a caller who is let in.
-fn count_of(access: &Result<ScopeSet, AuthFault>) -> Option<usize> {
-    match access {
-        Ok(set) => Some(set.list().len()),
-        Err(_) => None,
-    }
-}
-
-/// The number of scopes of whoever sends this head.
-fn scopes_of(alloc: Global, book: &ClientBook, head: &AuthHead) -> Option<usize> {
-    let now = Moment::from_millis(1_000_000)?;
-    let roles = roles(alloc)?;
-    count_of(&book.check(alloc, &roles, head, now))
-}
-
-#[test]
-fn no_credentials(rt: HostRuntime) {
-    let count = match book_of_c(rt.alloc()) {
-        Some(book) => scopes_of(rt.alloc(), &book, &head_of(None, 0)),
-        None => None,
     };
-    assert!(rt; count == Some(2));
+    answers(alloc, known, &head, wanted)
 }
 
-/// What the check of Hawk's example answers where its header stands so many times.
-fn sent(alloc: Global, count: usize) -> Option<&'static str> {
-    let now = Moment::from_millis(1_000_000)?;
-    let book = book_of_c(alloc)?;
-    answer(alloc, &book, &head_of(Some(SIGNED.as_bytes()), count), now)
+/// Whether a client who asks for all is answered so.
+fn for_all(alloc: Global, wanted: &str) -> bool {
+    match sign(alloc, &asks_for_all()) {
+        Ok(header) => sent(alloc, Some(header.as_str().as_bytes()), 1, wanted),
+        Err(_) => false,
+    }
 }
 
 #[test]
-fn two_credentials(rt: HostRuntime) {
-    assert!(rt; sent(rt.alloc(), 2) == Some("BadHeader"));
-    assert!(rt; sent(rt.alloc(), 1) == Some("UnknownClient"));
+fn credentials(rt: HostRuntime) {
+    assert!(rt; for_all(rt.alloc(), "Oversteps *"));
+    assert!(rt; !for_all(rt.alloc(), "Oversteps a"));
+    assert!(rt; sent(rt.alloc(), None, 0, "let in 2"));
+    assert!(rt; sent(rt.alloc(), Some(SIGNED.as_bytes()), 2, "BadHeader"));
+    assert!(rt; sent(rt.alloc(), Some(SIGNED.as_bytes()), 1, "UnknownClient"));
 }
 
-fn clients_of(alloc: Global, ids: &[&str]) -> Option<Vec<Client>> {
+fn clients_of(alloc: Global, ids: &str) -> Option<Vec<Client>> {
     let mut clients = Vec::new(alloc);
-    for id in ids {
-        let client = client_of(alloc, id, Moment::FIRST, false)?;
-        clients.push(client).ok()?;
+    for id in ids.split(',') {
+        clients
+            .push(client_of(alloc, id, Moment::FIRST, false)?)
+            .ok()?;
     }
     Some(clients)
 }
 
-/// Why a book of clients with these ids is refused.
-fn book_fault(alloc: Global, ids: &[&str]) -> Option<BookFault> {
+/// Whether a book of clients with these ids, which commas cut, is built, or refused so.
+fn is_book(alloc: Global, ids: &str, wanted: Option<BookFault>) -> bool {
     match clients_of(alloc, ids) {
-        Some(clients) => ClientBook::build(alloc, clients).err(),
-        None => Some(BookFault::NoMemory),
+        Some(clients) => ClientBook::build(alloc, clients).err() == wanted,
+        None => false,
     }
 }
 
 #[test]
 fn books(rt: HostRuntime) {
-    let distinct = book_fault(rt.alloc(), &["a", "b/@!:.+|_-9"]);
-    assert!(rt; distinct.is_none());
-    let repeated = book_fault(rt.alloc(), &["a", "b", "a", "b"]);
-    assert!(rt; repeated == Some(BookFault::DuplicateClient(0, 2)));
-    let bad = book_fault(rt.alloc(), &["a", "a", "b c"]);
-    assert!(rt; bad == Some(BookFault::BadClient(2)));
+    assert!(rt; is_book(rt.alloc(), "a,b/@!:.+|_-9", None));
+    assert!(rt;
+        is_book(
+            rt.alloc(),
+            "a,b,a,b",
+            Some(BookFault::DuplicateClient(0, 2))
+        )
+    );
+    assert!(rt; is_book(rt.alloc(), "a,a,b c", Some(BookFault::BadClient(2))));
 }

@@ -74,13 +74,17 @@ fn is_copied(alloc: Global, document: &Doc, wanted: &str) -> bool {
     }
 }
 
+/// Whether the copy of a list is written so.
+fn is_list_copied(alloc: Global, wanted: &str) -> bool {
+    match list(alloc) {
+        Ok(document) => is_copied(alloc, &document, wanted),
+        Err(_) => false,
+    }
+}
+
 #[test]
 fn documents(rt: HostRuntime) {
-    let copied = match list(rt.alloc()) {
-        Ok(document) => is_copied(rt.alloc(), &document, "[null,true,-7,\"\"]"),
-        Err(_) => false,
-    };
-    assert!(rt; copied);
+    assert!(rt; is_list_copied(rt.alloc(), "[null,true,-7,\"\"]"));
 }
 
 // The document that the bytes are, written again, or why they are none.
@@ -201,98 +205,132 @@ fn keys_are_found(rt: HostRuntime) {
     assert!(rt; Doc::Null.get("a").is_none());
 }
 
-/// Whether the next moment that a clock tells is this one.
-fn tells(clock: &mut ListClock, wanted: u64) -> bool {
-    clock.now().millis() == wanted
+/// Whether the next moments that a clock tells are these.
+fn tells(clock: &mut ListClock, wanted: &[u64]) -> bool {
+    let mut all = true;
+    for millis in wanted {
+        all &= clock.now().millis() == *millis;
+    }
+    all
 }
 
-/// A clock that tells the first moment, and then the last.
-fn first_and_last(alloc: Global) -> Option<ListClock> {
+/// Whether another clock like this one begins with the first moment.
+fn forks(clock: &mut ListClock) -> bool {
+    match clock.fork() {
+        Ok(mut other) => tells(&mut other, &[0]),
+        Err(_) => false,
+    }
+}
+
+/// Whether a clock of two moments tells them, and the last one again; and also behind another one that is made like it.
+fn tells_its_last(mut clock: ListClock) -> bool {
+    tells(&mut clock, &[0, LAST_TOLD_MOMENT, LAST_TOLD_MOMENT])
+        && forks(&mut clock)
+        && tells(&mut clock, &[LAST_TOLD_MOMENT])
+}
+
+/// The first moment and the last.
+fn first_and_last(alloc: Global) -> Option<Vec<Moment>> {
     let last = Moment::from_millis(LAST_MOMENT)?;
-    let moments = Vec::from_array(alloc, [Moment::FIRST, last]).ok()?;
-    Some(ListClock::new(moments))
+    Vec::from_array(alloc, [Moment::FIRST, last]).ok()
 }
 
 #[test]
 fn clocks_tell_their_last_again(rt: HostRuntime) {
-    match first_and_last(rt.alloc()) {
-        Some(mut clock) => {
-            for millis in [0, LAST_TOLD_MOMENT, LAST_TOLD_MOMENT] {
-                assert!(rt; tells(&mut clock, millis), "{millis}");
-            }
-            // Another one begins with the first moment.
-            match clock.fork() {
-                Ok(mut other) => assert!(rt; tells(&mut other, 0)),
-                Err(_) => assert!(rt; false, "no fork"),
-            }
-            assert!(rt; tells(&mut clock, LAST_TOLD_MOMENT));
-        }
-        None => assert!(rt; false, "no clock"),
+    let told = match first_and_last(rt.alloc()) {
+        Some(moments) => tells_its_last(ListClock::new(moments)),
+        None => false,
+    };
+    assert!(rt; told);
+}
+
+/// Whether draws of an empty list tell this id, twice, and others can be made like them.
+fn draws_tell(alloc: Global, slug: &str) -> bool {
+    let mut draws = ListDraws::new(Vec::new(alloc));
+    let mut all = true;
+    for _ in 0..2 {
+        all &= draws.draw().text().as_slice() == slug.as_bytes();
     }
+    all && draws.fork().is_ok()
 }
 
 #[test]
 fn draws_tell_their_last_again(rt: HostRuntime) {
-    let mut draws = ListDraws::new(Vec::new(rt.alloc()));
-    for _ in 0..2 {
-        let drawn = draws.draw().text();
-        assert!(rt; drawn.as_slice() == b"AAAAAAAAQACAAAAAAAAAAA".as_slice());
+    assert!(rt; draws_tell(rt.alloc(), "AAAAAAAAQACAAAAAAAAAAA"));
+}
+
+/// Whether a text is `bc`, like its copy, and behind the other.
+fn is_text(text: &Text, other: &Text) -> bool {
+    let is_copied = match text.clone() {
+        Ok(copy) => copy == *text,
+        Err(_) => false,
+    };
+    is_copied
+        && *other < *text
+        && !text.is_empty()
+        && text.len() == 2
+        && text.as_bytes() == b"bc".as_slice()
+}
+
+/// Whether the text of another's content is `bc`.
+fn is_kept(text: Text) -> bool {
+    Text::from_string(text.into_string()).as_str() == "bc"
+}
+
+fn are_texts(alloc: Global) -> bool {
+    match (Text::from_str(alloc, "bc"), Text::from_str(alloc, "b")) {
+        (Ok(text), Ok(other)) => is_text(&text, &other) && is_kept(text),
+        _ => false,
     }
-    assert!(rt; draws.fork().is_ok());
 }
 
 #[test]
-fn texts(rt: HostRuntime) -> Result<(), Fail> {
-    let text = Text::from_str(rt.alloc(), "bc")?;
-    assert_eq!(rt; text.clone()?, text);
-    assert!(rt; Text::from_str(rt.alloc(), "b")? < text);
-    assert!(rt; !text.is_empty());
-    assert_eq!(rt; (text.len(), text.as_bytes()), (2, b"bc".as_slice()));
-    assert_eq!(rt; Text::from_string(text.into_string()).as_str(), "bc");
-    Ok(())
+fn texts(rt: HostRuntime) {
+    assert!(rt; are_texts(rt.alloc()));
 }
 
 /// Whether the slugid of a UUID that ends in this byte, and is nothing else but of version 4, has this text.
-fn is_slug(alloc: Global, last: u8, slug: &str) -> Option<bool> {
+fn is_slug(alloc: Global, last: u8, slug: &str) -> bool {
     let uuid = [0, 0, 0, 0, 0, 0, 0x40, 0, 0x80, 0, 0, 0, 0, 0, 0, last];
-    let id = SlugId::of_uuid(uuid)?;
-    let read = SlugId::read(slug.as_bytes())?;
-    let text = id.to_text(alloc).ok()?;
-    Some(text.as_str() == slug && read == id)
+    match (SlugId::of_uuid(uuid), SlugId::read(slug.as_bytes())) {
+        (Some(id), Some(read)) => read == id && is_told(&id.to_text(alloc), slug),
+        _ => false,
+    }
+}
+
+/// Whether this text was made.
+fn is_told(text: &Result<Text, AllocError>, wanted: &str) -> bool {
+    match text {
+        Ok(text) => text.as_str() == wanted,
+        Err(_) => false,
+    }
 }
 
 #[test]
 fn slugids(rt: HostRuntime) {
-    for (last, slug) in [
-        (0, "AAAAAAAAQACAAAAAAAAAAA"),
-        (1, "AAAAAAAAQACAAAAAAAAAAQ"),
-        (2, "AAAAAAAAQACAAAAAAAAAAg"),
-        (3, "AAAAAAAAQACAAAAAAAAAAw"),
-    ] {
-        assert!(rt; is_slug(rt.alloc(), last, slug) == Some(true), "{slug}");
-    }
-    assert!(rt; is_slug(rt.alloc(), 0, "AAAAAAAAQACAAAAAAAAAAQ") == Some(false));
+    assert!(rt; is_slug(rt.alloc(), 0, "AAAAAAAAQACAAAAAAAAAAA"));
+    assert!(rt; is_slug(rt.alloc(), 1, "AAAAAAAAQACAAAAAAAAAAQ"));
+    assert!(rt; is_slug(rt.alloc(), 2, "AAAAAAAAQACAAAAAAAAAAg"));
+    assert!(rt; is_slug(rt.alloc(), 3, "AAAAAAAAQACAAAAAAAAAAw"));
+    assert!(rt; !is_slug(rt.alloc(), 0, "AAAAAAAAQACAAAAAAAAAAQ"));
     assert!(rt; SlugId::read(b"AAAAAAAAQACAAAAAAAAAAB").is_none());
 }
 
 /// Whether the moment at so many milliseconds has this text.
-fn is_moment(alloc: Global, millis: u64, wanted: &str) -> Option<bool> {
-    let moment = Moment::from_millis(millis)?;
-    let text = moment.to_text(alloc).ok()?;
-    Some(text.as_str() == wanted)
+fn is_moment(alloc: Global, millis: u64, wanted: &str) -> bool {
+    match Moment::from_millis(millis) {
+        Some(moment) => is_told(&moment.to_text(alloc), wanted),
+        None => false,
+    }
 }
 
 #[test]
 fn moments(rt: HostRuntime) {
-    for (millis, text) in [
-        (0, "1970-01-01T00:00:00.000Z"),
-        (951_782_400_000, "2000-02-29T00:00:00.000Z"),
-        (1_704_067_200_000, "2024-01-01T00:00:00.000Z"),
-        (LAST_MOMENT, "9999-12-31T23:59:59.999Z"),
-    ] {
-        assert!(rt; is_moment(rt.alloc(), millis, text) == Some(true), "{text}");
-    }
-    assert!(rt; is_moment(rt.alloc(), 1, "1970-01-01T00:00:00.000Z") == Some(false));
+    assert!(rt; is_moment(rt.alloc(), 0, "1970-01-01T00:00:00.000Z"));
+    assert!(rt; is_moment(rt.alloc(), 951_782_400_000, "2000-02-29T00:00:00.000Z"));
+    assert!(rt; is_moment(rt.alloc(), 1_704_067_200_000, "2024-01-01T00:00:00.000Z"));
+    assert!(rt; is_moment(rt.alloc(), LAST_MOMENT, "9999-12-31T23:59:59.999Z"));
+    assert!(rt; !is_moment(rt.alloc(), 1, "1970-01-01T00:00:00.000Z"));
 }
 
 /// Whether the text after a row's bar is read as the number of milliseconds before it.

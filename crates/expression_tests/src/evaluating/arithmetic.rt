@@ -1,8 +1,6 @@
 //! Operators on numbers.
-use super::all_give;
-use std::test::Fail;
 
-const SUMS: &str = "1+2 ~ 3
+pub(super) const SUMS: &str = "1+2 ~ 3
 1 - 2 ~ -1
 2*3 ~ 6
 6/3 ~ 2
@@ -12,7 +10,7 @@ const SUMS: &str = "1+2 ~ 3
 (0-7)/7 ~ -1
 (0-7)/2 ~ !5";
 
-const POWERS: &str = "2**3 ~ 8
+pub(super) const POWERS: &str = "2**3 ~ 8
 2**3**2 ~ 512
 (2**3)**2 ~ 64
 2**0 ~ 1
@@ -25,7 +23,7 @@ const POWERS: &str = "2**3 ~ 8
 (0-1)**big ~ -1
 2**big ~ !4";
 
-const SIGNS: &str = "-2**2 ~ 4
+pub(super) const SIGNS: &str = "-2**2 ~ 4
 -(2**2) ~ -4
 -a ~ -1
 --a ~ 1
@@ -39,13 +37,13 @@ big*2 ~ !4
 -(0-big-1) ~ !4
 (0-big-1)/(0-1) ~ !4";
 
-const LEVELS: &str = "1+2*3 ~ 7
+pub(super) const LEVELS: &str = "1+2*3 ~ 7
 (1+2)*3 ~ 9
 10-2-3 ~ 5
 100/10/5 ~ 2
 2*3**2 ~ 18";
 
-const KINDS: &str = r#"1+'a' ~ !3
+pub(super) const KINDS: &str = r#"1+'a' ~ !3
 'a'+1 ~ !3
 'a'+'b' ~ "ab"
 b+e ~ "text"
@@ -58,12 +56,3 @@ true+true ~ !3
 2**'3' ~ !3
 missing+(1/0) ~ !2
 (1/0)+missing ~ !5"#;
-
-#[test]
-fn numbers_are_operated_on(rt: HostRuntime) -> Result<(), Fail> {
-    all_give(&rt, rt.alloc(), SUMS)?;
-    all_give(&rt, rt.alloc(), POWERS)?;
-    all_give(&rt, rt.alloc(), SIGNS)?;
-    all_give(&rt, rt.alloc(), LEVELS)?;
-    all_give(&rt, rt.alloc(), KINDS)
-}

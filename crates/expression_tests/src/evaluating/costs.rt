@@ -1,133 +1,96 @@
 //! What expressions cost, and that the dearest end soon.
-use super::read;
-use farm_text::{Doc, Entries};
-use jsone_eval::context::Context;
-use jsone_eval::evaluator::{Cost, EvalFault, eval};
-use jsone_expr::parse;
+use super::first_other;
 use std::alloc::{AllocError, Global};
-use std::test::Fail;
 
-/// What was paid for the expression where so much was paid before; nothing, where more than the limit would be paid.
-fn cost_of(
-    alloc: Global,
-    expression: &str,
-    context: &Context,
-    spent: u64,
-) -> Result<Option<u64>, Fail> {
-    let tree = parse(alloc, expression.as_bytes()).ok().ok_or("a tree")?;
-    let mut cost = Cost { spent };
-    match eval(alloc, &tree, context, &mut cost) {
-        Ok(_) => Ok(cost.spent.checked_sub(spent)),
-        Err(EvalFault::TooMuchWork) => Ok(None),
-        Err(EvalFault::Fault(_)) => Err(Fail::new("a fault")),
-        Err(EvalFault::NoMemory) => Err(Fail::new("no memory")),
-    }
-}
+/// Expressions, and what is paid for each.
+const COSTS: &str = "1 ~ paid 1
+'abc' ~ paid 4
+s ~ paid 5
+l ~ paid 3
+(1) ~ paid 2
+1+2 ~ paid 3
+s+s ~ paid 19
+1 && 2 ~ paid 3
+0 && missing ~ paid 2
+1 || missing ~ paid 2
+[1,2] ~ paid 5
+{a: 1} ~ paid 4
+l[0] ~ paid 5
+l[0:1] ~ paid 7
+l[:] ~ paid 6
+len(s) ~ paid 6
+len(range(0,10)) ~ paid 14
+!s ~ paid 6
+[] ~ paid 1
+{} ~ paid 1";
 
-/// A line is an expression and its cost, with ` ~ ` between them.
-const COSTS: &str = "1 ~ 1
-'abc' ~ 4
-s ~ 5
-l ~ 3
-(1) ~ 2
-1+2 ~ 3
-s+s ~ 19
-1 && 2 ~ 3
-0 && missing ~ 2
-1 || missing ~ 2
-[1,2] ~ 5
-{a: 1} ~ 4
-l[0] ~ 5
-l[0:1] ~ 7
-l[:] ~ 6
-len(s) ~ 6
-len(range(0,10)) ~ 14
-!s ~ 6
-[] ~ 1
-{} ~ 1";
+/// No more than the limit is paid: where 999,997 were paid before, one more, and where 500,000 were.
+const NEAR: &str = "1+2 ~ paid 3";
+
+const NEARER: &str = "1+2 ~ too much";
+
+const HALF: &str = "range(0,499997) ~ paid 500000
+range(0,499998) ~ too much";
 
 #[test]
-fn values_are_paid_for(rt: HostRuntime) -> Result<(), Fail> {
-    let names = read(rt.alloc(), r#"{"s":"abcd","l":[1,2]}"#)?;
-    let context = Context::new(rt.alloc(), &names);
-    for row in COSTS.lines() {
-        let (expression, wanted) = row.split_once(" ~ ").ok_or("no row")?;
-        let wanted = wanted.parse::<u64>().ok().ok_or("no number")?;
-        assert!(rt;
-            cost_of(rt.alloc(), expression, &context, 0)? == Some(wanted),
-            "{row}"
-        );
-    }
-    Ok(())
+fn values_are_paid_for(rt: HostRuntime) {
+    let names = r#"{"s":"abcd","l":[1,2]}"#;
+    assert_eq!(rt; first_other(rt.alloc(), names, 0, COSTS), "none");
+    assert_eq!(rt; first_other(rt.alloc(), "{}", 999_997, NEAR), "none");
+    assert_eq!(rt; first_other(rt.alloc(), "{}", 999_998, NEARER), "none");
+    assert_eq!(rt; first_other(rt.alloc(), "{}", 500_000, HALF), "none");
 }
 
-#[test]
-fn no_more_than_the_limit_is_paid(rt: HostRuntime) -> Result<(), Fail> {
-    let nothing = read(rt.alloc(), "{}")?;
-    let context = Context::new(rt.alloc(), &nothing);
-    assert!(rt; cost_of(rt.alloc(), "1+2", &context, 999_997)? == Some(3));
-    assert!(rt; cost_of(rt.alloc(), "1+2", &context, 999_998)?.is_none());
-    assert!(rt; cost_of(rt.alloc(), "range(0,499997)", &context, 500_000)? == Some(500_000));
-    assert!(rt; cost_of(rt.alloc(), "range(0,499998)", &context, 500_000)?.is_none());
-    Ok(())
-}
-
-/// A text of so many equal characters.
-fn many(alloc: Global, character: char, count: usize) -> Result<String, AllocError> {
-    let mut text = String::new(alloc);
-    for _ in 0..count {
-        text.push(character)?;
-    }
-    Ok(text)
-}
-
-/// A line is an expression and its cost, or that it costs more than the limit.
-const DEAREST: &str = "needle in long ~ 500004
-len(split(long, needle)) ~ 800006
-len(split(long, 'a')) ~ 600006
-len(split(long, '')) ~ 900004
+/// Expressions over a text of 300,000 `a` and one of 200,000 with a `b` behind them, and what is paid for each, or that it is too much.
+const DEAREST: &str = "needle in long ~ paid 500004
+len(split(long, needle)) ~ paid 800006
+len(split(long, 'a')) ~ paid 600006
+len(split(long, '')) ~ paid 900004
 len(join(range(0, 150000), long)) ~ too much
 len(long + long + long) ~ too much
 range(0, 9223372036854775807) ~ too much
-len(range(0, 999990)) ~ 999994
+len(range(0, 999990)) ~ paid 999994
 [long, long, long] ~ too much
-long == long ~ 600003
-uppercase(long)[-1] ~ 600006";
+long == long ~ paid 600003
+uppercase(long)[-1] ~ paid 600006";
 
-#[test]
-fn the_dearest_end(rt: HostRuntime) -> Result<(), Fail> {
-    let alloc = rt.alloc();
-    let long = many(alloc, 'a', 300_000)?;
-    let mut needle = many(alloc, 'a', 200_000)?;
-    needle.push('b')?;
-    let names = Entries::new(alloc)
-        .with(alloc, "long", Doc::text(alloc, long.as_str())?)?
-        .with(alloc, "needle", Doc::text(alloc, needle.as_str())?)?
-        .into_doc();
-    let context = Context::new(alloc, &names);
-    for row in DEAREST.lines() {
-        let (expression, wanted) = row.split_once(" ~ ").ok_or("no row")?;
-        let cost = cost_of(alloc, expression, &context, 0)?;
-        assert!(rt; cost == wanted.parse::<u64>().ok(), "{row}");
-    }
-    Ok(())
+/// The names of the two texts.
+fn long_names(alloc: Global) -> Result<String, AllocError> {
+    let long = "a".repeat(alloc, 300_000)?;
+    let needle = "a".repeat(alloc, 200_000)?;
+    format!(in alloc;
+        "{{\"long\":\"{}\",\"needle\":\"{}b\"}}",
+        long.as_str(),
+        needle.as_str()
+    )
 }
 
-/// A map of 100,001 members, the greatest key first.
-fn wide_map(alloc: Global) -> Result<String, AllocError> {
+fn other_of_long(alloc: Global) -> &'static str {
+    match long_names(alloc) {
+        Ok(names) => first_other(alloc, names.as_str(), 0, DEAREST),
+        Err(_) => "no memory",
+    }
+}
+
+/// A map of 100,001 members, the greatest key first, and what is paid for it.
+fn wide_row(alloc: Global) -> Result<String, AllocError> {
     let mut text = String::from_str(alloc, "{last:0")?;
     for key in (100_000..200_000).rev() {
         text.push_str(format!(in alloc; ",k{key}:0")?.as_str())?;
     }
-    text.push('}')?;
+    text.push_str("} ~ paid 900007")?;
     Ok(text)
 }
 
+fn is_wide_paid(alloc: Global) -> bool {
+    match wide_row(alloc) {
+        Ok(row) => first_other(alloc, "{}", 0, row.as_str()) == "none",
+        Err(_) => false,
+    }
+}
+
 #[test]
-fn a_wide_map_ends(rt: HostRuntime) -> Result<(), Fail> {
-    let nothing = read(rt.alloc(), "{}")?;
-    let context = Context::new(rt.alloc(), &nothing);
-    let text = wide_map(rt.alloc())?;
-    assert!(rt; cost_of(rt.alloc(), text.as_str(), &context, 0)? == Some(900_007));
-    Ok(())
+fn the_dearest_end(rt: HostRuntime) {
+    assert_eq!(rt; other_of_long(rt.alloc()), "none");
+    assert!(rt; is_wide_paid(rt.alloc()));
 }

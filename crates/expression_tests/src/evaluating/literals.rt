@@ -1,8 +1,6 @@
 //! Literals, names, lists and maps.
-use super::all_give;
-use std::test::Fail;
 
-const LITERALS: &str = r#"0 ~ 0
+pub(super) const LITERALS: &str = r#"0 ~ 0
 007 ~ 7
 9223372036854775807 ~ 9223372036854775807
 9223372036854775808 ~ !4
@@ -28,7 +26,7 @@ len ~ !2
 (a) ~ 1
 ((a)) ~ 1"#;
 
-const LISTS: &str = r#"[] ~ []
+pub(super) const LISTS: &str = r#"[] ~ []
 [1] ~ [1]
 [1,[2,3],'a',null] ~ [1,[2,3],"a",null]
 [a, a+1, missing] ~ !2
@@ -45,9 +43,3 @@ const LISTS: &str = r#"[] ~ []
 [{a: 1, a: 2}, missing] ~ !9
 {len: len([1,2])} ~ {"len":2}
 [[[]],[[],[]]] ~ [[[]],[[],[]]]"#;
-
-#[test]
-fn literals_names_lists_and_maps(rt: HostRuntime) -> Result<(), Fail> {
-    all_give(&rt, rt.alloc(), LITERALS)?;
-    all_give(&rt, rt.alloc(), LISTS)
-}

@@ -1,8 +1,6 @@
 //! Moments and spans of time.
-use super::all_give;
-use std::test::Fail;
 
-const SPANS: &str = r#"fromNow('') ~ "2024-01-01T00:00:00.000Z"
+pub(super) const SPANS: &str = r#"fromNow('') ~ "2024-01-01T00:00:00.000Z"
 fromNow('1 day') ~ "2024-01-02T00:00:00.000Z"
 fromNow('-1 day') ~ "2023-12-31T00:00:00.000Z"
 fromNow('+1d') ~ "2024-01-02T00:00:00.000Z"
@@ -24,7 +22,8 @@ fromNow('1 year') ~ !11
 fromNow('1.5 days') ~ !11
 fromNow('--1 day') ~ !11"#;
 
-const MOMENTS: &str = r#"fromNow('1 day', '2020-02-28T23:59:59Z') ~ "2020-02-29T23:59:59.000Z"
+pub(super) const MOMENTS: &str =
+    r#"fromNow('1 day', '2020-02-28T23:59:59Z') ~ "2020-02-29T23:59:59.000Z"
 fromNow('', '2020-02-28T23:59:59.1239+01:00') ~ "2020-02-28T22:59:59.123Z"
 fromNow('', 'yesterday') ~ !3
 fromNow('', '9999-01-01T00:00:00Z') ~ !3
@@ -41,9 +40,3 @@ fromNow('365 d', '9998-12-31T23:59:59.999Z') ~ "9999-12-31T23:59:59.999Z"
 fromNow('365 d 1 s', '9998-12-31T23:59:59.999Z') ~ !4
 fromNow('99999999999999999999999 weeks') ~ !4
 fromNow('-99999999999999999999999 weeks') ~ !4"#;
-
-#[test]
-fn spans_lead_to_moments(rt: HostRuntime) -> Result<(), Fail> {
-    all_give(&rt, rt.alloc(), SPANS)?;
-    all_give(&rt, rt.alloc(), MOMENTS)
-}

@@ -1,8 +1,6 @@
 //! Functions that give numbers.
-use super::all_give;
-use std::test::Fail;
 
-const PICKED: &str = "min(1) ~ 1
+pub(super) const PICKED: &str = "min(1) ~ 1
 min(3,1,2) ~ 1
 max(3,1,2) ~ 3
 min(neg,a) ~ -5
@@ -20,7 +18,7 @@ abs('a') ~ !3
 abs() ~ !3
 abs(1,2) ~ !3";
 
-const READ: &str = "number('12') ~ 12
+pub(super) const READ: &str = "number('12') ~ 12
 number('-12') ~ -12
 number('+12') ~ !3
 number('') ~ !3
@@ -31,7 +29,7 @@ number('9223372036854775808') ~ !4
 number('-9223372036854775808') ~ -9223372036854775808
 number(1) ~ !3";
 
-const LENGTHS: &str = "len('abc') ~ 3
+pub(super) const LENGTHS: &str = "len('abc') ~ 3
 len(u) ~ 4
 len('') ~ 0
 len(c) ~ 3
@@ -42,7 +40,7 @@ len() ~ !3
 len(c,c) ~ !3
 len(missing, 1/0) ~ !2";
 
-const RANGES: &str = "range(0,3) ~ [0,1,2]
+pub(super) const RANGES: &str = "range(0,3) ~ [0,1,2]
 range(3,0) ~ []
 range(0,0) ~ []
 range(-2,2) ~ [-2,-1,0,1]
@@ -60,11 +58,3 @@ range(0,1,1,1) ~ !3
 len(range(0,10)) ~ 10
 len(range(0,2000000)) ~ too much
 range(0-big,big) ~ too much";
-
-#[test]
-fn functions_give_numbers(rt: HostRuntime) -> Result<(), Fail> {
-    all_give(&rt, rt.alloc(), PICKED)?;
-    all_give(&rt, rt.alloc(), READ)?;
-    all_give(&rt, rt.alloc(), LENGTHS)?;
-    all_give(&rt, rt.alloc(), RANGES)
-}

@@ -1,8 +1,6 @@
 //! Members, indexes and slices.
-use super::all_give;
-use std::test::Fail;
 
-const KEYS: &str = r#"d.k ~ "v"
+pub(super) const KEYS: &str = r#"d.k ~ "v"
 d.n.m ~ 7
 d['k'] ~ "v"
 d["n"]['m'] ~ 7
@@ -13,7 +11,7 @@ c.k ~ !3
 z.k ~ !3
 c['k'] ~ !3"#;
 
-const INDEXES: &str = r#"c[0] ~ 10
+pub(super) const INDEXES: &str = r#"c[0] ~ 10
 c[2] ~ 30
 c[3] ~ !6
 c[-1] ~ 30
@@ -39,7 +37,7 @@ c[1+1] ~ 30
 (1/0)[missing] ~ !5
 missing[1/0] ~ !2"#;
 
-const LIST_SLICES: &str = "c[:] ~ [10,20,30]
+pub(super) const LIST_SLICES: &str = "c[:] ~ [10,20,30]
 c[1:] ~ [20,30]
 c[:1] ~ [10]
 c[1:2] ~ [20]
@@ -56,7 +54,7 @@ c[-1:1] ~ []
 c[1:-1] ~ [20]
 f[:] ~ []";
 
-const OTHER_SLICES: &str = r#"b[1:3] ~ "ex"
+pub(super) const OTHER_SLICES: &str = r#"b[1:3] ~ "ex"
 b[:-1] ~ "tex"
 b[-2:] ~ "xt"
 b[3:1] ~ ""
@@ -69,11 +67,3 @@ c[:null] ~ !3
 c[true:] ~ !3
 c[missing:(1/0)] ~ !2
 c[(1/0):missing] ~ !5"#;
-
-#[test]
-fn keys_indexes_and_slices(rt: HostRuntime) -> Result<(), Fail> {
-    all_give(&rt, rt.alloc(), KEYS)?;
-    all_give(&rt, rt.alloc(), INDEXES)?;
-    all_give(&rt, rt.alloc(), LIST_SLICES)?;
-    all_give(&rt, rt.alloc(), OTHER_SLICES)
-}

@@ -1,8 +1,6 @@
 //! Truth, order and membership.
-use super::all_give;
-use std::test::Fail;
 
-const DENIALS: &str = "!true ~ false
+pub(super) const DENIALS: &str = "!true ~ false
 !0 ~ true
 !!b ~ true
 !e ~ true
@@ -12,7 +10,7 @@ const DENIALS: &str = "!true ~ false
 !c ~ false
 !neg ~ false";
 
-const DECIDING: &str = "true && false ~ false
+pub(super) const DECIDING: &str = "true && false ~ false
 1 && 'a' ~ true
 0 && missing ~ false
 1 && missing ~ !2
@@ -29,7 +27,7 @@ missing && 0 ~ !2
 1 || missing || missing ~ true
 !(1 && 0) ~ true";
 
-const EQUALITY: &str = "1 == 1 ~ true
+pub(super) const EQUALITY: &str = "1 == 1 ~ true
 1 == 2 ~ false
 1 == '1' ~ false
 1 != '1' ~ true
@@ -43,7 +41,7 @@ d == {n: {m: 7}, k: 'v'} ~ true
 d != {n: {m: 8}, k: 'v'} ~ true
 {} == [] ~ false";
 
-const ORDER: &str = "1 < 2 ~ true
+pub(super) const ORDER: &str = "1 < 2 ~ true
 2 < 1 ~ false
 1 < 1 ~ false
 1 <= 1 ~ true
@@ -61,13 +59,13 @@ null < 1 ~ !3
 true < false ~ !3
 c < c ~ !3";
 
-const COMPARED: &str = "1 < 2 == true ~ true
+pub(super) const COMPARED: &str = "1 < 2 == true ~ true
 1 + 1 < 3 && 2 > 1 ~ true
 1 == 1 == true ~ true
 1 in [1] == true ~ !3
 !1 == 2 ~ false";
 
-const MEMBERSHIP: &str = "'ex' in b ~ true
+pub(super) const MEMBERSHIP: &str = "'ex' in b ~ true
 'xe' in b ~ false
 '' in b ~ true
 '' in '' ~ true
@@ -89,13 +87,3 @@ c in [c] ~ true
 null in null ~ !3
 !('a' in b) ~ true
 't' + 'e' in b ~ true";
-
-#[test]
-fn truth_order_and_membership(rt: HostRuntime) -> Result<(), Fail> {
-    all_give(&rt, rt.alloc(), DENIALS)?;
-    all_give(&rt, rt.alloc(), DECIDING)?;
-    all_give(&rt, rt.alloc(), EQUALITY)?;
-    all_give(&rt, rt.alloc(), ORDER)?;
-    all_give(&rt, rt.alloc(), COMPARED)?;
-    all_give(&rt, rt.alloc(), MEMBERSHIP)
-}

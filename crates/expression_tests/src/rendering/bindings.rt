@@ -1,13 +1,7 @@
 //! `$let`, `$map`, `$reduce`, `$find` and `$sort`.
-use super::all_give;
-use std::test::Fail;
 
-#[test]
-fn bound(rt: HostRuntime) -> Result<(), Fail> {
-    all_give(
-        &rt,
-        rt.alloc(),
-        r#"{"$let":{"x":5,"y":"${b}"},"in":["${x}",{"$eval":"y"}]} ~ ["5","text"]
+pub(super) const BOUND: &str =
+    r#"{"$let":{"x":5,"y":"${b}"},"in":["${x}",{"$eval":"y"}]} ~ ["5","text"]
 {"$let":{"a":2},"in":{"$let":{"w":{"$eval":"a"}},"in":"${a}${w}"}} ~ "22"
 {"$let":{"x":{"$if":"false","then":1}},"in":{"$eval":"defined('x')"}} ~ false
 {"$let":{"x":1},"in":{"$if":"false","then":1}} ~ null
@@ -21,16 +15,9 @@ fn bound(rt: HostRuntime) -> Result<(), Fail> {
 {"$let":1,"in":1} ~ !3
 {"$let":{"$switch":{}},"in":1} ~ !3
 {"$let":{"x":"${nope}"},"in":1} ~ !2 /$let/x
-{"$let":{"x":1},"in":{"q":"${nope}"}} ~ !2 /in/q"#,
-    )
-}
+{"$let":{"x":1},"in":{"q":"${nope}"}} ~ !2 /in/q"#;
 
-#[test]
-fn mapped(rt: HostRuntime) -> Result<(), Fail> {
-    all_give(
-        &rt,
-        rt.alloc(),
-        r#"{"$map":[1,2,3],"each(x)":{"$eval":"x * 2"}} ~ [2,4,6]
+pub(super) const MAPPED: &str = r#"{"$map":[1,2,3],"each(x)":{"$eval":"x * 2"}} ~ [2,4,6]
 {"$map":["p","q"],"each(x,i)":"${x}${i}"} ~ ["p0","q1"]
 {"$map":[],"each(x)":"${nope}"} ~ []
 {"$map":[1,2,3],"each(x)":{"$if":"x == 2","else":{"$eval":"x"}}} ~ [1,3]
@@ -48,16 +35,10 @@ fn mapped(rt: HostRuntime) -> Result<(), Fail> {
 {"$map":["${nope}"],"each(x)":1} ~ !2 /$map/0
 {"$map":[1,0],"each(x)":{"$eval":"1 / x"}} ~ !5 /each(x)
 {"$map":[1,0],"each(x,i)":["${c[x + 9]}"]} ~ !6 /each(x,i)/0
-{"$map":{"$eval":"range(0,400000)"},"each(x)":"abc"} ~ too much"#,
-    )
-}
+{"$map":{"$eval":"range(0,400000)"},"each(x)":"abc"} ~ too much"#;
 
-#[test]
-fn reduced(rt: HostRuntime) -> Result<(), Fail> {
-    all_give(
-        &rt,
-        rt.alloc(),
-        r#"{"$reduce":[1,2,3],"initial":10,"each(s,v)":{"$eval":"s + v"}} ~ 16
+pub(super) const REDUCED: &str =
+    r#"{"$reduce":[1,2,3],"initial":10,"each(s,v)":{"$eval":"s + v"}} ~ 16
 {"$reduce":[1,2,3],"initial":0,"each(s,v,i)":{"$eval":"s + v * i"}} ~ 8
 {"$reduce":[],"initial":"${a}","each(s,v)":"${nope}"} ~ "1"
 {"$reduce":[1,2,3],"initial":0,"each(s,v)":{"$if":"v != 2","then":{"$eval":"s + v"}}} ~ 4
@@ -67,16 +48,9 @@ fn reduced(rt: HostRuntime) -> Result<(), Fail> {
 {"$reduce":{"p":1},"initial":0,"each(s,v)":0} ~ !3
 {"$reduce":1,"initial":"${nope}","each(s,v)":0} ~ !2 /initial
 {"$reduce":"${nope}","initial":"${","each(s,v)":0} ~ !2 /$reduce
-{"$reduce":[1],"initial":0,"each(s,v)":{"$eval":"s.x"}} ~ !3 /each(s,v)"#,
-    )
-}
+{"$reduce":[1],"initial":0,"each(s,v)":{"$eval":"s.x"}} ~ !3 /each(s,v)"#;
 
-#[test]
-fn found(rt: HostRuntime) -> Result<(), Fail> {
-    all_give(
-        &rt,
-        rt.alloc(),
-        r#"{"$find":[1,2,3],"each(x)":"x > 1"} ~ 2
+pub(super) const FOUND: &str = r#"{"$find":[1,2,3],"each(x)":"x > 1"} ~ 2
 {"$find":["p","q"],"each(x,i)":"i == 1"} ~ "q"
 {"$find":[1,2],"each(x)":"x == 3"} ~ null
 [{"$find":[1,2],"each(x)":"x == 3"}] ~ []
@@ -88,16 +62,9 @@ fn found(rt: HostRuntime) -> Result<(), Fail> {
 {"$find":[1],"each(x)":"("} ~ !1
 {"$find":[0,1],"each(x)":"1 / x"} ~ !5
 {"q":{"$find":[1],"each(x)":"nope"}} ~ !2 /q
-{"$find":["${nope}"],"each(x)":"true"} ~ !2 /$find/0"#,
-    )
-}
+{"$find":["${nope}"],"each(x)":"true"} ~ !2 /$find/0"#;
 
-#[test]
-fn sorted(rt: HostRuntime) -> Result<(), Fail> {
-    all_give(
-        &rt,
-        rt.alloc(),
-        r#"{"$sort":[3,1,2]} ~ [1,2,3]
+pub(super) const SORTED: &str = r#"{"$sort":[3,1,2]} ~ [1,2,3]
 {"$sort":["b","a","é","Z",""]} ~ ["","Z","a","b","é"]
 {"$sort":[]} ~ []
 {"$sort":[3,-1,3,0]} ~ [-1,0,3,3]
@@ -115,6 +82,4 @@ fn sorted(rt: HostRuntime) -> Result<(), Fail> {
 {"$sort":[1,2],"by(x)":"[x,'a'][x - 1]"} ~ !3
 {"$sort":[1],"by(x)":1} ~ !3
 {"$sort":[1],"by(x)":"nope"} ~ !2
-{"$sort":["${nope}"],"by(x)":"x"} ~ !2 /$sort/0"#,
-    )
-}
+{"$sort":["${nope}"],"by(x)":"x"} ~ !2 /$sort/0"#;

@@ -1,13 +1,6 @@
 //! `$eval`, `$if`, `$switch`, `$match` and `$fromNow`.
-use super::all_give;
-use std::test::Fail;
 
-#[test]
-fn evaluated(rt: HostRuntime) -> Result<(), Fail> {
-    all_give(
-        &rt,
-        rt.alloc(),
-        r#"{"$eval":"range(0,3)"} ~ [0,1,2]
+pub(super) const EVALUATED: &str = r#"{"$eval":"range(0,3)"} ~ [0,1,2]
 {"$eval":"2**3**2"} ~ 512
 {"$eval":"-2**2"} ~ 4
 {"$eval":"d"} ~ {"k":"v","n":{"m":7}}
@@ -25,16 +18,9 @@ fn evaluated(rt: HostRuntime) -> Result<(), Fail> {
 {"$json":{"x":["${a}",{"$if":"false","then":1}]}} ~ "{\"x\":[\"1\"]}"
 {"$json":{"$switch":{}}} ~ "null"
 {"$json":"é\""} ~ "\"é\\\"\""
-{"$json":{"x":"${nope}"}} ~ !2 /$json/x"#,
-    )
-}
+{"$json":{"x":"${nope}"}} ~ !2 /$json/x"#;
 
-#[test]
-fn branches(rt: HostRuntime) -> Result<(), Fail> {
-    all_give(
-        &rt,
-        rt.alloc(),
-        r#"{"$if":"true","then":1} ~ 1
+pub(super) const BRANCHES: &str = r#"{"$if":"true","then":1} ~ 1
 {"$if":"a == 1","then":"x${a}","else":2} ~ "x1"
 {"$if":"false","then":1,"else":2} ~ 2
 {"$if":"[]","then":1,"else":2} ~ 2
@@ -72,16 +58,9 @@ fn branches(rt: HostRuntime) -> Result<(), Fail> {
 {"$match":{"$default":1}} ~ !1
 {"$match":1} ~ !3
 {"$match":{"t":"${nope}","a":"${7/2}"}} ~ !5 /$match/a
-{"$match":{"t":"${nope}","u + 1":2}} ~ !3"#,
-    )
-}
+{"$match":{"t":"${nope}","u + 1":2}} ~ !3"#;
 
-#[test]
-fn moments(rt: HostRuntime) -> Result<(), Fail> {
-    all_give(
-        &rt,
-        rt.alloc(),
-        r#"{"$fromNow":"1 day"} ~ "2024-01-02T00:00:00.000Z"
+pub(super) const MOMENTS: &str = r#"{"$fromNow":"1 day"} ~ "2024-01-02T00:00:00.000Z"
 {"$fromNow":""} ~ "2024-01-01T00:00:00.000Z"
 {"$fromNow":"${a} day"} ~ "2024-01-02T00:00:00.000Z"
 {"$fromNow":"- 2 h 3 m","from":"2024-02-01T00:00:00.000Z"} ~ "2024-01-31T21:57:00.000Z"
@@ -96,6 +75,4 @@ fn moments(rt: HostRuntime) -> Result<(), Fail> {
 {"$fromNow":"-99999 weeks"} ~ !4
 {"$fromNow":"${nope}","from":"${"} ~ !2 /$fromNow
 {"$fromNow":"1 day","from":"${"} ~ !1 /from
-{"$let":{"now":1},"in":{"$fromNow":"1d"}} ~ !3 /in"#,
-    )
-}
+{"$let":{"now":1},"in":{"$fromNow":"1d"}} ~ !3 /in"#;

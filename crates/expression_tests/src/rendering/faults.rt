@@ -1,13 +1,6 @@
 //! Which of several faults is the first, and what stops before a fault.
-use super::all_give;
-use std::test::Fail;
 
-#[test]
-fn the_first_fault_is_told(rt: HostRuntime) -> Result<(), Fail> {
-    all_give(
-        &rt,
-        rt.alloc(),
-        r#"["${nope}","${7/2}"] ~ !2 /0
+pub(super) const THE_FIRST_FAULT_IS_TOLD: &str = r#"["${nope}","${7/2}"] ~ !2 /0
 {"b":["${nope}"],"a":{"$eval":"7/2"}} ~ !5 /a
 {"$merge":[1,"${nope}"]} ~ !2 /$merge/1
 {"$nope":"${"} ~ !7
@@ -16,6 +9,4 @@ fn the_first_fault_is_told(rt: HostRuntime) -> Result<(), Fail> {
 ["${nope}",{"$eval":"len(range(0,2000000))"}] ~ !2 /0
 {"$map":{"$eval":"range(0,300000)"},"each(x)":{"$eval":"nope"}} ~ !2 /each(x)
 {"$let":{"x":"${nope}"},"in":"${"} ~ !2 /$let/x
-{"$if":"nope","then":"${"} ~ !2"#,
-    )
-}
+{"$if":"nope","then":"${"} ~ !2"#;

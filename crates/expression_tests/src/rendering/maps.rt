@@ -1,13 +1,6 @@
 //! Maps without an operator, and keys of operators.
-use super::all_give;
-use std::test::Fail;
 
-#[test]
-fn plain_maps(rt: HostRuntime) -> Result<(), Fail> {
-    all_give(
-        &rt,
-        rt.alloc(),
-        r#"{} ~ {}
+pub(super) const PLAIN_MAPS: &str = r#"{} ~ {}
 {"x":"${a}","y":[2]} ~ {"x":"1","y":[2]}
 {"a":{"$if":"false","then":2}} ~ {}
 {"a":{"$if":"false","then":2},"b":1} ~ {"b":1}
@@ -31,16 +24,9 @@ fn plain_maps(rt: HostRuntime) -> Result<(), Fail> {
 {"${nope}":"${"} ~ !1 /${nope}
 {"a/b":{"c~d":"${nope}"}} ~ !2 /a~1b/c~0d
 {"":"${nope}"} ~ !2 /
-{"b":"${nope}","a":"${"} ~ !1 /a"#,
-    )
-}
+{"b":"${nope}","a":"${"} ~ !1 /a"#;
 
-#[test]
-fn keys_of_operators(rt: HostRuntime) -> Result<(), Fail> {
-    all_give(
-        &rt,
-        rt.alloc(),
-        r#"{"$nope":1} ~ !7
+pub(super) const KEYS_OF_OPERATORS: &str = r#"{"$nope":1} ~ !7
 {"$a b":1} ~ !7
 {"$_":1} ~ !7
 {"$default":1} ~ !7
@@ -77,6 +63,4 @@ fn keys_of_operators(rt: HostRuntime) -> Result<(), Fail> {
 {"$merge":[],"x":2} ~ !7
 {"$fromNow":"","x":2} ~ !7
 {"$switch":{},"$$x":2} ~ !7
-[{"$nope":1}] ~ !7 /0"#,
-    )
-}
+[{"$nope":1}] ~ !7 /0"#;

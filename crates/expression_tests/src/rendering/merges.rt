@@ -1,13 +1,6 @@
 //! `$merge`, `$mergeDeep`, `$flatten`, `$flattenDeep` and `$reverse`.
-use super::all_give;
-use std::test::Fail;
 
-#[test]
-fn merged(rt: HostRuntime) -> Result<(), Fail> {
-    all_give(
-        &rt,
-        rt.alloc(),
-        r#"{"$merge":[{"a":1,"b":2},{"b":3,"c":4}]} ~ {"a":1,"b":3,"c":4}
+pub(super) const MERGED: &str = r#"{"$merge":[{"a":1,"b":2},{"b":3,"c":4}]} ~ {"a":1,"b":3,"c":4}
 {"$merge":[{"a":{"x":1}},{"a":{"y":2}}]} ~ {"a":{"y":2}}
 {"$merge":[]} ~ {}
 {"$merge":[{"$if":"false","then":{"a":1}},{"b":2}]} ~ {"b":2}
@@ -22,16 +15,9 @@ fn merged(rt: HostRuntime) -> Result<(), Fail> {
 {"$mergeDeep":[]} ~ {}
 {"$mergeDeep":[{"a":1},[2]]} ~ !3
 {"$mergeDeep":1} ~ !3
-{"$mergeDeep":["${nope}"]} ~ !2 /$mergeDeep/0"#,
-    )
-}
+{"$mergeDeep":["${nope}"]} ~ !2 /$mergeDeep/0"#;
 
-#[test]
-fn flattened(rt: HostRuntime) -> Result<(), Fail> {
-    all_give(
-        &rt,
-        rt.alloc(),
-        r#"{"$flatten":[[1,[2]],3,[],"x"]} ~ [1,[2],3,"x"]
+pub(super) const FLATTENED: &str = r#"{"$flatten":[[1,[2]],3,[],"x"]} ~ [1,[2],3,"x"]
 {"$flatten":[]} ~ []
 {"$flatten":[{"$if":"false","then":1},[{"$if":"false","then":1}]]} ~ []
 {"$flatten":{"a":1}} ~ !3
@@ -44,6 +30,4 @@ fn flattened(rt: HostRuntime) -> Result<(), Fail> {
 {"$reverse":[]} ~ []
 {"$reverse":{"$eval":"c"}} ~ [30,20,10]
 {"$reverse":"abc"} ~ !3
-{"$reverse":["${nope}"]} ~ !2 /$reverse/0"#,
-    )
-}
+{"$reverse":["${nope}"]} ~ !2 /$reverse/0"#;

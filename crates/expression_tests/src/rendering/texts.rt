@@ -1,13 +1,6 @@
 //! Scalars, texts and lists.
-use super::all_give;
-use std::test::Fail;
 
-#[test]
-fn texts(rt: HostRuntime) -> Result<(), Fail> {
-    all_give(
-        &rt,
-        rt.alloc(),
-        r#"null ~ null
+pub(super) const TEXTS: &str = r#"null ~ null
 true ~ true
 -5 ~ -5
 "" ~ ""
@@ -54,16 +47,9 @@ true ~ true
 "${nope}${" ~ !2
 "${c[9]}" ~ !6
 "${7/2}" ~ !5
-"${'$${'" ~ !1"#,
-    )
-}
+"${'$${'" ~ !1"#;
 
-#[test]
-fn lists(rt: HostRuntime) -> Result<(), Fail> {
-    all_give(
-        &rt,
-        rt.alloc(),
-        r#"[] ~ []
+pub(super) const LISTS: &str = r#"[] ~ []
 [1,"${a}",null] ~ [1,"1",null]
 [[],[[]]] ~ [[],[[]]]
 [1,{"$if":"false","then":2},3] ~ [1,3]
@@ -71,6 +57,4 @@ fn lists(rt: HostRuntime) -> Result<(), Fail> {
 [[{"$if":"false","then":2}],{"$switch":{}}] ~ [[]]
 [1,"${nope}"] ~ !2 /1
 [[0,["${"]]] ~ !1 /0/1/0
-["${c}","${"] ~ !3 /0"#,
-    )
-}
+["${c}","${"] ~ !3 /0"#;

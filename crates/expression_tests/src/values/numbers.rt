@@ -1,144 +1,146 @@
 //! Whole numbers.
-use super::{GREATEST, LEAST};
+use crate::answers::is_number;
 use jsone_values::faults::Fault;
 use jsone_values::numbers::{from_digits, from_text, minus, negated, over, plus, power, times};
 
-#[test]
-fn numbers_are_added_and_multiplied_up_to_64_bits(rt: HostRuntime) {
-    for (left, right, sum, difference, product) in [
-        (2, 3, Ok(5), Ok(-1), Ok(6)),
-        (-7, 0, Ok(-7), Ok(-7), Ok(0)),
-        (
-            GREATEST,
-            1,
-            Err(Fault::OutOfRange),
-            Ok(GREATEST - 1),
-            Ok(GREATEST),
-        ),
-        (LEAST, 1, Ok(LEAST + 1), Err(Fault::OutOfRange), Ok(LEAST)),
-        (
-            LEAST,
-            -1,
-            Err(Fault::OutOfRange),
-            Ok(-GREATEST),
-            Err(Fault::OutOfRange),
-        ),
-        (
-            4_294_967_296,
-            2_147_483_648,
-            Ok(6_442_450_944),
-            Ok(2_147_483_648),
-            Err(Fault::OutOfRange),
-        ),
-        (
-            -4_294_967_296,
-            2_147_483_648,
-            Ok(-2_147_483_648),
-            Ok(-6_442_450_944),
-            Ok(LEAST),
-        ),
-    ] {
-        assert!(rt; plus(left, right) == sum, "{left} + {right}");
-        assert!(rt; minus(left, right) == difference, "{left} - {right}");
-        assert!(rt; times(left, right) == product, "{left} * {right}");
-    }
-    assert!(rt; negated(5) == Ok(-5));
-    assert!(rt; negated(LEAST) == Err(Fault::OutOfRange));
-}
-
-#[test]
-fn a_division_leaves_no_rest(rt: HostRuntime) {
-    for (left, right, quotient) in [
-        (6, 2, Ok(3)),
-        (-6, 2, Ok(-3)),
-        (6, -2, Ok(-3)),
-        (-6, -2, Ok(3)),
-        (0, 5, Ok(0)),
-        (7, 2, Err(Fault::NotExact)),
-        (-7, 2, Err(Fault::NotExact)),
-        (1, 0, Err(Fault::NotExact)),
-        (0, 0, Err(Fault::NotExact)),
-        (LEAST, -1, Err(Fault::OutOfRange)),
-        (LEAST, 1, Ok(LEAST)),
-        (GREATEST, -1, Ok(-GREATEST)),
-    ] {
-        assert!(rt; over(left, right) == quotient, "{left} / {right}");
+fn operated(operator: &str, left: i64, right: i64) -> Result<i64, Fault> {
+    match operator {
+        "+" => plus(left, right),
+        "-" => minus(left, right),
+        "*" => times(left, right),
+        "/" => over(left, right),
+        "**" => power(left, right),
+        _ => negated(right),
     }
 }
 
+/// Whether the operator of a row gives, between its numbers, what the row ends with.
+fn is_row(row: &str) -> Option<bool> {
+    let (left, rest) = row.split_once(' ')?;
+    let (operator, rest) = rest.split_once(' ')?;
+    let (right, wanted) = rest.split_once(" ~ ")?;
+    let left = left.parse::<i64>().ok()?;
+    let right = right.parse::<i64>().ok()?;
+    Some(is_number(operated(operator, left, right), wanted))
+}
+
+/// Sums, differences and products up to 64 bits; quotients, which leave no rest; powers, whose exponents go from 0 on; and negations.
+const NUMBERS: &str = "2 + 3 ~ 5
+2 - 3 ~ -1
+2 * 3 ~ 6
+-7 + 0 ~ -7
+-7 - 0 ~ -7
+-7 * 0 ~ 0
+9223372036854775807 + 1 ~ !4
+9223372036854775807 - 1 ~ 9223372036854775806
+9223372036854775807 * 1 ~ 9223372036854775807
+-9223372036854775808 + 1 ~ -9223372036854775807
+-9223372036854775808 - 1 ~ !4
+-9223372036854775808 * 1 ~ -9223372036854775808
+-9223372036854775808 + -1 ~ !4
+-9223372036854775808 - -1 ~ -9223372036854775807
+-9223372036854775808 * -1 ~ !4
+4294967296 + 2147483648 ~ 6442450944
+4294967296 - 2147483648 ~ 2147483648
+4294967296 * 2147483648 ~ !4
+-4294967296 + 2147483648 ~ -2147483648
+-4294967296 - 2147483648 ~ -6442450944
+-4294967296 * 2147483648 ~ -9223372036854775808
+6 / 2 ~ 3
+-6 / 2 ~ -3
+6 / -2 ~ -3
+-6 / -2 ~ 3
+0 / 5 ~ 0
+7 / 2 ~ !5
+-7 / 2 ~ !5
+1 / 0 ~ !5
+0 / 0 ~ !5
+-9223372036854775808 / -1 ~ !4
+-9223372036854775808 / 1 ~ -9223372036854775808
+9223372036854775807 / -1 ~ -9223372036854775807
+2 ** 3 ~ 8
+2 ** 9 ~ 512
+-2 ** 2 ~ 4
+-2 ** 3 ~ -8
+0 ** 0 ~ 1
+0 ** 1 ~ 0
+0 ** 9223372036854775807 ~ 0
+1 ** 9223372036854775807 ~ 1
+-1 ** 9223372036854775807 ~ -1
+-1 ** 9223372036854775806 ~ 1
+-1 ** 64 ~ 1
+-1 ** 65 ~ -1
+2 ** 62 ~ 4611686018427387904
+2 ** 63 ~ !4
+-2 ** 63 ~ -9223372036854775808
+-2 ** 64 ~ !4
+3 ** 9223372036854775807 ~ !4
+10 ** 18 ~ 1000000000000000000
+10 ** 19 ~ !4
+2 ** -1 ~ !5
+1 ** -1 ~ !5
+0 negated 5 ~ -5
+0 negated -9223372036854775808 ~ !4";
+
 #[test]
-fn powers_have_exponents_from_0_on(rt: HostRuntime) {
-    for (base, exponent, number) in [
-        (2, 3, Ok(8)),
-        (2, 9, Ok(512)),
-        (-2, 2, Ok(4)),
-        (-2, 3, Ok(-8)),
-        (0, 0, Ok(1)),
-        (0, 1, Ok(0)),
-        (0, GREATEST, Ok(0)),
-        (1, GREATEST, Ok(1)),
-        (-1, GREATEST, Ok(-1)),
-        (-1, GREATEST - 1, Ok(1)),
-        (-1, 64, Ok(1)),
-        (-1, 65, Ok(-1)),
-        (2, 62, Ok(4_611_686_018_427_387_904)),
-        (2, 63, Err(Fault::OutOfRange)),
-        (-2, 63, Ok(LEAST)),
-        (-2, 64, Err(Fault::OutOfRange)),
-        (3, GREATEST, Err(Fault::OutOfRange)),
-        (10, 18, Ok(1_000_000_000_000_000_000)),
-        (10, 19, Err(Fault::OutOfRange)),
-        (2, -1, Err(Fault::NotExact)),
-        (1, -1, Err(Fault::NotExact)),
-    ] {
-        assert!(rt; power(base, exponent) == number, "{base} ** {exponent}");
+fn numbers_are_operated_on(rt: HostRuntime) {
+    for row in NUMBERS.lines() {
+        assert!(rt; is_row(row) == Some(true), "{row}");
+    }
+}
+
+/// Digits, and the numbers that they write; texts, and those that they write.
+const DIGITS: &str = "0|0
+007|7
+120|120
+9223372036854775807|9223372036854775807
+9223372036854775808|!4
+18446744073709551615|!4
+18446744073709551616|!4
+99999999999999999999999999999999999999999|!4
+00000000000000000000000000000000000000001|1";
+
+const TEXTS: &str = "0|0
+-0|0
+-7|-7
+007|7
+9223372036854775807|9223372036854775807
+9223372036854775808|!4
+-9223372036854775807|-9223372036854775807
+-9223372036854775808|-9223372036854775808
+-9223372036854775809|!4
+-99999999999999999999999|!4
+|!3
+-|!3
++1|!3
+--1|!3
+ 1|!3
+1 |!3
+1.5|!3
+1e3|!3
+0x1|!3
+٣|!3";
+
+fn are_digits(row: &str) -> bool {
+    match row.split_once('|') {
+        Some((digits, wanted)) => is_number(from_digits(digits.as_bytes()), wanted),
+        None => false,
+    }
+}
+
+fn is_text(row: &str) -> bool {
+    match row.split_once('|') {
+        Some((text, wanted)) => is_number(from_text(text.as_bytes()), wanted),
+        None => false,
     }
 }
 
 #[test]
-fn digits_write_numbers(rt: HostRuntime) {
-    for (digits, number) in [
-        ("0", Ok(0)),
-        ("007", Ok(7)),
-        ("120", Ok(120)),
-        ("9223372036854775807", Ok(GREATEST)),
-        ("9223372036854775808", Err(Fault::OutOfRange)),
-        ("18446744073709551615", Err(Fault::OutOfRange)),
-        ("18446744073709551616", Err(Fault::OutOfRange)),
-        (
-            "99999999999999999999999999999999999999999",
-            Err(Fault::OutOfRange),
-        ),
-        ("00000000000000000000000000000000000000001", Ok(1)),
-    ] {
-        assert!(rt; from_digits(digits.as_bytes()) == number, "{digits}");
+fn digits_and_texts_write_numbers(rt: HostRuntime) {
+    for row in DIGITS.lines() {
+        assert!(rt; are_digits(row), "{row}");
     }
-}
-
-#[test]
-fn texts_write_numbers(rt: HostRuntime) {
-    for (text, number) in [
-        ("0", Ok(0)),
-        ("-0", Ok(0)),
-        ("-7", Ok(-7)),
-        ("007", Ok(7)),
-        ("9223372036854775807", Ok(GREATEST)),
-        ("9223372036854775808", Err(Fault::OutOfRange)),
-        ("-9223372036854775807", Ok(-GREATEST)),
-        ("-9223372036854775808", Ok(LEAST)),
-        ("-9223372036854775809", Err(Fault::OutOfRange)),
-        ("-99999999999999999999999", Err(Fault::OutOfRange)),
-        ("", Err(Fault::WrongKind)),
-        ("-", Err(Fault::WrongKind)),
-        ("+1", Err(Fault::WrongKind)),
-        ("--1", Err(Fault::WrongKind)),
-        (" 1", Err(Fault::WrongKind)),
-        ("1 ", Err(Fault::WrongKind)),
-        ("1.5", Err(Fault::WrongKind)),
-        ("1e3", Err(Fault::WrongKind)),
-        ("0x1", Err(Fault::WrongKind)),
-        ("\u{663}", Err(Fault::WrongKind)),
-    ] {
-        assert!(rt; from_text(text.as_bytes()) == number, "{text}");
+    for row in TEXTS.lines() {
+        assert!(rt; is_text(row), "{row}");
     }
 }

@@ -7,15 +7,13 @@ ghost use Rattle.farm_rows.specs.Plans.{named_rows, IsPlanOn};
 ghost use Rattle.farm_rows.specs.Deeds.{kind_of, change_of, row_of, claims_of, rows_after};
 
 use crate::copies::claims;
-use crate::groups::note_first;
-use crate::places::note_new;
 use crate::plan::{Deed, TaskPlan};
 use crate::room::grown;
 use crate::settle::settle_new;
 use crate::shown::shown;
 use crate::tables::TaskTables;
 use farm_record::{Creation, Kind};
-use farm_text::{Moment, SlugId};
+use farm_text::Moment;
 use run_states::{Claim as RunClaim, TaskRow};
 use std::alloc::{AllocError, Global};
 
@@ -44,7 +42,7 @@ impl TaskTables {
         }
     }
 
-    /// The plan of a creation that may be made. The place that the task will have is noted, and for its group, where it is the first.
+    /// The plan of a creation that may be made. There is room beside the tasks for the one that is created.
     fn plan_new(
         &mut self,
         alloc: Global,
@@ -56,33 +54,16 @@ impl TaskTables {
         ensures plan { IfOk result (λ p. IsPlanOn self.old p) }
         ensures same { self.new ≡ self.old }
     {
-        self.note_places(&creation)?;
+        self.note(alloc, &creation)?;
         self.plan_creation(alloc, at, creation)
     }
 
-    /// Notes the place of a task that is to be created, by its id, and for its group.
-    fn note_places(&mut self, creation: &Creation) -> Result<(), AllocError>
+    /// Makes room beside the tasks for one that is to be created.
+    fn note(&mut self, alloc: Global, creation: &Creation) -> Result<(), AllocError>
         requires { row_with creation.now.id self.old.rows ≡ None }
         ensures { self.new ≡ self.old }
     {
-        self.note_next(creation.id)?;
-        self.note_group(creation.definition.task_group_id)
-    }
-
-    /// Notes the place of a task that is to be created.
-    fn note_next(&mut self, id: SlugId) -> Result<(), AllocError>
-        requires { row_with id self.old.rows ≡ None }
-        ensures { self.new ≡ self.old }
-    {
-        let place = self.rows.len() as u32;
-        note_new(&mut self.places, id, place)
-    }
-
-    /// Notes the place of a task that is to be created for its group, where that has no task yet.
-    fn note_group(&mut self, group: SlugId) -> Result<(), AllocError>
-        ensures { self.new ≡ self.old }
-    {
-        note_first(&mut self.groups, &self.rows, group)
+        self.index.note(alloc, &self.rows, creation)
     }
 
     /// The plan of a creation that may be made.

@@ -1,6 +1,7 @@
 //! Bodies: those that calls have, and others.
 use super::*;
 
+/// A definition makes a task.
 const TASKS: &str =
     r#"PUT /api/queue/v1/task/AAAAAAAAQACAAAAAAAAAAA|{"created":"2024-01-01T00:00:00.000Z","deadline":"2024-01-02T00:00:00.000Z","metadata":{"description":"d","name":"n","owner":"o@example.com","source":"https://example.com/"},"payload":{},"taskQueueId":"prov/wt"}|create AAAAAAAAQACAAAAAAAAAAA
 PUT /api/queue/v1/task/AAAAAAAAQACAAAAAAAAAAA||no JSON
@@ -9,12 +10,7 @@ PUT /api/queue/v1/task/AAAAAAAAQACAAAAAAAAAAA|{}|created
 PUT /api/queue/v1/task/x||bad taskId
 PUT /api/queue/v1/task/|{}|no route /api/queue/v1/task/"#;
 
-#[test]
-fn a_definition_makes_a_task(rt: HostRuntime) -> Result<(), Fail> {
-    assert_eq!(rt; first_other(rt.alloc(), TASKS)?, "none");
-    Ok(())
-}
-
+/// Workers ask for work.
 const WORK: &str = r#"POST /api/queue/v1/claim-work/prov/wt|{"workerGroup":"g","workerId":"w"}|w 1
 POST /api/queue/v1/claim-work/prov%2Fwt|{"workerGroup":"g","workerId":"w"}|w 1
 POST /api/queue/v1/claim-work/%70rov%2fwt?a|{"workerGroup":"g","workerId":"w"}|w 1
@@ -31,12 +27,7 @@ POST /api/queue/v1/claim-work/prov%2Fwt/x|{|bad queue
 POST /api/queue/v1/claim-work/prov|{|bad queue
 POST /api/queue/v1/claim-work/prov/|{}|no route /api/queue/v1/claim-work/prov/"#;
 
-#[test]
-fn workers_ask_for_work(rt: HostRuntime) -> Result<(), Fail> {
-    assert_eq!(rt; first_other(rt.alloc(), WORK)?, "none");
-    Ok(())
-}
-
+/// They tell why a run ended.
 const REASONS: &str =
     r#"POST /api/queue/v1/task/AAAAAAAAQACAAAAAAAAAAA/runs/1/exception|{"reason":"worker-shutdown"}|worker-shutdown 1
 POST /api/queue/v1/task/AAAAAAAAQACAAAAAAAAAAA/runs/1/exception|{"reason":"completed"}|no reason
@@ -45,12 +36,7 @@ POST /api/queue/v1/task/AAAAAAAAQACAAAAAAAAAAA/runs/1/exception||no JSON
 POST /api/queue/v1/task/AAAAAAAAQACAAAAAAAAAAA/runs/x/exception||bad runId
 POST /api/queue/v1/task/x/runs/x/exception||bad taskId"#;
 
-#[test]
-fn workers_tell_why_a_run_ended(rt: HostRuntime) -> Result<(), Fail> {
-    assert_eq!(rt; first_other(rt.alloc(), REASONS)?, "none");
-    Ok(())
-}
-
+/// Hooks are triggered with objects.
 const PAYLOADS: &str = r#"POST /api/hooks/v1/hooks/g/h/trigger|{"x":[]}|trigger h of g
 POST /api/hooks/v1/hooks/%67_1/h%2Fi/trigger?a|{}|trigger h/i of g_1
 POST /api/hooks/v1/hooks/g/h/trigger|[]|no payload
@@ -63,7 +49,10 @@ POST /api/hooks/v1/hooks/g/%ff/trigger|{}|bad hookId
 POST /api/hooks/v1/hooks//h/trigger|{}|no route /api/hooks/v1/hooks//h/trigger"#;
 
 #[test]
-fn hooks_are_triggered_with_objects(rt: HostRuntime) -> Result<(), Fail> {
+fn bodies_are_those_of_their_calls(rt: HostRuntime) -> Result<(), Fail> {
+    assert_eq!(rt; first_other(rt.alloc(), TASKS)?, "none");
+    assert_eq!(rt; first_other(rt.alloc(), WORK)?, "none");
+    assert_eq!(rt; first_other(rt.alloc(), REASONS)?, "none");
     assert_eq!(rt; first_other(rt.alloc(), PAYLOADS)?, "none");
     Ok(())
 }

@@ -1,6 +1,7 @@
 //! Targets: each route, and each of its parameters off its form.
 use super::*;
 
+/// Routes, and targets that have none.
 const ROUTES: &str = r#"GET /api/queue/v1/ping||ping
 GET /api/queue/v1/ping?a=/b||ping
 GET /api/queue/v1/ping|{|ping
@@ -50,12 +51,7 @@ GET /api/hooks/v1/hooks/g/h/trigger||no route /api/hooks/v1/hooks/g/h/trigger
 POST /api/hooks/v1/hooks/g/h/i/trigger|{}|no route /api/hooks/v1/hooks/g/h/i/trigger
 POST /api/queue/v1/hooks/g/h/trigger|{}|no route /api/queue/v1/hooks/g/h/trigger"#;
 
-#[test]
-fn each_route_is_its_own(rt: HostRuntime) -> Result<(), Fail> {
-    assert_eq!(rt; first_other(rt.alloc(), ROUTES)?, "none");
-    Ok(())
-}
-
+/// Lists, of which a query tells a page.
 const LISTS: &str =
     r#"GET /api/queue/v1/task-group/AAAAAAAAQACAAAAAAAAAAA/list||group AAAAAAAAQACAAAAAAAAAAA 1000
 GET /api/queue/v1/task-group/AAAAAAAAQACAAAAAAAAAAA/list?||group AAAAAAAAQACAAAAAAAAAAA 1000
@@ -84,7 +80,8 @@ GET /api/queue/v1/task/AAAAAAAAQACAAAAAAAAAAA/dependents?continuationToken=x||ba
 GET /api/queue/v1/task/x/dependents?limit=x||bad taskId"#;
 
 #[test]
-fn a_query_tells_of_a_page(rt: HostRuntime) -> Result<(), Fail> {
+fn each_route_is_its_own_and_a_query_tells_of_a_page(rt: HostRuntime) -> Result<(), Fail> {
+    assert_eq!(rt; first_other(rt.alloc(), ROUTES)?, "none");
     assert_eq!(rt; first_other(rt.alloc(), LISTS)?, "none");
     Ok(())
 }

@@ -2,85 +2,34 @@
 use farm_text::Doc;
 use std::alloc::{AllocError, Global};
 
-/// A text of so many bytes, which begins with a number of four digits, after a comma where one is wanted.
-fn add_text(alloc: Global, member: &mut String, n: u16, len: usize) -> Result<(), AllocError> {
-    member.push_str(if n == 0 { "\"" } else { ",\"" })?;
-    member.push_str(format!(in alloc; "{:04}", n)?.as_str())?;
-    for _ in 4..len {
-        member.push_str("x")?;
+/// Adds so many texts, each a number of four digits and this tail, with commas between them.
+fn add_texts(alloc: Global, member: &mut String, count: u16, tail: &str) -> Result<(), AllocError> {
+    for n in 0..count {
+        let comma = if n == 0 { "" } else { "," };
+        member.push_str(format!(in alloc; "{}\"{:04}{}\"", comma, n, tail)?.as_str())?;
     }
-    member.push_str("\"")
+    Ok(())
 }
 
 /// A key with a list of so many such texts, as a member.
-fn texts(alloc: Global, key: &str, count: u16, len: usize) -> Result<String, AllocError> {
+fn list(alloc: Global, key: &str, count: u16, tail: &str) -> Result<String, AllocError> {
     let mut member = format!(in alloc; ",\"{key}\":[")?;
-    for n in 0..count {
-        add_text(alloc, &mut member, n, len)?;
-    }
+    add_texts(alloc, &mut member, count, tail)?;
     member.push_str("]")?;
     Ok(member)
 }
 
-/// Whether the smallest definition with these texts has this outcome.
-fn are(alloc: Global, key: &str, count: u16, len: usize, wanted: &str) -> bool {
-    match texts(alloc, key, count, len) {
-        Ok(member) => super::has_outcome(alloc, wanted, member.as_str()),
-        Err(_) => false,
-    }
-}
-
-#[test]
-fn so_many_routes(rt: HostRuntime) {
-    assert!(rt; are(rt.alloc(), "routes", 64, 249, "ok"));
-    assert!(rt; are(rt.alloc(), "routes", 65, 4, "7 routes"));
-    assert!(rt; are(rt.alloc(), "routes", 1, 250, "7 routes"));
-}
-
-#[test]
-fn so_many_scopes(rt: HostRuntime) {
-    assert!(rt; are(rt.alloc(), "scopes", 1000, 30, "ok"));
-    assert!(rt; are(rt.alloc(), "scopes", 1001, 4, "13 scopes"));
-    assert!(rt; are(rt.alloc(), "scopes", 1, 4096, "ok"));
-    assert!(rt; are(rt.alloc(), "scopes", 1, 4097, "13 scopes"));
-}
-
-/// So many slugids, as the dependencies.
-fn ids(alloc: Global, count: u16) -> Result<String, AllocError> {
-    let mut member = String::from_str(alloc, ",\"dependencies\":[")?;
-    for n in 0..count {
-        member.push_str(if n == 0 { "" } else { "," })?;
-        member.push_str(format!(in alloc; "\"{:04}AAAAQACAAAAAAAAAAA\"", n)?.as_str())?;
-    }
-    member.push_str("]")?;
-    Ok(member)
-}
-
-/// Whether the smallest definition with so many dependencies has this outcome.
-fn wait_for(alloc: Global, count: u16, wanted: &str) -> bool {
-    match ids(alloc, count) {
-        Ok(member) => super::has_outcome(alloc, wanted, member.as_str()),
-        Err(_) => false,
-    }
-}
-
-#[test]
-fn so_many_dependencies(rt: HostRuntime) {
-    assert!(rt; wait_for(rt.alloc(), 100, "ok"));
-    assert!(rt; wait_for(rt.alloc(), 101, "5 dependencies"));
+/// A key with a list of so many texts of so many bytes, as a member.
+fn texts(alloc: Global, key: &str, count: u16, len: usize) -> Result<String, AllocError> {
+    let tail = "x".repeat(alloc, len.saturating_sub(4))?;
+    list(alloc, key, count, tail.as_str())
 }
 
 /// A map with so many lists inside each other.
 fn lists(alloc: Global, depth: usize) -> Result<String, AllocError> {
-    let mut map = String::from_str(alloc, "{\"a\":")?;
-    for _ in 0..depth {
-        map.push_str("[")?;
-    }
-    for _ in 0..depth {
-        map.push_str("]")?;
-    }
-    map.push_str("}")?;
-    Ok(map)
+    let open = "[".repeat(alloc, depth)?;
+    let close = "]".repeat(alloc, depth)?;
+    format!(in alloc; "{{\"a\":{}{}}}", open.as_str(), close.as_str())
 }
 
 /// The document that a text is, if it is one.
@@ -127,17 +76,9 @@ fn is_deep(alloc: Global, depth: usize, wanted: &str) -> bool {
     }
 }
 
-#[test]
-fn so_deep(rt: HostRuntime) {
-    assert!(rt; is_deep(rt.alloc(), 125, "ok"));
-    assert!(rt; is_deep(rt.alloc(), 126, "1 payload"));
-}
-
-/// No document that is read nests deeper than 127.
-#[test]
-fn as_deep_as_a_document(rt: HostRuntime) {
-    assert!(rt; deep(rt.alloc(), 126).is_some());
-    assert!(rt; deep(rt.alloc(), 127).is_none());
+/// Whether the map with so many lists inside each other is no document.
+fn is_none(alloc: Global, depth: usize) -> bool {
+    deep(alloc, depth).is_none()
 }
 
 /// A payload with one text of so many bytes, as a member.
@@ -146,18 +87,64 @@ fn long(alloc: Global, len: usize) -> Result<String, AllocError> {
     format!(in alloc; ",\"payload\":{{\"a\":\"{}\"}}", text.as_str())
 }
 
-/// Whether the smallest definition with such a payload has this outcome.
-fn is_long(alloc: Global, len: usize, wanted: &str) -> bool {
-    match long(alloc, len) {
+/// A key, a number of its values and the bytes of each, as a member: dependencies, a payload of one text, or texts.
+fn member(alloc: Global, key: &str, count: u16, len: usize) -> Result<String, AllocError> {
+    match key {
+        "dependencies" => list(alloc, key, count, "AAAAQACAAAAAAAAAAA"),
+        "payload" => long(alloc, len),
+        _ => texts(alloc, key, count, len),
+    }
+}
+
+/// Whether the smallest definition with such a member has this outcome.
+fn is_so(alloc: Global, wanted: &str, key: &str, count: u16, len: usize) -> bool {
+    match member(alloc, key, count, len) {
         Ok(member) => super::has_outcome(alloc, wanted, member.as_str()),
         Err(_) => false,
+    }
+}
+
+/// Whether the member of a row has the outcome that stands before its bar.
+fn is_row(alloc: Global, row: &str) -> Option<bool> {
+    let (wanted, rest) = row.split_once('|')?;
+    let (key, rest) = rest.split_once(' ')?;
+    let (count, len) = rest.split_once(' ')?;
+    let count = count.parse::<u16>().ok()?;
+    let len = len.parse::<usize>().ok()?;
+    Some(is_so(alloc, wanted, key, count, len))
+}
+
+/// An outcome, and the key for it, how many values it has and how many bytes each.
+const LIMITS: &str = "ok|routes 64 249
+7 routes|routes 65 4
+7 routes|routes 1 250
+ok|scopes 1000 30
+13 scopes|scopes 1001 4
+ok|scopes 1 4096
+13 scopes|scopes 1 4097
+ok|dependencies 100 22
+5 dependencies|dependencies 101 22";
+
+#[test]
+fn so_many(rt: HostRuntime) {
+    for row in LIMITS.lines() {
+        assert!(rt; is_row(rt.alloc(), row) == Some(true), "{row}");
     }
 }
 
 /// The smallest definition has 487 bytes in full form, and 493 with the member `"a":""` in its payload, so 8,388,115 bytes are left.
 #[test]
 fn so_long(rt: HostRuntime) {
-    assert_eq!(rt; super::PLAIN_IN_FULL.len(), 487);
-    assert!(rt; is_long(rt.alloc(), 8_388_115, "ok"));
-    assert!(rt; is_long(rt.alloc(), 8_388_116, "14 "));
+    assert!(rt; super::PLAIN_IN_FULL.len() == 487);
+    assert!(rt; is_so(rt.alloc(), "ok", "payload", 1, 8_388_115));
+    assert!(rt; is_so(rt.alloc(), "14 ", "payload", 1, 8_388_116));
+}
+
+/// No document that is read nests deeper than 127.
+#[test]
+fn so_deep(rt: HostRuntime) {
+    assert!(rt; is_deep(rt.alloc(), 125, "ok"));
+    assert!(rt; is_deep(rt.alloc(), 126, "1 payload"));
+    assert!(rt; !is_none(rt.alloc(), 126));
+    assert!(rt; is_none(rt.alloc(), 127));
 }

@@ -1,20 +1,27 @@
 //! Each refusal alone, and each with its neighbour in the order.
-use super::{TOKEN, answer, book_of};
-use farm_text::Moment;
+use super::{Known, TOKEN, answers};
 use hawk_auth::{AuthHead, Parts, payload_hash, sign};
 use std::alloc::Global;
 use std::str;
 
-/// A request with these flaws: what its check answers.
-fn refusal(alloc: Global, flaws: &str) -> Option<&'static str> {
+/// Whether the check of a request with these flaws answers so.
+fn is_refused(alloc: Global, flaws: &str, wanted: &str) -> bool {
     let hash = if flaws.contains("BadHash") {
         payload_hash(None, b"other")
     } else {
         payload_hash(None, b"body")
     };
-    let hash = str::from_utf8(&hash).ok()?;
-    let header = sign(alloc, &flawed_parts(flaws, hash)).ok()?;
-    checked(alloc, flaws, sent(flaws, header.as_str()))
+    match str::from_utf8(&hash) {
+        Ok(hash) => is_signed_refused(alloc, flaws, hash, wanted),
+        Err(_) => false,
+    }
+}
+
+fn is_signed_refused(alloc: Global, flaws: &str, hash: &str, wanted: &str) -> bool {
+    match sign(alloc, &flawed_parts(flaws, hash)) {
+        Ok(header) => checks(alloc, flaws, sent(flaws, header.as_str()), wanted),
+        Err(_) => false,
+    }
 }
 
 /// The header as it is sent: without its first letter where it is to be bad.
@@ -64,7 +71,7 @@ fn flawed_parts<'a>(flaws: &str, hash: &'a str) -> Parts<'a> {
     }
 }
 
-fn checked(alloc: Global, flaws: &str, value: &str) -> Option<&'static str> {
+fn checks(alloc: Global, flaws: &str, value: &str, wanted: &str) -> bool {
     let now = if flaws.contains("Skew") {
         1_901_000
     } else {
@@ -75,10 +82,13 @@ fn checked(alloc: Global, flaws: &str, value: &str) -> Option<&'static str> {
     } else {
         now + 1
     };
-    let now = Moment::from_millis(now)?;
-    let expires = Moment::from_millis(expires)?;
-    let book = book_of(alloc, "c", expires, flaws.contains("Disabled"))?;
-    answer(alloc, &book, &head_with(value), now)
+    let known = Known {
+        id: "c",
+        expires,
+        disabled: flaws.contains("Disabled"),
+        now,
+    };
+    answers(alloc, known, &head_with(value), wanted)
 }
 
 fn head_with(value: &str) -> AuthHead<'_> {
@@ -95,30 +105,35 @@ fn head_with(value: &str) -> AuthHead<'_> {
 }
 
 /// The flaws of a request, and the first of them in the order.
-const REFUSALS: [(&str, &str); 18] = [
-    ("", "let in"),
-    ("BadHeader", "BadHeader"),
-    ("UnknownClient", "UnknownClient"),
-    ("Disabled", "Disabled"),
-    ("Expired", "Expired"),
-    ("Skew", "Skew"),
-    ("BadMac", "BadMac"),
-    ("BadHash", "BadHash"),
-    ("BadExt", "BadExt"),
-    ("Oversteps", "Oversteps"),
-    ("BadHeader UnknownClient", "BadHeader"),
-    ("UnknownClient Disabled", "UnknownClient"),
-    ("Disabled Expired", "Disabled"),
-    ("Expired Skew", "Expired"),
-    ("Skew BadMac", "Skew"),
-    ("BadMac BadHash", "BadMac"),
-    ("BadHash BadExt", "BadHash"),
-    ("BadExt Oversteps", "BadExt"),
-];
+const REFUSALS: &str = "|let in
+BadHeader|BadHeader
+UnknownClient|UnknownClient
+Disabled|Disabled
+Expired|Expired
+Skew|Skew 1000 1901
+BadMac|BadMac
+BadHash|BadHash
+BadExt|BadExt
+Oversteps|Oversteps *
+BadHeader UnknownClient|BadHeader
+UnknownClient Disabled|UnknownClient
+Disabled Expired|Disabled
+Expired Skew|Expired
+Skew BadMac|Skew 1000 1901
+BadMac BadHash|BadMac
+BadHash BadExt|BadHash
+BadExt Oversteps|BadExt";
+
+fn is_row(alloc: Global, row: &str) -> bool {
+    match row.split_once('|') {
+        Some((flaws, first)) => is_refused(alloc, flaws, first),
+        None => false,
+    }
+}
 
 #[test]
 fn refusals_alone_and_in_pairs(rt: HostRuntime) {
-    for (flaws, first) in REFUSALS {
-        assert!(rt; refusal(rt.alloc(), flaws) == Some(first), "{flaws}");
+    for row in REFUSALS.lines() {
+        assert!(rt; is_row(rt.alloc(), row), "{row}");
     }
 }

@@ -38,8 +38,9 @@ returns-in-Err-open-clause-opened g c =
       back = c.in-Err-open.disk;
       disk = record { could = c.in-Ok.ensures.opens; returned = rw (takes, gives) refl };
       fault = c.in-Err-open.fault;
-      why = IsRefusedFor-by (views_of g.H.File.Source g.H.Store.Disk g.H.Console.Link g.H.Notes.Sink g.H.Time.Clock g.H.Ids.Draws g.H.Door.Listener) c.in-Ok.disk c.in-Err-open.disk c.in-Err-open.fault c.in-Err-open.ensures.cause (λ tells place is. c.in-Err-open.ensures.damaged tells place is);
+      why = IsRefusedFor-by (views_of g.H.File.Source g.H.Store.Disk g.H.Console.Link g.H.Notes.Sink g.H.Time.Clock g.H.Ids.Draws g.H.Door.Listener) c.in-Ok.disk c.in-Err-open.disk c.in-Err-open.fault c.in-Err-open.ensures.cause c.in-Err-open.ensures.spared (λ tells place is. c.in-Err-open.ensures.damaged tells place is);
       stops = λ tells bodies pending image. c.in-Err-open.ensures.any_moment tells bodies pending image;
+      untouched = λ tells place is. c.in-Err-open.ensures.untouched tells place is;
       status_is = c.by_fault.ensures;
       console = rw (takes, gives) refl;
       clock = rw (takes, gives) refl;

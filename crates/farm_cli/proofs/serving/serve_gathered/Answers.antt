@@ -3,6 +3,7 @@ use Rattle.shared_desk.specs.Standing.{fresh_token}
 use Rattle.farm_serving.specs.Connections.{Station}
 use Rattle.farm_cli.specs.Crew.{station_by}
 use Rattle.farm_cli.specs.Serves.{IsLed, ServesAll}
+use Rattle.farm_cli.proofs.CrewLemmas.{IsKeptCrew-whole}
 use Rattle.farm_cli.proofs.ServesLemmas.{IsLed-closed, ServesAll-never, ServesAll-served, put_back}
 use Rattle.farm_cli.proofs.serving.serve_gathered.Goals as goal
 
@@ -18,4 +19,4 @@ returns-in-Ok-clause-serves g c = λ count lent whole.
 
 -- memory ran out
 pub returns-in-Err-clause-serves : goal.returns-in-Err-clause-serves
-returns-in-Err-clause-serves g c = λ count lent whole. rw c.in-Err.ensures.refused (ServesAll-never _ _ _ _ _ _ _ _ _ (record { left = refl; faults = refl }, record { written = refl; faults = refl }, whole.is_crew))
+returns-in-Err-clause-serves g c = λ count lent whole. rw c.in-Err.ensures.refused (ServesAll-never _ _ _ _ _ _ _ _ _ (record { left = refl; faults = refl }, record { written = refl; faults = refl }, IsKeptCrew-whole count lent _ whole))

@@ -3,4 +3,4 @@ use Rattle.farm_cli.proofs.serving.serve_object.Goals as goal
 
 -- workers are lacking
 pub returns-in-Err-clause-serves : goal.returns-in-Err-clause-serves
-returns-in-Err-clause-serves g c = ServesAll-never _ _ _ _ _ _ _ _ _ (NeverServed-lack _ _ _ c.in-Err.lack _ c.gather.ensures.crew c.in-Err.ensures.cause c.status.ensures)
+returns-in-Err-clause-serves g c = ServesAll-never _ _ _ _ _ _ _ _ _ (NeverServed-lack _ _ _ c.in-Err.lack _ c.in-Err.ensures.cause c.in-Err.ensures.spared c.status.ensures)

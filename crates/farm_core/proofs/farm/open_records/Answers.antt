@@ -1,7 +1,7 @@
 -- What the opening of the journal found is replayed.
 use Rattle.std.proofs.Common.{arith}
 use Rattle.disk_journal.specs.Opened.{opened_bodies}
-use Rattle.farm_core.proofs.OpenedLemmas.{has-opened, restored-damaged, restored-no_disk}
+use Rattle.farm_core.proofs.OpenedLemmas.{has-opened, restored-damaged, restored-no_disk, refused-keeps, broken-keeps}
 use Rattle.farm_core.proofs.farm.open_records.Goals as goal
 
 pub new-requires : goal.new-requires
@@ -32,3 +32,11 @@ returns-clause-cause g c = λ is. absurd (restored-no_disk (opened_bodies c.in-O
 
 pub returns-clause-later : goal.returns-clause-later
 returns-clause-later g c = rw c.into_disk.ensures c.in-Ok.ensures.later
+
+pub returns-clause-untouched : goal.returns-clause-untouched
+returns-clause-untouched g c = λ tells place is.
+    rw c.into_disk.ensures (broken-keeps _ _ _ place (opened_bodies c.in-Ok.bodies) (c.in-Ok.ensures.bodies tells) (c.in-Ok.ensures.ready tells))
+
+pub returns-in-Err-clause-untouched : goal.returns-in-Err-clause-untouched
+returns-in-Err-clause-untouched g c = λ tells place is.
+    refused-keeps _ _ place (c.in-Err.ensures.damaged tells place is) (c.in-Err.ensures.untouched tells place is)

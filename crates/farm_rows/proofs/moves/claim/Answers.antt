@@ -1,14 +1,23 @@
 use Rattle.std.proofs.Common.{ap, sym, ◌∙◌, slice_set}
 use Rattle.run_states.specs.Rows.{Row}
 use Rattle.run_states.specs.Moves.{claimed}
+use Rattle.run_states.proofs.LaterLemmas.{claimed-later}
 use Rattle.farm_rows.specs.Changes.{has_id}
+use Rattle.farm_rows.proofs.IndexLemmas.{index-but, set-within}
 use Rattle.farm_rows.proofs.PlaceLemmas.{place-changed, place-none}
 use Rattle.farm_rows.proofs.moves.claim.Goals as goal
 
-pub returns-in-Some : goal.returns-in-Some
-returns-in-Some c =
+pub returns-in-Some-clause-rows : goal.returns-in-Some-clause-rows
+returns-in-Some-clause-rows c =
     ap (slice_set c.args.rows.now c.in-Some.place) c.claim.ensures.row
     ∙ place-changed (has_id c.args.id) (λ (r : Row). claimed c.args.claim r) c.args.rows.now c.in-Some.place c.index-rows-place.result (sym c.in-Some.ensures)
 
-pub returns-in_default : goal.returns-in_default
-returns-in_default c = place-none (has_id c.args.id) (λ (r : Row). claimed c.args.claim r) c.args.rows.now (sym c.in_default.ensures)
+pub returns-in_default-clause-rows : goal.returns-in_default-clause-rows
+returns-in_default-clause-rows c = place-none (has_id c.args.id) (λ (r : Row). claimed c.args.claim r) c.args.rows.now (sym c.in_default.ensures)
+
+pub changed-requires-clause-within : goal.changed-requires-clause-within
+changed-requires-clause-within c = set-within (has_id c.args.id) c.args.rows.now c.in-Some.place c.index-rows-place.result _ c.in-Some.ensures
+
+pub changed-requires-clause-index : goal.changed-requires-clause-index
+changed-requires-clause-index c =
+    index-but c.args.index.now c.args.rows.now c.in-Some.place c.index-rows-place.result _ (claimed c.args.claim) c.requires (claimed-later c.args.claim) c.claim.ensures.row

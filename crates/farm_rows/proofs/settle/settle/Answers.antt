@@ -1,75 +1,46 @@
-use Rattle.std.proofs.Common.{◌≡◌, ◌+◌, false, List, length, add-one, ap, sym, ◌∙◌, arith}
-use Rattle.std.specs.List.{list_any}
-use Rattle.run_states.specs.Rows.{Row, is_unscheduled}
-use Rattle.std.specs.Prelude.{option_copied}
-use Rattle.farm_rows.specs.Ready.{is_ready}
-use Rattle.farm_rows.specs.Settling.{one_if, is_ready_at, settled_at}
-use Rattle.farm_rows.proofs.PlacedLemmas.{ids_of, placed-same}
-use Rattle.farm_rows.proofs.SettleLemmas.{upto, counted, upto-ids, upto-all, counted-all, counted-few, one-few, settle-rows, settle-count, settle-none, count-busy}
+use Rattle.std.proofs.Common.{◌≡◌, ◌+◌, List, length, ap, sym, ◌∙◌, subst, arith}
+use Rattle.run_states.specs.Rows.{Row, scheduled}
+use Rattle.farm_rows.specs.Ready.{is_ready, started}
+use Rattle.farm_rows.proofs.PlaceLemmas.{place-no}
+use Rattle.farm_rows.proofs.ReadyLemmas.{started-none, count-none}
+use Rattle.farm_rows.proofs.FirstReadyLemmas.{IsStep, first-within, first-starts, change-length}
 use Rattle.farm_rows.proofs.settle.settle.Goals as goal
 
-pub returns-then-not-any_unscheduled-clause-rows : goal.returns-then-not-any_unscheduled-clause-rows
-returns-then-not-any_unscheduled-clause-rows c =
-    let busy : list_any is_unscheduled c.args.rows.now ≡ false = sym c.any_unscheduled.ensures ∙ c.if-not-any_unscheduled.true in
-    settle-none c.args.rows.now c.args.first c.args.at busy
+pub start_at-requires-clause-within : goal.start_at-requires-clause-within
+start_at-requires-clause-within c = first-within (is_ready c.ready.rows) c.ready.rows c.in-Some.place (sym c.in-Some.ensures)
 
-pub returns-then-not-any_unscheduled-clause-drawn : goal.returns-then-not-any_unscheduled-clause-drawn
-returns-then-not-any_unscheduled-clause-drawn c =
-    let busy : list_any is_unscheduled c.args.rows.now ≡ false = sym c.any_unscheduled.ensures ∙ c.if-not-any_unscheduled.true in
-    count-busy c.args.rows.now busy
-
-pub overflow_add-first : goal.overflow_add-first
-overflow_add-first c =
-    let few = counted-few (is_ready c.args.rows.now) c.loop-place.place c.args.rows.now in
-    let is = c.loop-place.invariant.drawn in
-    let stand = c.requires.few in
-    let drawn = c.requires.drawn in
-    let here = c.loop-place-test.true in
+pub ready-smaller : goal.ready-smaller
+ready-smaller c =
+    let rows = c.ready.rows in
+    let number = c.args.first + c.ready.drawn in
+    let step = subst (λ (new : List Row). IsStep rows new number c.args.at) (sym c.start_at.ensures.rows) (first-starts rows number c.args.at c.in-Some.place (sym c.in-Some.ensures)) in
+    let fewer = step.fewer in
     omega arith
 
-pub settle_at-drawn-requires-clause-placed : goal.settle_at-drawn-requires-clause-placed
-settle_at-drawn-requires-clause-placed c =
-    let all = c.args.rows.now in
-    placed-same (option_copied c.args.places) all c.loop-place.rows (ap ids_of c.loop-place.invariant.rows ∙ upto-ids (is_ready all) c.args.first c.args.at c.loop-place.place all) c.requires.placed
-
-pub overflow_add-drawn : goal.overflow_add-drawn
-overflow_add-drawn c =
-    let few = counted-few (is_ready c.args.rows.now) c.loop-place.place c.args.rows.now in
-    let is = c.loop-place.invariant.drawn in
-    let stand = c.requires.few in
-    let here = c.loop-place-test.true in
-    let one = one-few (is_ready_at c.loop-place.rows c.loop-place.place) in
-    let made = c.settle_at-drawn.ensures.drawn in
-    omega arith
-
-pub loop-place-preserved : goal.loop-place-preserved
-loop-place-preserved c =
-    let all = c.args.rows.now in
-    let first = c.args.first in
+pub ready-preserved : goal.ready-preserved
+ready-preserved c =
+    let rows = c.ready.rows in
+    let new = c.start_at.new.rows in
     let at = c.args.at in
-    let k = c.loop-place.place in
-    let rows = c.loop-place.invariant.rows in
-    let drawn = c.loop-place.invariant.drawn in
+    let number = c.args.first + c.ready.drawn in
+    let place = c.in-Some.place in
+    let step = subst (λ (rs : List Row). IsStep rows rs number at) (sym c.start_at.ensures.rows) (first-starts rows number at place (sym c.in-Some.ensures)) in
+    let sum : c.args.first + (c.ready.drawn + 1) ≡ number + 1 = omega arith in
     record {
-      rows =
-          c.settle_at-drawn.ensures.rows
-          ∙ (ap (λ (rs : List Row). settled_at k (first + c.loop-place.drawn) at rs) rows
-          ∙ (ap (λ n. settled_at k (first + n) at (upto (is_ready all) first at k all)) drawn
-          ∙ (settle-rows all first at k ∙ ap (λ n. upto (is_ready all) first at n all) (sym (add-one k)))));
-      drawn =
-          ap (λ n. c.loop-place.drawn + n) (c.settle_at-drawn.ensures.drawn ∙ ap (λ (rs : List Row). one_if (is_ready_at rs k)) rows)
-          ∙ (ap (λ n. n + one_if (is_ready_at (upto (is_ready all) first at k all) k)) drawn
-          ∙ (settle-count all first at k ∙ ap (λ n. counted (is_ready all) n all) (sym (add-one k))));
+      indexed = c.start_at.ensures.index;
+      long = ap length c.start_at.ensures.rows ∙ (change-length (scheduled number at) rows place ∙ c.ready.invariant.long);
+      rows = ap (λ n. started (is_ready new) n at new) sum ∙ (step.rest ∙ c.ready.invariant.rows);
+      drawn = (let fewer = step.fewer in let drawn = c.ready.invariant.drawn in omega arith);
     }
 
 pub returns-clause-rows : goal.returns-clause-rows
 returns-clause-rows c =
-    let all = c.args.rows.now in
-    let ended : c.loop-place.place ≡ length all = omega (arith, c.loop-place-test.false, c.loop-place.auto.place-end) in
-    c.loop-place.invariant.rows ∙ (ap (λ n. upto (is_ready all) c.args.first c.args.at n all) ended ∙ upto-all (is_ready all) c.args.first c.args.at all)
+    let rows = c.ready.rows in
+    sym (started-none (is_ready rows) (c.args.first + c.ready.drawn) c.args.at rows (place-no (is_ready rows) rows (sym c.in_default.ensures))) ∙ c.ready.invariant.rows
 
 pub returns-clause-drawn : goal.returns-clause-drawn
 returns-clause-drawn c =
-    let all = c.args.rows.now in
-    let ended : c.loop-place.place ≡ length all = omega (arith, c.loop-place-test.false, c.loop-place.auto.place-end) in
-    c.loop-place.invariant.drawn ∙ (ap (λ n. counted (is_ready all) n all) ended ∙ counted-all (is_ready all) all)
+    let rows = c.ready.rows in
+    let counted = count-none (is_ready rows) rows (place-no (is_ready rows) rows (sym c.in_default.ensures)) in
+    let drawn = c.ready.invariant.drawn in
+    omega arith

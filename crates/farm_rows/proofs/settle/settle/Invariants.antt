@@ -1,11 +1,16 @@
-use Rattle.std.proofs.Common.{◌≡◌}
-use Rattle.farm_rows.specs.Ready.{is_ready}
-use Rattle.farm_rows.proofs.SettleLemmas.{upto, counted}
+use Rattle.std.proofs.Common.{◌≡◌, ◌+◌, length, count_by}
+use Rattle.farm_rows.specs.Ready.{is_ready, started}
+use Rattle.farm_rows.specs.Indexed.{IsIndexOf}
 use Rattle.farm_rows.proofs.settle.settle.Given as goal
 
--- the tasks before this one have settled
-abbrev pub invariant-loop-place : goal.invariant-loop-place
-invariant-loop-place l = record {
-  rows : l.rows ≡ upto (is_ready l.fn.rows) l.fn.first l.fn.at l.place l.fn.rows;
-  drawn : l.drawn ≡ counted (is_ready l.fn.rows) l.place l.fn.rows;
+-- what is left to settle makes the whole
+abbrev pub invariant-ready : goal.invariant-ready
+invariant-ready l = record {
+  indexed : IsIndexOf l.index l.rows;
+  long : length l.rows ≡ length l.fn.rows;
+  rows : started (is_ready l.rows) (l.first + l.drawn) l.at l.rows ≡ started (is_ready l.fn.rows) l.first l.at l.fn.rows;
+  drawn : l.drawn + count_by (is_ready l.rows) l.rows ≡ count_by (is_ready l.fn.rows) l.fn.rows;
 }
+
+abbrev pub decreases-ready : goal.decreases-ready
+decreases-ready l = count_by (is_ready l.rows) l.rows

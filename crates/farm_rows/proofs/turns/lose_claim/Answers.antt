@@ -2,8 +2,10 @@ use Rattle.std.proofs.Common.{◌≡◌, ap, sym, ◌∙◌, min, Some, slice_se
 use Rattle.run_states.specs.declared.reasons.ReasonResolved.TheVariants.{ClaimExpired}
 use Rattle.run_states.specs.Rows.{Row, loses_claim}
 use Rattle.run_states.specs.Moves.{expired}
+use Rattle.run_states.proofs.LaterLemmas.{expired-later}
 use Rattle.farm_rows.specs.Due.{draws}
 use Rattle.farm_rows.proofs.FitLemmas.{min-one}
+use Rattle.farm_rows.proofs.IndexLemmas.{index-but, set-within}
 use Rattle.farm_rows.proofs.PlaceLemmas.{place-changed, place-found, place-none, place-lost}
 use Rattle.farm_rows.proofs.turns.lose_claim.Goals as goal
 
@@ -25,3 +27,10 @@ returns-clause-drawn c =
     counted ∙ (min-one row.retries_left
     ∙ (ap (λ (r : Row). draws ClaimExpired (Some r)) c.index-rows-place.is
     ∙ sym (ap (draws ClaimExpired) (place-found (loses_claim c.args.at) c.args.rows.now c.in-Some.place row (sym c.in-Some.ensures)))))
+
+pub changed-requires-clause-within : goal.changed-requires-clause-within
+changed-requires-clause-within c = set-within (loses_claim c.args.at) c.args.rows.now c.in-Some.place c.index-rows-place.result _ c.in-Some.ensures
+
+pub changed-requires-clause-index : goal.changed-requires-clause-index
+changed-requires-clause-index c =
+    index-but c.args.index.now c.args.rows.now c.in-Some.place c.index-rows-place.result _ (expired c.args.number c.args.at) c.requires (expired-later c.args.number c.args.at) c.expire.ensures.row

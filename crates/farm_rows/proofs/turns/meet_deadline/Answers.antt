@@ -1,6 +1,8 @@
 use Rattle.std.proofs.Common.{ap, sym, ◌∙◌, slice_set}
 use Rattle.run_states.specs.Rows.{Row, exceeded}
+use Rattle.run_states.proofs.LaterLemmas.{exceeded-later}
 use Rattle.farm_rows.specs.Due.{meets_deadline}
+use Rattle.farm_rows.proofs.IndexLemmas.{index-but, set-within}
 use Rattle.farm_rows.proofs.PlaceLemmas.{place-changed, place-none, place-any, place-no}
 use Rattle.farm_rows.proofs.turns.meet_deadline.Goals as goal
 
@@ -17,3 +19,10 @@ returns-clause-rows c =
 
 pub returns-clause-found : goal.returns-clause-found
 returns-clause-found c = sym (place-any (meets_deadline c.args.at) c.args.rows.now c.in-Some.place c.index-rows-place.result (sym c.in-Some.ensures))
+
+pub changed-requires-clause-within : goal.changed-requires-clause-within
+changed-requires-clause-within c = set-within (meets_deadline c.args.at) c.args.rows.now c.in-Some.place c.index-rows-place.result _ c.in-Some.ensures
+
+pub changed-requires-clause-index : goal.changed-requires-clause-index
+changed-requires-clause-index c =
+    index-but c.args.index.now c.args.rows.now c.in-Some.place c.index-rows-place.result _ (exceeded c.args.at) c.requires (exceeded-later c.args.at) c.exceed.ensures.row

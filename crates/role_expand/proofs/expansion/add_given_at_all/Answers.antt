@@ -13,11 +13,14 @@ returns-in_err-add_given_at c =
     let i : ℕ = c.loop-place.place-index in
     let lt : i < length places = omega (arith, c.loop-place-test.true) in
     rw (p.1, p.2)
-    (fails_place MOST_SCOPES (known_data c.args.roles.now) c.args.held.now places i (get_or places i 0) lt (get_or_default places i 0 (get_or places i 0) lt) _ _ _ c.loop-place.invariant c.in_err-add_given_at.ensures)
+    (fails_place MOST_SCOPES (known_data c.args.roles.now) c.args.held.now places i (get_or places i 0) lt (get_or_default places i 0 (get_or places i 0) lt) _ _ _ c.loop-place.invariant.gained c.in_err-add_given_at.ensures)
 
 pub loop-place-preserved : goal.loop-place-preserved
 loop-place-preserved c =
     let places = c.args.places.now in
     let i : ℕ = c.loop-place.place-index in
     let lt : i < length places = omega (arith, c.loop-place-test.true) in
-    gains_place MOST_SCOPES (known_data c.args.roles.now) c.args.held.now places i (get_or places i 0) lt (get_or_default places i 0 (get_or places i 0) lt) _ _ _ c.loop-place.invariant c.in_ok-add_given_at.ensures
+    record {
+      gained = gains_place MOST_SCOPES (known_data c.args.roles.now) c.args.held.now places i (get_or places i 0) lt (get_or_default places i 0 (get_or places i 0) lt) _ _ _ c.loop-place.invariant.gained c.in_ok-add_given_at.ensures.0;
+      marked = c.in_ok-add_given_at.ensures.1;
+    }

@@ -1,4 +1,5 @@
-use Rattle.std.proofs.Common.{◌≡◌, ◌<◌, ◌≤◌, ℕ, List, length, get_or, sym, subst, arith}
+use Rattle.std.proofs.Common.{◌≡◌, ◌<◌, ◌≤◌, ℕ, List, length, get_or, sym, ◌∙◌, subst, arith}
+use Rattle.std.proofs.lemmas.Bool.{false≢true}
 use Rattle.std.proofs.lemmas.Result.{err_from_is_err_and}
 use Rattle.role_expand.specs.Known.{known_data}
 use Rattle.role_expand.specs.declared.expansion.TheConstants.{MOST_SCOPES}
@@ -11,7 +12,10 @@ returns-in_err-add_all c =
     rw (p.1, p.2) (fails_at_start (known_data c.args.roles.now) c.args.start.now MOST_SCOPES _ (rw c.new-found.ensures at c.in_err-add_all.ensures))
 
 pub loop-next-init : goal.loop-next-init
-loop-next-init c = partly_begin (known_data c.args.roles.now) c.args.start.now MOST_SCOPES _ (rw c.new-found.ensures at c.in_ok-add_all.ensures)
+loop-next-init c = record {
+  partly = partly_begin (known_data c.args.roles.now) c.args.start.now MOST_SCOPES _ (rw c.new-found.ensures at c.in_ok-add_all.ensures);
+  marked = λ place d lt mark. absurd (false≢true (sym (c.in_ok-given.ensures place) ∙ mark));
+}
 
 pub returns-in_err-add_given_by_all : goal.returns-in_err-add_given_by_all
 returns-in_err-add_given_by_all c =
@@ -21,7 +25,7 @@ returns-in_err-add_given_by_all c =
     let held : List ℕ = c.in_ok-held.held in
     let lt : n < length old = omega (arith, c.len.ensures, c.loop-next-test.true) in
     let is : held ≡ get_or old n held = subst (λ (t : List ℕ). t ≡ get_or old n t) (sym c.in_ok-held.ensures.cases) c.at.ensures in
-    rw (p.1, p.2) (fails_at_scope (known_data c.args.roles.now) c.args.start.now MOST_SCOPES old n held _ c.loop-next.invariant lt is c.in_err-add_given_by_all.ensures)
+    rw (p.1, p.2) (fails_at_scope (known_data c.args.roles.now) c.args.start.now MOST_SCOPES old n held _ c.loop-next.invariant.partly lt is c.in_err-add_given_by_all.ensures)
 
 pub loop-next-preserved : goal.loop-next-preserved
 loop-next-preserved c =
@@ -30,9 +34,12 @@ loop-next-preserved c =
     let held : List ℕ = c.in_ok-held.held in
     let lt : n < length old = omega (arith, c.len.ensures, c.loop-next-test.true) in
     let is : held ≡ get_or old n held = subst (λ (t : List ℕ). t ≡ get_or old n t) (sym c.in_ok-held.ensures.cases) c.at.ensures in
-    partly_more (known_data c.args.roles.now) c.args.start.now MOST_SCOPES old c.add_given_by_all.new.found n held c.loop-next.invariant lt is c.in_ok-add_given_by_all.ensures
+    record {
+      partly = partly_more (known_data c.args.roles.now) c.args.start.now MOST_SCOPES old c.add_given_by_all.new.found n held c.loop-next.invariant.partly lt is c.in_ok-add_given_by_all.ensures.0;
+      marked = c.in_ok-add_given_by_all.ensures.1;
+    }
 
 pub returns : goal.returns
 returns c =
     let high : length c.loop-next.found ≤ c.loop-next.next = omega (arith, c.len.ensures, c.loop-next-test.false) in
-    rw c.into_list.ensures (partly_end (known_data c.args.roles.now) c.args.start.now MOST_SCOPES _ c.loop-next.next c.loop-next.invariant high)
+    rw c.into_list.ensures (partly_end (known_data c.args.roles.now) c.args.start.now MOST_SCOPES _ c.loop-next.next c.loop-next.invariant.partly high)

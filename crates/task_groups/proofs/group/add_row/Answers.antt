@@ -21,8 +21,8 @@ push_group-requires c =
     let items = c.args.groups.now.items in
     let F : List Group → Option ℕ = λ gs. position (λ (group : Group). bytes_eq group.id c.args.joining.id) gs in
     let at : F items ≡ None = ap F (sym c.deref.ensures.value) ∙ (sym c.place_of.ensures ∙ c.in-None.is) in
-    let P : Option ℕ → Type 0 = λ o. HasRoomAt items (vec_capacity c.args.groups.now) c.args.joining o in
-    let room : P None = subst P at c.requires in
+    let P : Option ℕ → Type 0 = λ o. HasRoomAt items (vec_capacity c.args.groups.now) c.args.places.now c.args.joining o in
+    let room : P None = subst P at c.requires.room in
     let len : vec_len c.args.groups.now ≡ length items = search rules in
     let fewer : length items < vec_capacity c.args.groups.now = room.0 in
     record { group = omega arith; empty = room.1; row = room.2 }

@@ -1,7 +1,8 @@
-use Rattle.std.proofs.Common.{◌≡◌, ℕ, ◌<◌, List, Option, Some, None, map, length, position, bytes_eq, sym, ◌∙◌, ap, subst, vec_len, vec_capacity}
+use Rattle.std.proofs.Common.{◌≡◌, ℕ, List, Option, Some, None, map, position, bytes_eq, sym, ◌∙◌, ap, subst, vec_capacity}
 use Rattle.task_groups.specs.declared.group.Group.{Group}
 use Rattle.task_groups.specs.Kept.{shown, HasRoomAt}
-use Rattle.task_groups.proofs.GroupLemmas.{position-same, served-at, served-none, refused-at}
+use Rattle.task_groups.specs.Placed.{ArePlaced}
+use Rattle.task_groups.proofs.GroupLemmas.{position-same, no-place, served-at, served-none, refused-at}
 use Rattle.task_groups.proofs.group.joining.Goals as goal
 
 abbrev place_in : List ℕ → List Group → Option ℕ
@@ -15,7 +16,7 @@ returns-in-Ok-clause-room c =
     let at : place_in c.args.id old ≡ Some c.in-Some.place = ap (place_in c.args.id) (sym c.deref.ensures.value) ∙ (sym c.place_of.ensures ∙ c.in-Some.is) in
     let named : j.id ≡ c.args.id = c.in-Ok.ensures.named.0 in
     let here : place_in j.id new ≡ Some c.in-Some.place = ap (λ id. place_in id new) named ∙ (position-same new old c.args.id c.joining_at.ensures.same ∙ at) in
-    let P : Option ℕ → Type 0 = λ o. HasRoomAt new (vec_capacity c.joining_at.new.groups) j o in
+    let P : Option ℕ → Type 0 = λ o. HasRoomAt new (vec_capacity c.joining_at.new.groups) c.args.places.now j o in
     subst P (sym here) c.in-Ok.ensures.room
 
 pub returns-in-Ok-clause-served : goal.returns-in-Ok-clause-served
@@ -35,3 +36,23 @@ returns-in-Ok-joining_first-clause-served c =
     let old = c.args.groups.now.items in
     let at : place_in c.args.id old ≡ None = ap (place_in c.args.id) (sym c.deref.ensures.value) ∙ (sym c.place_of.ensures ∙ c.in-None.is) in
     served-none old c.args.id c.args.scheduler.now at
+
+pub returns-in_default-clause-placed : goal.returns-in_default-clause-placed
+returns-in_default-clause-placed c =
+    let old = c.args.groups.now.items in
+    let at : place_in c.args.id old ≡ None = ap (place_in c.args.id) (sym c.deref.ensures.value) ∙ (sym c.place_of.ensures ∙ c.in-None.is) in
+    c.note_new.ensures.others (map shown old) (no-place old c.args.id at).any c.requires
+
+pub returns-in-Ok-joining_first-clause-placed : goal.returns-in-Ok-joining_first-clause-placed
+returns-in-Ok-joining_first-clause-placed c =
+    let old = c.args.groups.now.items in
+    let at : place_in c.args.id old ≡ None = ap (place_in c.args.id) (sym c.deref.ensures.value) ∙ (sym c.place_of.ensures ∙ c.in-None.is) in
+    let placed : ArePlaced c.note_new.new.places (map shown old) = c.note_new.ensures.others (map shown old) (no-place old c.args.id at).any c.requires in
+    subst (ArePlaced c.note_new.new.places) (sym (ap (λ (gs : List Group). map shown gs) c.joining_first.ensures.same)) placed
+
+pub returns-in-Err-joining_first-clause-placed : goal.returns-in-Err-joining_first-clause-placed
+returns-in-Err-joining_first-clause-placed c =
+    let old = c.args.groups.now.items in
+    let at : place_in c.args.id old ≡ None = ap (place_in c.args.id) (sym c.deref.ensures.value) ∙ (sym c.place_of.ensures ∙ c.in-None.is) in
+    let placed : ArePlaced c.note_new.new.places (map shown old) = c.note_new.ensures.others (map shown old) (no-place old c.args.id at).any c.requires in
+    subst (ArePlaced c.note_new.new.places) (sym (ap (λ (gs : List Group). map shown gs) c.joining_first.ensures.same)) placed

@@ -1,4 +1,4 @@
-use Rattle.std.proofs.Common.{◌≡◌, ℕ, ◌<◌, ◌-◌, length, sym, ap, arith, rules, vec_len, vec_capacity, List}
+use Rattle.std.proofs.Common.{◌≡◌, ℕ, ◌<◌, ◌-◌, length, ap, arith, rules, vec_len, vec_capacity, List}
 use Rattle.task_groups.specs.Members.{TaskGroup}
 use Rattle.task_groups.proofs.GroupLemmas.{same-shown, spare-at}
 use Rattle.task_groups.proofs.group.make_room.Goals as goal

@@ -1,4 +1,4 @@
-use Rattle.std.proofs.Common.{◌≡◌, ℕ, List, Option, Some, None, map, position, bytes_eq, sym, ap, ◌∙◌}
+use Rattle.std.proofs.Common.{◌≡◌, Some, None, map, position, bytes_eq, sym, ap, ◌∙◌}
 use Rattle.task_groups.specs.declared.group.Group.{Group}
 use Rattle.task_groups.specs.Kept.{shown}
 use Rattle.task_groups.proofs.GroupLemmas.{rows-at, rows-none, rising-of}
@@ -10,11 +10,11 @@ returns-in-Some c =
     let at : position (λ (group : Group). bytes_eq group.id c.args.id) groups ≡ Some c.in-Some.place = sym c.place_of.ensures ∙ c.in-Some.is in
     record {
       value = c.deref.ensures.value ∙ (ap (λ (g : Group). g.rows.items) (sym c.index-groups-place.is) ∙ rows-at groups c.args.id c.in-Some.place c.index-groups-place.result at c.index-groups-place.is);
-      rising = rising-of c.args.id (map shown groups) c.requires;
+      rising = rising-of c.args.id (map shown groups) c.requires.rising;
     }
 
 pub returns-in-None : goal.returns-in-None
 returns-in-None c =
     let groups = c.args.groups.now in
     let at : position (λ (group : Group). bytes_eq group.id c.args.id) groups ≡ None = sym c.place_of.ensures ∙ c.in-None.is in
-    record { value = rows-none groups c.args.id at; rising = rising-of c.args.id (map shown groups) c.requires }
+    record { value = rows-none groups c.args.id at; rising = rising-of c.args.id (map shown groups) c.requires.rising }

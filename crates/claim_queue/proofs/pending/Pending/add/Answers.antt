@@ -1,4 +1,6 @@
 use Rattle.std.proofs.Common.{◌≡◌, ◌<◌, ℕ, List, Some, ap, sym, ◌∙◌, subst, length, slice_set, arith, length-set}
+use Rattle.claim_queue.specs.declared.queues.Queue.{Queue}
+use Rattle.claim_queue.specs.Named.{HavePlaces}
 use Rattle.claim_queue.specs.declared.entries.Entry.{Entry}
 use Rattle.claim_queue.specs.Waits.{Waits}
 use Rattle.claim_queue.specs.Places.{name_at, told_rows}
@@ -7,6 +9,9 @@ use Rattle.claim_queue.proofs.EditLemmas.{written}
 use Rattle.claim_queue.proofs.PlaceLemmas.{placed-set, told-set, told-within, not-told, no-spare, waits-same}
 use Rattle.claim_queue.proofs.WaitMoves.{wait-room, wait-few, wait-kept, wait-turn-absent, wait-added, wait-memory}
 use Rattle.claim_queue.proofs.pending.Pending.add.Goals as goal
+
+pub place_of-requires : goal.place_of-requires
+place_of-requires g c = subst (λ (k : List Queue). HavePlaces k c.self.inside.names) (sym c.deref.ensures.value) c.self.invariant.4
 
 pub unreachable-requires : goal.unreachable-requires
 unreachable-requires g c =
@@ -68,6 +73,7 @@ invariant_of-self g c =
           (sym (written c.insert.new.places p.places.items p.places.len (long ∙ c.deref_mut.ensures.len))) queued,
       wait-memory p.queues.items p.rows.items p.heaps.items p.places.items c.self.invariant.1 c.self.invariant.2 c.self.invariant.3 entry c.index_mut.result.now c.deref_mut.result.now here c.index_mut.ensures.value c.deref_mut.ensures.value
           c.insert.new.heap c.insert.ensures.room,
+      c.self.invariant.4,
     )
 
 pub returns-clause-rows : goal.returns-clause-rows

@@ -1,9 +1,14 @@
-use Rattle.std.proofs.Common.{◌≡◌, ◌<◌, ap, sym, ◌∙◌, length}
+use Rattle.std.proofs.Common.{◌≡◌, ◌<◌, ap, sym, ◌∙◌, length, List, subst}
+use Rattle.claim_queue.specs.declared.queues.Queue.{Queue}
+use Rattle.claim_queue.specs.Named.{HavePlaces}
 use Rattle.claim_queue.specs.Waits.{Waits}
 use Rattle.claim_queue.specs.Places.{name_at}
 use Rattle.claim_queue.specs.WaitHeaps.{top_row}
 use Rattle.claim_queue.proofs.WaitMoves.{best-some, best-no-queue}
 use Rattle.claim_queue.proofs.pending.Pending.best.Goals as goal
+
+pub place_of-requires : goal.place_of-requires
+place_of-requires g c = subst (λ (k : List Queue). HavePlaces k c.self.inside.names) (sym c.deref.ensures.value) c.self.invariant.4
 
 pub returns-in-Some-clause-row : goal.returns-in-Some-clause-row
 returns-in-Some-clause-row g c =

@@ -67,6 +67,7 @@ invariant_of-self g c =
           (sym (written c.remove.new.places p.places.items p.places.len (long ∙ c.deref_mut.ensures.len))) queued,
       wait-memory p.queues.items p.rows.items p.heaps.items p.places.items c.self.invariant.1 c.self.invariant.2 c.self.invariant.3 c.in-Some.entry c.index_mut.result.now c.deref_mut.result.now within c.index_mut.ensures.value c.deref_mut.ensures.value
           c.remove.new.heap c.remove.ensures.room,
+      c.self.invariant.4,
     )
 
 pub returns-clause-rows : goal.returns-clause-rows

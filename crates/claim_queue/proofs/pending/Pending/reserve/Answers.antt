@@ -1,5 +1,6 @@
 use Rattle.std.proofs.Common.{◌≡◌, ◌+◌, ◌<◌, ◌++◌, [], ◌∷◌, ℕ, List, ap, sym, ◌∙◌, refl, false, map, length, subst, rules, arith}
 use Rattle.std.specs.Str.{bytes_eq}
+use Rattle.claim_queue.specs.Named.{HavePlaces}
 use Rattle.claim_queue.specs.declared.queues.Queue.{Queue}
 use Rattle.claim_queue.specs.Held.{up_to}
 use Rattle.claim_queue.specs.Waits.{Waits, count_in, raised, roomier}
@@ -9,6 +10,9 @@ use Rattle.claim_queue.proofs.QueueLemmas.{knows-here, knows-none}
 use Rattle.claim_queue.proofs.WaitMoves.{count-some, count-none}
 use Rattle.claim_queue.proofs.WaitRoom.{told-result}
 use Rattle.claim_queue.proofs.pending.Pending.reserve.Goals as goal
+
+pub place_of-requires : goal.place_of-requires
+place_of-requires c = subst (λ (k : List Queue). HavePlaces k c.self.inside.names) (sym c.deref.ensures.value) c.self.invariant.4
 
 pub index-requires : goal.index-requires
 index-requires c =
@@ -44,8 +48,9 @@ returns-in-Some c =
     (ap (λ (w : Waits). w.rows) c.self.view_is) here named c.index.ensures in
     let long : c.len.result ≡ length c.index.result.now.items = search rules in
     let known = knows-here now.queues c.in-Some.queue name (subst (λ (k : List Queue). c.in-Some.queue < length k) same here) (ap (name_at c.in-Some.queue) (sym same) ∙ named) in
-    told-result c.make_wider.result c.make_wider.new.self (waits_of (map (raised name room) now.queues) (up_to c.args.below now.rows)) now (roomier name c.args.more c.args.below now) now c.make_wider.ensures
-    (known-roomier name c.args.more c.args.below room now (ap (λ n. n + c.args.more) (long ∙ counted.0)) known)
+    let made : List ℕ → Waits = λ n. waits_of (map (raised n room) now.queues) (up_to c.args.below now.rows) in
+    told-result c.make_wider.result c.make_wider.new.self (made (name_at c.in-Some.queue now.queues)) now (roomier name c.args.more c.args.below now) now c.make_wider.ensures
+    (ap made (ap (name_at c.in-Some.queue) (sym same) ∙ named) ∙ known-roomier name c.args.more c.args.below room now (ap (λ n. n + c.args.more) (long ∙ counted.0)) known)
     refl
 
 pub returns-in-None : goal.returns-in-None
@@ -62,17 +67,11 @@ returns-in-None c =
     (new-roomier name c.args.more c.args.below c.args.more now (omega arith) (knows-none now.queues name there))
     refl
 
-pub make_wider-requires-clause-place : goal.make_wider-requires-clause-place
-make_wider-requires-clause-place c =
+pub make_wider-requires : goal.make_wider-requires
+make_wider-requires c =
     let place = rw c.in-Some.is at c.place_of.ensures.place in
     let same : c.deref.result.now ≡ c.args.self.now.queues = c.deref.ensures.value ∙ ap (λ (w : Waits). w.queues) c.self.view_is in
     subst (λ (k : List Queue). c.in-Some.queue < length k) same place.0
-
-pub make_wider-requires-clause-named : goal.make_wider-requires-clause-named
-make_wider-requires-clause-named c =
-    let place = rw c.in-Some.is at c.place_of.ensures.place in
-    let same : c.deref.result.now ≡ c.args.self.now.queues = c.deref.ensures.value ∙ ap (λ (w : Waits). w.queues) c.self.view_is in
-    ap (name_at c.in-Some.queue) (sym same) ∙ place.1
 
 pub make_queue-requires : goal.make_queue-requires
 make_queue-requires c =

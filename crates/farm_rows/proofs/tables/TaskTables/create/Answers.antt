@@ -1,6 +1,5 @@
 use Rattle.std.proofs.Common.{◌≡◌, ◌+◌, false, List, [], ◌∷◌, ◌++◌, length, ap, sym, subst, ◌∙◌, arith, rules, vec_len, vec_capacity}
 use Rattle.std.specs.List.{list_any}
-use Rattle.task_defs.specs.declared.task_def.TaskDef.{TaskDef}
 use Rattle.run_states.specs.Rows.{Row}
 use Rattle.run_states.specs.declared.run.Run.{Run}
 use Rattle.farm_record.specs.declared.change.Creation.{Creation}
@@ -8,12 +7,10 @@ use Rattle.farm_rows.specs.Contents.{Contents}
 use Rattle.farm_rows.specs.Changes.{creating}
 use Rattle.farm_rows.specs.Ready.{is_ready, has_ready}
 use Rattle.farm_rows.specs.Sweep.{fits, IsKept}
-use Rattle.farm_rows.specs.Placed.{groups_of, MayBeFirst}
+use Rattle.farm_rows.specs.Indexed.{IsIndexOf}
 use Rattle.farm_rows.proofs.CreateLemmas.{new-is}
 use Rattle.farm_rows.proofs.FitLemmas.{made-few}
-use Rattle.farm_rows.proofs.GroupLemmas.{grouped-more}
 use Rattle.farm_rows.proofs.IdLemmas.{applied-none}
-use Rattle.farm_rows.proofs.PlacedLemmas.{placed-more}
 use Rattle.farm_rows.proofs.TableLemmas.{Fits, contents_of, plan-fits, kept-more, named, planned-unknown, applied-made}
 use Rattle.farm_rows.proofs.tables.TaskTables.create.Goals as goal
 
@@ -50,20 +47,15 @@ invariant_of-self c =
     let after = applied-made c.args.self.now rows.items c.add.new.rows.items last next at row c.self.view_is c.self.invariant.kept.none c.add.ensures.items made in
     let unready : list_any (is_ready c.add.new.rows.items) c.add.new.rows.items ≡ false = ap has_ready after ∙ applied-none c.args.self.now (creating at creation) c.requires.plan.lawful in
     let fit = ap fits made ∙ (new-is (contents_of rows.items last next) at row.id row.definition).fit in
-    let long : c.len-place.result ≡ length rows.items = search rules in
     record {
       kept =
-          subst (λ n. IsKept c.add.new.rows.items at (next + n) c.soonest_with-soonest.result (vec_capacity c.add.new.rows)) (sym (ap length c.runs.ensures.value))
-          (kept-more rows.items c.add.new.rows.items row last at next c.self.inside.soonest c.soonest_with-soonest.result
+          subst (λ n. IsKept c.add.new.rows.items at (next + n) (vec_capacity c.add.new.rows)) (sym (ap length c.runs.ensures.value))
+          (kept-more rows.items c.add.new.rows.items row last at next
           (vec_capacity rows) (vec_capacity c.args.grown) (vec_capacity c.add.new.rows) c.self.invariant.kept room c.add.ensures.items
-          fit unready unknown c.soonest_with-soonest.ensures c.add.ensures.capacity);
-      placed =
-          placed-more c.self.inside.places c.keep_noted.new.places rows.items c.add.new.rows.items row c.id.result c.len-place.result c.keep_noted.ensures
-          c.add.ensures.items c.id.ensures long c.self.invariant.placed;
-      grouped =
-          grouped-more c.keep_first.new.groups rows.items c.add.new.rows.items row c.definition.result.now.task_group_id
-          (subst (λ (rs : List Row). MayBeFirst c.keep_first.new.groups (groups_of rs ++ c.definition.result.now.task_group_id ∷ [])) c.deref.ensures.value c.keep_first.ensures)
-          c.add.ensures.items (ap (λ (d : TaskDef). d.task_group_id) c.definition.ensures);
+          fit unready unknown c.add.ensures.capacity);
+      indexed =
+          subst (λ (rs : List Row). IsIndexOf c.added.new.self rs) (sym c.add.ensures.items)
+          (subst (λ (rs : List Row). IsIndexOf c.added.new.self (rs ++ row ∷ [])) c.deref.ensures.value c.added.ensures);
     }
 
 pub returns : goal.returns

@@ -19,8 +19,6 @@ invariant_of-result-2 c =
         fit = refl;
         drawn = omega arith;
         room = omega (arith, room-0);
-        soonest_is = refl;
       };
-      placed = record { at = λ place id here. cc };
-      grouped = record { at = λ place group first. cc };
+      indexed = c.new-2.ensures;
     })

@@ -5,11 +5,11 @@ use Rattle.farm_rows.specs.Plans.{Planned, IsPlanOn}
 use Rattle.farm_rows.proofs.IdLemmas.{may-create}
 use Rattle.farm_rows.proofs.tables.TaskTables.plan_new.Goals as goal
 
-pub note_places-requires : goal.note_places-requires
-note_places-requires c = (may-create c.args.self.now c.args.at c.args.creation c.requires).1
+pub note-requires : goal.note-requires
+note-requires c = (may-create c.args.self.now c.args.at c.args.creation c.requires).1
 
 pub plan_creation-requires : goal.plan_creation-requires
-plan_creation-requires c = ap (λ (k : Contents). may_apply k (creating c.args.at c.args.creation)) c.in_ok-note_places.ensures ∙ c.requires
+plan_creation-requires c = ap (λ (k : Contents). may_apply k (creating c.args.at c.args.creation)) c.in_ok-note.ensures ∙ c.requires
 
 pub returns-clause-plan : goal.returns-clause-plan
-returns-clause-plan c = subst (λ (k : Contents). IfOk c.plan_creation.result (λ (p : Planned). IsPlanOn k p)) c.in_ok-note_places.ensures c.plan_creation.ensures.plan
+returns-clause-plan c = subst (λ (k : Contents). IfOk c.plan_creation.result (λ (p : Planned). IsPlanOn k p)) c.in_ok-note.ensures c.plan_creation.ensures.plan

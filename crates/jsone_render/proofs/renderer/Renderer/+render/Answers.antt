@@ -1,4 +1,4 @@
-use Rattle.std.proofs.Common.{◌≡◌, ◌∷◌, ◌++◌, [], ◌+◌, ◌<◌, ℕ, List, Vec, String, Global, Some, Err, codes, length, drop, string_bytes, refl, sym, ap, subst, ◌∙◌, arith, rules, ℤ, to_z, of_z, w64}
+use Rattle.std.proofs.Common.{◌≡◌, ◌∷◌, ◌++◌, [], ◌+◌, ◌<◌, ℕ, List, Vec, String, Bor, Global, Some, Err, codes, length, drop, string_bytes, refl, sym, ap, subst, ◌∙◌, arith, rules, ℤ, to_z, of_z, w64}
 use Rattle.std.specs.Prelude.{Option}
 use Rattle.std.specs.Vec.Iter.{into_iter_items}
 use Rattle.std.proofs.lemmas.Grind.{common_steps}
@@ -20,7 +20,7 @@ use Rattle.jsone_eval.specs.Calls.{IsFromNowAt}
 use Rattle.jsone_eval.specs.Scopes.{bound, scopes_of}
 use Rattle.jsone_render.specs.declared.faults.RenderFault.{RenderFault}
 use Rattle.jsone_render.specs.declared.operators.Operator.TheVariants.{Eval, If, Switch, Match, Let, Map, Reduce, Find, Sort, FromNow}
-use Rattle.jsone_render.specs.Answers.{Answers, IsUnder, branch_taken, found_in, here, names_in, pairs_of, strings_in}
+use Rattle.jsone_render.specs.Answers.{Answers, IsUnder, branch_taken, found_in, here, names_in, pairs_of, texts_in}
 use Rattle.jsone_render.specs.Bindings.{LetIn, LetRenders, bound_to, both, EachRenders, or_before, TurnsReduce, ReducedOver}
 use Rattle.jsone_render.specs.Conditions.{Taken, branch_of, AreTrue, conditions_of, OneTaken, SwitchRenders, AllTaken, MatchRenders}
 use Rattle.jsone_render.specs.Expressions.{ValueAt}
@@ -30,7 +30,7 @@ use Rattle.jsone_render.specs.Outcomes.{Outcome, given, pay, worth, or_null, Mea
 use Rattle.jsone_render.specs.Templates.{Given, IsGivenBy, SpanRenders, BoundOver, Under, Renders, ItemsRender, ValuesRender, MemberRenders, BranchRenders, InnerRenders}
 use Rattle.jsone_render.specs.Texts.{TextRenders}
 use Rattle.jsone_render.proofs.OutcomeLemmas.{answer_through, fault_through, fault_under, value_through, value_under}
-use Rattle.jsone_render.proofs.RenderLemmas.{of_same, of_plain, document-Null, of_list, of_list_fault, item_more, item_fault, item_next, item_end, value_more, value_fault, of_form, length-keys_of, kept_from, body_at, body_fault, made_so, alone_is, by_operand, over_is, takes_none, let_bound, let_bad, let_kind, switch_kind, match_kind, two_taken, one_taken, string_next, string_end, FromRenders, from_there, from_now_on, of_mapped_list, of_mapped_list_fault, reduce_kind, reduce_list}
+use Rattle.jsone_render.proofs.RenderLemmas.{of_same, of_plain, document-Null, of_list, of_list_fault, item_more, item_fault, item_next, item_end, value_more, value_fault, of_form, length-keys_of, kept_from, body_at, body_fault, made_so, alone_is, by_operand, over_is, takes_none, let_bound, let_bad, let_kind, switch_kind, match_kind, two_taken, one_taken, FromRenders, from_there, from_now_on, of_mapped_list, of_mapped_list_fault, reduce_kind, reduce_list}
 use Rattle.jsone_render.proofs.SizeLemmas.{member_weight, item_weight}
 use Rattle.jsone_render.proofs.TemplateLemmas.{member_found, member_missing, branch_found, no_branches}
 use Rattle.jsone_render.proofs.TurnLemmas.{turn_more, turn_fault, reduce_more, reduce_fault, taken_back, taken_more, taken_fault}
@@ -537,8 +537,8 @@ switch-returns-in-Err-clause-answers t c =
     let m = c.true_of.new.self.cost.spent in
     let f = c.in-Err.fault in
     subst (λ x. Answers found_in (SwitchRenders x Branch scopes n) (Err f) m) (sym c.in-Some.ensures)
-    (fault_through (λ (v : Vec (String Global) Global). strings_in v.items) found_in (AreTrue [] (conditions_of bs) scopes n) (λ x q. OneTaken Branch x scopes q) f m m
-    (subst (λ (ks : List (List ℕ)). Answers (λ (v : Vec (String Global) Global). strings_in v.items) (AreTrue [] ks scopes n) (Err f) m) c.in_ok-conditions.ensures c.in-Err.ensures.answers))
+    (fault_through (λ (v : Vec (Bor (List ℕ)) Global). texts_in v.items) found_in (AreTrue [] (conditions_of bs) scopes n) (λ x q. OneTaken Branch x scopes q) f m m
+    (subst (λ (ks : List (List ℕ)). Answers (λ (v : Vec (Bor (List ℕ)) Global). texts_in v.items) (AreTrue [] ks scopes n) (Err f) m) c.in_ok-conditions.ensures c.in-Err.ensures.answers))
 
 pub switch-returns-then-len-gt1-clause-answers : goal.switch-returns-then-len-gt1-clause-answers
 switch-returns-then-len-gt1-clause-answers t c =
@@ -549,12 +549,12 @@ switch-returns-then-len-gt1-clause-answers t c =
     let bs = members_in c.in-Some.branches.now.entries in
     let after = scopes_of c.true_of.new.self.context in
     let m = c.true_of.new.self.cost.spent in
-    let found = strings_in c.in-Ok.found.items in
+    let found = texts_in c.in-Ok.found.items in
     let are_true = subst (λ (ks : List (List ℕ)). AreTrue [] ks scopes n (given found m)) c.in_ok-conditions.ensures c.in-Ok.ensures.answers in
     subst (λ (f : RenderFault). Answers found_in (SwitchRenders (member_at (codes "$switch") ms) Branch scopes n) (Err f) m) (sym c.here-then-len-gt1.ensures) (
     subst (λ x. Answers found_in (SwitchRenders x Branch scopes n) (Err (here TwoBranches)) m) (sym c.in-Some.ensures)
     (value_through found_in (AreTrue [] (conditions_of bs) scopes n) (λ s x q. OneTaken Branch x s q) found m (Err (here TwoBranches)) m scopes after c.in-Ok.ensures.scopes are_true
-    (two_taken Branch found after m (omega (arith, c.if-len-gt1.true, c.len.ensures, length-map c.in-Ok.found.items (λ s. string_bytes s), c.in-Ok.found.ok.0)))))
+    (two_taken Branch found after m (omega (arith, c.if-len-gt1.true, c.len.ensures, length-map c.in-Ok.found.items (λ s. s.now), c.in-Ok.found.ok.0)))))
 
 pub switch-returns-in_Err-taken-clause-answers : goal.switch-returns-in_Err-taken-clause-answers
 switch-returns-in_Err-taken-clause-answers t c =
@@ -565,13 +565,13 @@ switch-returns-in_Err-taken-clause-answers t c =
     let bs = members_in c.in-Some.branches.now.entries in
     let after = scopes_of c.true_of.new.self.context in
     let m = c.true_of.new.self.cost.spent in
-    let found = strings_in c.in-Ok.found.items in
+    let found = texts_in c.in-Ok.found.items in
     let are_true = subst (λ (ks : List (List ℕ)). AreTrue [] ks scopes n (given found m)) c.in_ok-conditions.ensures c.in-Ok.ensures.answers in
     let p = c.branch-taken.new.self.cost.spent in
     let f = c.in_Err-taken.fault in
     subst (λ x. Answers found_in (SwitchRenders x Branch scopes n) (Err f) p) (sym c.in-Some.ensures)
     (value_through found_in (AreTrue [] (conditions_of bs) scopes n) (λ s x q. OneTaken Branch x s q) found m (Err f) p scopes after c.in-Ok.ensures.scopes are_true
-    (answer_through found_in (Taken (Branch (branch_taken found)) after m) (OneTaken Branch found after m) (Err f) p (λ o. one_taken Branch found after m o (omega (arith, c.if-len-gt1.false, c.len.ensures, length-map c.in-Ok.found.items (λ s. string_bytes s), c.in-Ok.found.ok.0)))
+    (answer_through found_in (Taken (Branch (branch_taken found)) after m) (OneTaken Branch found after m) (Err f) p (λ o. one_taken Branch found after m o (omega (arith, c.if-len-gt1.false, c.len.ensures, length-map c.in-Ok.found.items (λ s. s.now), c.in-Ok.found.ok.0)))
     (fault_through found_in found_in (Branch (branch_taken found) after m) (λ x q o. o ≡ worth q x) f p p (subst (λ (b : List ℕ). Answers found_in (Branch b after m) (Err f) p) c.branch_taken-key.ensures c.in_Err-taken.ensures.answers))))
 
 pub switch-returns-clause-answers : goal.switch-returns-clause-answers
@@ -583,7 +583,7 @@ switch-returns-clause-answers t c =
     let bs = members_in c.in-Some.branches.now.entries in
     let after = scopes_of c.true_of.new.self.context in
     let m = c.true_of.new.self.cost.spent in
-    let found = strings_in c.in-Ok.found.items in
+    let found = texts_in c.in-Ok.found.items in
     let are_true = subst (λ (ks : List (List ℕ)). AreTrue [] ks scopes n (given found m)) c.in_ok-conditions.ensures c.in-Ok.ensures.answers in
     let last = scopes_of c.branch-taken.new.self.context in
     let p = c.branch-taken.new.self.cost.spent in
@@ -592,7 +592,7 @@ switch-returns-clause-answers t c =
     let k = c.finish.new.self.cost.spent in
     subst (λ x. Answers found_in (SwitchRenders x Branch scopes n) r k) (sym c.in-Some.ensures)
     (value_through found_in (AreTrue [] (conditions_of bs) scopes n) (λ s x q. OneTaken Branch x s q) found m r k scopes after c.in-Ok.ensures.scopes are_true
-    (answer_through found_in (Taken (Branch (branch_taken found)) after m) (OneTaken Branch found after m) r k (λ o. one_taken Branch found after m o (omega (arith, c.if-len-gt1.false, c.len.ensures, length-map c.in-Ok.found.items (λ s. string_bytes s), c.in-Ok.found.ok.0)))
+    (answer_through found_in (Taken (Branch (branch_taken found)) after m) (OneTaken Branch found after m) r k (λ o. one_taken Branch found after m o (omega (arith, c.if-len-gt1.false, c.len.ensures, length-map c.in-Ok.found.items (λ s. s.now), c.in-Ok.found.ok.0)))
     (value_through found_in (Branch (branch_taken found) after m) (λ s x q o. o ≡ worth q x) taken p r k after last c.in_Ok-taken.ensures.scopes
     (subst (λ (b : List ℕ). Branch b after m (given taken p)) c.branch_taken-key.ensures c.in_Ok-taken.ensures.answers) c.finish.ensures.answers)))
 
@@ -621,8 +621,8 @@ matches-returns-in-Err-clause-answers t c =
     let m = c.true_of.new.self.cost.spent in
     let f = c.in-Err.fault in
     subst (λ x. Answers found_in (MatchRenders x Branch scopes n) (Err f) m) (sym c.in-Some.ensures)
-    (fault_through (λ (v : Vec (String Global) Global). strings_in v.items) found_in (AreTrue [] (keys_of bs) scopes n) (λ x q. AllTaken Branch [] x scopes q) f m m
-    (subst (λ (ks : List (List ℕ)). Answers (λ (v : Vec (String Global) Global). strings_in v.items) (AreTrue [] ks scopes n) (Err f) m) c.in_ok-conditions.ensures c.in-Err.ensures.answers))
+    (fault_through (λ (v : Vec (Bor (List ℕ)) Global). texts_in v.items) found_in (AreTrue [] (keys_of bs) scopes n) (λ x q. AllTaken Branch [] x scopes q) f m m
+    (subst (λ (ks : List (List ℕ)). Answers (λ (v : Vec (Bor (List ℕ)) Global). texts_in v.items) (AreTrue [] ks scopes n) (Err f) m) c.in_ok-conditions.ensures c.in-Err.ensures.answers))
 
 pub matches-returns-in_Err-taken-clause-answers : goal.matches-returns-in_Err-taken-clause-answers
 matches-returns-in_Err-taken-clause-answers t c =
@@ -633,22 +633,22 @@ matches-returns-in_Err-taken-clause-answers t c =
     let bs = members_in c.in-Some.branches.now.entries in
     let after = scopes_of c.true_of.new.self.context in
     let m = c.true_of.new.self.cost.spent in
-    let found = strings_in c.in-Ok.found.items in
+    let found = texts_in c.in-Ok.found.items in
     let are_true = subst (λ (ks : List (List ℕ)). AreTrue [] ks scopes n (given found m)) c.in_ok-conditions.ensures c.in-Ok.ensures.answers in
     let l = c.loop-key in
-    let xs = c.deref-key-items.result.now in
-    let x = c.key-item.result in
-    let next = string_next xs l.key-index x c.loop-key-test.true c.key-item.is in
-    let rest = strings_in (drop l.key-index xs) in
-    let left = strings_in (drop (l.key-index + 1) xs) in
-    let whole : Outcome (Option Document) → Type 0 = AllTaken Branch [] (strings_in xs) after m in
+    let xs = into_iter_items c.into_iter-key-iterator.result in
+    let x = c.in-Some-key.key in
+    let next : into_iter_items l.key-iterator ≡ x ∷ into_iter_items c.next.new.self = grind (arith, common_steps) in
+    let rest = texts_in (into_iter_items l.key-iterator) in
+    let left = texts_in (into_iter_items c.next.new.self) in
+    let whole : Outcome (Option Document) → Type 0 = AllTaken Branch [] (texts_in xs) after m in
     let p = c.branch-taken.new.self.cost.spent in
     let f = c.in_Err-taken.fault in
-    let fault : Answers found_in (AllTaken Branch [] (strings_in xs) after m) (Err f) p = taken_fault whole Branch (documents l.done.items) rest left (string_bytes x) (scopes_of l.self.context) l.self.cost.spent p p f next l.invariant.leads
-    (subst (λ (b : List ℕ). Answers found_in (Branch b (scopes_of l.self.context) l.self.cost.spent) (Err f) p) c.as_str.ensures.value c.in_Err-taken.ensures.answers) in
+    let fault : Answers found_in (AllTaken Branch [] (texts_in xs) after m) (Err f) p = taken_fault whole Branch (documents l.done.items) rest left (x.now) (scopes_of l.self.context) l.self.cost.spent p p f (ap texts_in next) l.invariant.leads c.in_Err-taken.ensures.answers in
+    let all : xs ≡ c.in-Ok.found.items = grind (arith, common_steps) in
     subst (λ x. Answers found_in (MatchRenders x Branch scopes n) (Err f) p) (sym c.in-Some.ensures)
     (value_through found_in (AreTrue [] (keys_of bs) scopes n) (λ s x q. AllTaken Branch [] x s q) found m (Err f) p scopes after c.in-Ok.ensures.scopes are_true
-    (subst (λ ys. Answers found_in (AllTaken Branch [] ys after m) (Err f) p) (ap strings_in c.deref-key-items.ensures.value) fault))
+    (subst (λ ys. Answers found_in (AllTaken Branch [] ys after m) (Err f) p) (ap texts_in all) fault))
 
 pub matches-loop-key-preserved : goal.matches-loop-key-preserved
 matches-loop-key-preserved t c =
@@ -660,16 +660,16 @@ matches-loop-key-preserved t c =
     let after = scopes_of c.true_of.new.self.context in
     let m = c.true_of.new.self.cost.spent in
     let l = c.loop-key in
-    let xs = c.deref-key-items.result.now in
-    let x = c.key-item.result in
-    let next = string_next xs l.key-index x c.loop-key-test.true c.key-item.is in
-    let rest = strings_in (drop l.key-index xs) in
-    let left = strings_in (drop (l.key-index + 1) xs) in
-    let whole : Outcome (Option Document) → Type 0 = AllTaken Branch [] (strings_in xs) after m in
+    let xs = into_iter_items c.into_iter-key-iterator.result in
+    let x = c.in-Some-key.key in
+    let next : into_iter_items l.key-iterator ≡ x ∷ into_iter_items c.next.new.self = grind (arith, common_steps) in
+    let rest = texts_in (into_iter_items l.key-iterator) in
+    let left = texts_in (into_iter_items c.next.new.self) in
+    let whole : Outcome (Option Document) → Type 0 = AllTaken Branch [] (texts_in xs) after m in
     let p = c.branch-taken.new.self.cost.spent in
     record {
-      leads = taken_more whole Branch (documents l.done.items) (documents c.keep.new.done.items) rest left (string_bytes x) (scopes_of l.self.context) (scopes_of c.branch-taken.new.self.context) l.self.cost.spent p (found_in c.in_Ok-taken.taken) next l.invariant.leads
-          (subst (λ (b : List ℕ). Branch b (scopes_of l.self.context) l.self.cost.spent (given (found_in c.in_Ok-taken.taken) p)) c.as_str.ensures.value c.in_Ok-taken.ensures.answers) c.in_ok-keep.ensures c.in_Ok-taken.ensures.scopes;
+      leads = taken_more whole Branch (documents l.done.items) (documents c.keep.new.done.items) rest left (x.now) (scopes_of l.self.context) (scopes_of c.branch-taken.new.self.context) l.self.cost.spent p (found_in c.in_Ok-taken.taken) (ap texts_in next) l.invariant.leads
+          c.in_Ok-taken.ensures.answers c.in_ok-keep.ensures c.in_Ok-taken.ensures.scopes;
       same = c.in_Ok-taken.ensures.scopes ∙ l.invariant.same;
     }
 
@@ -682,20 +682,21 @@ matches-returns-clause-answers t c =
     let bs = members_in c.in-Some.branches.now.entries in
     let after = scopes_of c.true_of.new.self.context in
     let m = c.true_of.new.self.cost.spent in
-    let found = strings_in c.in-Ok.found.items in
+    let found = texts_in c.in-Ok.found.items in
     let are_true = subst (λ (ks : List (List ℕ)). AreTrue [] ks scopes n (given found m)) c.in_ok-conditions.ensures c.in-Ok.ensures.answers in
     let l = c.loop-key in
-    let xs = c.deref-key-items.result.now in
-    let none = string_end xs l.key-index c.loop-key-test.false in
+    let xs = into_iter_items c.into_iter-key-iterator.result in
+    let all : xs ≡ c.in-Ok.found.items = grind (arith, common_steps) in
+    let none : into_iter_items l.key-iterator ≡ [] = grind (arith, common_steps) in
     let q = l.self.cost.spent in
     let last = scopes_of l.self.context in
     let r = c.finish.result in
     let k = c.finish.new.self.cost.spent in
-    let done : Answers found_in (AllTaken Branch [] (strings_in xs) after m) r k = answer_through found_in (λ o. o ≡ worth q (Some (document (ListDoc l.done)))) (AllTaken Branch [] (strings_in xs) after m) r k
-    (λ o e. l.invariant.leads o (subst (λ ks. AllTaken Branch (documents l.done.items) ks last q o) (sym none) (e ∙ ap (λ x. worth q (Some x)) (document-List l.done)))) c.finish.ensures.answers in
+    let done : Answers found_in (AllTaken Branch [] (texts_in xs) after m) r k = answer_through found_in (λ o. o ≡ worth q (Some (document (ListDoc l.done)))) (AllTaken Branch [] (texts_in xs) after m) r k
+    (λ o e. l.invariant.leads o (subst (λ ks. AllTaken Branch (documents l.done.items) ks last q o) (sym (ap texts_in none)) (e ∙ ap (λ x. worth q (Some x)) (document-List l.done)))) c.finish.ensures.answers in
     subst (λ x. Answers found_in (MatchRenders x Branch scopes n) r k) (sym c.in-Some.ensures)
     (value_through found_in (AreTrue [] (keys_of bs) scopes n) (λ s x q. AllTaken Branch [] x s q) found m r k scopes after c.in-Ok.ensures.scopes are_true
-    (subst (λ ys. Answers found_in (AllTaken Branch [] ys after m) r k) (ap strings_in c.deref-key-items.ensures.value) done))
+    (subst (λ ys. Answers found_in (AllTaken Branch [] ys after m) r k) (ap texts_in all) done))
 
 pub matches-returns-clause-scopes : goal.matches-returns-clause-scopes
 matches-returns-clause-scopes t c = kept_from c.finish.result (scopes_of c.args.self.now.context) (scopes_of c.loop-key.self.context) (scopes_of c.finish.new.self.context) (c.loop-key.invariant.same ∙ c.in-Ok.ensures.scopes) c.finish.ensures.scopes

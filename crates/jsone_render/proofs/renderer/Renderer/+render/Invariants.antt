@@ -6,7 +6,7 @@ use Rattle.farm_text.specs.Doc.{document, documents, entries_of}
 use Rattle.farm_text.proofs.DocLemmas.{members_in}
 use Rattle.jsone_eval.specs.Scopes.{scopes_of}
 use Rattle.jsone_values.specs.Weights.{weight, items_weight, members_weight}
-use Rattle.jsone_render.specs.Answers.{names_in, pairs_of, strings_in}
+use Rattle.jsone_render.specs.Answers.{names_in, pairs_of, texts_in}
 use Rattle.jsone_render.specs.Bindings.{EachRenders, TurnsReduce, ReducedOver}
 use Rattle.jsone_render.specs.Conditions.{AllTaken}
 use Rattle.jsone_render.specs.Outcomes.{Outcome}
@@ -76,8 +76,8 @@ invariant-values-loop-key l = record {
 
 abbrev pub invariant-matches-loop-key : goal.invariant-matches-loop-key
 invariant-matches-loop-key l = record {
-  leads : (o : Outcome (Option Document)) → AllTaken (λ inner. BranchRenders (codes "$match") inner (members_in l.members.entries)) (documents l.done.items) (strings_in (drop l.key-index l.key-items)) (scopes_of l.self.context) l.self.cost.spent o
-      → AllTaken (λ inner. BranchRenders (codes "$match") inner (members_in l.members.entries)) [] (strings_in l.key-items) (scopes_of l.initial.self.context) l.initial.self.cost.spent o;
+  leads : (o : Outcome (Option Document)) → AllTaken (λ inner. BranchRenders (codes "$match") inner (members_in l.members.entries)) (documents l.done.items) (texts_in (into_iter_items l.key-iterator)) (scopes_of l.self.context) l.self.cost.spent o
+      → AllTaken (λ inner. BranchRenders (codes "$match") inner (members_in l.members.entries)) [] (texts_in (into_iter_items l.initial.key-iterator)) (scopes_of l.initial.self.context) l.initial.self.cost.spent o;
   same : scopes_of l.self.context ≡ scopes_of l.initial.self.context;
 }
 

@@ -10,5 +10,5 @@ pub returns-clause-scopes : goal.returns-clause-scopes
 returns-clause-scopes c =
     let before = scopes_of c.args.self.now.context in
     let more = bound_to (names_in c.args.names) (document c.args.value ∷ []) in
-    kept_same c.evaluate_tree-found.result before (scopes_of c.release.new.self.context)
-    (c.release.ensures.scopes before more (c.evaluate_tree-found.ensures.scopes ∙ c.in_ok-bind_one.ensures.scopes) c.height-height.ensures)
+    kept_same c.evaluate_reading-found.result before (scopes_of c.release.new.self.context)
+    (c.release.ensures.scopes before more (c.evaluate_reading-found.ensures.scopes ∙ c.in_ok-bind_one.ensures.scopes) c.height-height.ensures)

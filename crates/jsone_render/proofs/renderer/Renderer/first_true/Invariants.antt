@@ -11,7 +11,7 @@ use Rattle.jsone_render.proofs.renderer.Renderer.first_true.Given as goal
 -- what the turns that are left come to, is what all come to
 abbrev pub invariant-loop-item : goal.invariant-loop-item
 invariant-loop-item l = record {
-  leads : (o : Outcome (Option Document)) → FirstTrue l.source (names_in l.names) (pairs_of (into_iter_items l.item-iterator)) (scopes_of l.self.context) l.self.cost.spent o
-      → FirstTrue l.source (names_in l.names) (pairs_of l.fn.turns.items) (scopes_of l.initial.self.context) l.initial.self.cost.spent o;
+  leads : (o : Outcome (Option Document)) → FirstTrue l.reading (names_in l.names) (pairs_of (into_iter_items l.item-iterator)) (scopes_of l.self.context) l.self.cost.spent o
+      → FirstTrue l.reading (names_in l.names) (pairs_of l.fn.turns.items) (scopes_of l.initial.self.context) l.initial.self.cost.spent o;
   same : scopes_of l.self.context ≡ scopes_of l.initial.self.context;
 }

@@ -3,8 +3,8 @@ use Rattle.jsone_eval.specs.Scopes.{scopes_of}
 use Rattle.jsone_values.proofs.SplitLemmas.{first_cut}
 use Rattle.jsone_render.specs.Answers.{Answers, EndsAt}
 use Rattle.jsone_render.specs.declared.faults.RenderFault.{RenderFault}
-use Rattle.jsone_render.specs.Outcomes.{Outcome}
-use Rattle.jsone_render.specs.Texts.{opening, ends_with_dollar, PartsRender, Interpolated}
+use Rattle.jsone_render.specs.Outcomes.{Outcome, given}
+use Rattle.jsone_render.specs.Texts.{opening, ends_with_dollar, Valued, PartsRender, Interpolated}
 use Rattle.jsone_render.proofs.CutLemmas.{less_left, less_behind}
 use Rattle.jsone_render.proofs.TextLemmas.{past_escape, past_value, at_fault, at_unended, at_last, at_front}
 use Rattle.jsone_render.proofs.renderer.Renderer.interpolate.Goals as goal
@@ -37,21 +37,22 @@ loop-front-smaller c =
     let l = c.loop-front in
     let found = c.in-Some.ensures.cases in
     let cut = first_cut opening l.rest.now c.in-Some.front.now c.in-Some.behind.now found.0 found.1 found.2.0 found.2.1 found.3 found.4 found.6 in
-    let ends = subst (EndsAt c.in-Some.behind.now) c.in-Some-2.is c.in_ok-source.ensures in
-    less_behind opening l.rest.now c.in-Some.front.now c.in-Some.behind.now c.in-Some-2.source.now c.in-Some-2.next.now cut (lit< tt) ends.0
+    let ends = subst (EndsAt c.in-Some.behind.now) c.in-Some-2.is c.in_ok-reading.ensures in
+    less_behind opening l.rest.now c.in-Some.front.now c.in-Some.behind.now c.in-Some-2.reading.value c.in-Some-2.next.now cut (lit< tt) ends.0
 
 pub loop-front-preserved : goal.loop-front-preserved
 loop-front-preserved c =
     let l = c.loop-front in
     let found = c.in-Some.ensures.cases in
     let cut = first_cut opening l.rest.now c.in-Some.front.now c.in-Some.behind.now found.0 found.1 found.2.0 found.2.1 found.3 found.4 found.6 in
-    let ends = subst (EndsAt c.in-Some.behind.now) c.in-Some-2.is c.in_ok-source.ensures in
+    let ends = subst (EndsAt c.in-Some.behind.now) c.in-Some-2.is c.in_ok-reading.ensures in
     let whole : Outcome (List ℕ) → Type 0 = Interpolated c.args.text.now (scopes_of c.args.self.now.context) c.args.self.now.cost.spent in
     let next = string_bytes c.push_str-in-Some-2.new.self in
     let made = c.in_ok-push_str-in-Some-2.ensures.bytes ∙ ap (λ (b : List ℕ). b ++ c.as_str.result.now) c.in_ok-push_str.ensures.bytes ∙ ap (λ (b : List ℕ). (string_bytes l.out ++ c.in-Some.front.now) ++ b) c.as_str.ensures in
+    let valued = subst (λ (e : List ℕ). Valued e (scopes_of l.self.context) l.self.cost.spent (given c.in-Ok.value c.valued.new.self.cost.spent)) c.deref.ensures c.in-Ok.ensures.answers in
     record {
-      leads = λ parts o are h. past_value whole l.rest.now c.in-Some.front.now c.in-Some.behind.now c.in-Some-2.source.now c.in-Some-2.next.now (string_bytes l.out) c.in-Ok.value next (scopes_of l.self.context) l.self.cost.spent c.valued.new.self.cost.spent cut
-          (ap ends_with_dollar (sym c.as_bytes.ensures.value) ∙ sym c.ends_with_dollar.ensures ∙ c.if-ends_with_dollar.false) ends.0 ends.1 c.in-Ok.ensures.answers made l.invariant.leads parts o are
+      leads = λ parts o are h. past_value whole l.rest.now c.in-Some.front.now c.in-Some.behind.now c.in-Some-2.reading.value c.in-Some-2.next.now (string_bytes l.out) c.in-Ok.value next (scopes_of l.self.context) l.self.cost.spent c.valued.new.self.cost.spent cut
+          (ap ends_with_dollar (sym c.as_bytes.ensures.value) ∙ sym c.ends_with_dollar.ensures ∙ c.if-ends_with_dollar.false) ends.0 ends.1 valued made l.invariant.leads parts o are
           (subst (λ s. PartsRender next parts s c.valued.new.self.cost.spent o) c.in-Ok.ensures.scopes h);
       same = c.in-Ok.ensures.scopes ∙ l.invariant.same;
       utf8 = search rules;
@@ -62,17 +63,18 @@ returns-in-Err-clause-answers c =
     let l = c.loop-front in
     let found = c.in-Some.ensures.cases in
     let cut = first_cut opening l.rest.now c.in-Some.front.now c.in-Some.behind.now found.0 found.1 found.2.0 found.2.1 found.3 found.4 found.6 in
-    let ends = subst (EndsAt c.in-Some.behind.now) c.in-Some-2.is c.in_ok-source.ensures in
+    let ends = subst (EndsAt c.in-Some.behind.now) c.in-Some-2.is c.in_ok-reading.ensures in
     let whole : Outcome (List ℕ) → Type 0 = Interpolated c.args.text.now (scopes_of c.args.self.now.context) c.args.self.now.cost.spent in
-    at_fault (λ (t : List ℕ). t) (string_bytes {Z = Global}) whole l.rest.now c.in-Some.front.now c.in-Some.behind.now c.in-Some-2.source.now c.in-Some-2.next.now (string_bytes l.out) (scopes_of l.self.context) l.self.cost.spent c.valued.new.self.cost.spent c.valued.new.self.cost.spent c.in-Err.fault cut
-    (ap ends_with_dollar (sym c.as_bytes.ensures.value) ∙ sym c.ends_with_dollar.ensures ∙ c.if-ends_with_dollar.false) ends.0 ends.1 c.in-Err.ensures.answers l.invariant.leads
+    at_fault (λ (t : List ℕ). t) (string_bytes {Z = Global}) whole l.rest.now c.in-Some.front.now c.in-Some.behind.now c.in-Some-2.reading.value c.in-Some-2.next.now (string_bytes l.out) (scopes_of l.self.context) l.self.cost.spent c.valued.new.self.cost.spent c.valued.new.self.cost.spent c.in-Err.fault cut
+    (ap ends_with_dollar (sym c.as_bytes.ensures.value) ∙ sym c.ends_with_dollar.ensures ∙ c.if-ends_with_dollar.false) ends.0 ends.1
+    (subst (λ (e : List ℕ). Answers (λ (t : List ℕ). t) (Valued e (scopes_of l.self.context) l.self.cost.spent) (Err c.in-Err.fault) c.valued.new.self.cost.spent) c.deref.ensures c.in-Err.ensures.answers) l.invariant.leads
 
 pub returns-in-None-clause-answers : goal.returns-in-None-clause-answers
 returns-in-None-clause-answers c =
     let l = c.loop-front in
     let found = c.in-Some.ensures.cases in
     let cut = first_cut opening l.rest.now c.in-Some.front.now c.in-Some.behind.now found.0 found.1 found.2.0 found.2.1 found.3 found.4 found.6 in
-    let none = subst (EndsAt c.in-Some.behind.now) c.in-None.is c.in_ok-source.ensures in
+    let none = subst (EndsAt c.in-Some.behind.now) c.in-None.is c.in_ok-reading.ensures in
     let whole : Outcome (List ℕ) → Type 0 = Interpolated c.args.text.now (scopes_of c.args.self.now.context) c.args.self.now.cost.spent in
     subst (λ (f : RenderFault). Answers (string_bytes {Z = Global}) whole (Err f) l.self.cost.spent) (sym c.here.ensures)
     (at_unended whole l.rest.now c.in-Some.front.now c.in-Some.behind.now (string_bytes l.out) (scopes_of l.self.context) l.self.cost.spent cut

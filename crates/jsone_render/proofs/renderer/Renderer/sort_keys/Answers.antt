@@ -17,7 +17,7 @@ pub loop-item-preserved : goal.loop-item-preserved
 loop-item-preserved c =
     let l = c.loop-item in
     let next : into_iter_items l.item-iterator ≡ c.in-Some.item ∷ into_iter_items c.next.new.self = grind (arith, common_steps) in
-    let source = c.args.source.now in
+    let source = c.args.reading.now in
     let names = names_in c.args.names in
     let scopes = scopes_of l.self.context in
     let n = l.self.cost.spent in
@@ -25,7 +25,7 @@ loop-item-preserved c =
     let key = document c.in-Ok.key in
     let whole : Outcome (List Turn) → Type 0 = KeysEvaluated source names [] (documents c.args.items.items) (scopes_of c.args.self.now.context) c.args.self.now.cost.spent in
     let evaluated : Evaluated source (scopes ++ bound_to names (document c.in-Some.item ∷ [])) n (given key m) =
-    subst (λ (x : Document). Evaluated source (scopes ++ bound_to names (x ∷ [])) n (given key m)) c.in_ok-clone.ensures.cases (c.in-Ok.ensures.answers source c.parsed-read.ensures) in
+    subst (λ (x : Document). Evaluated source (scopes ++ bound_to names (x ∷ [])) n (given key m)) c.in_ok-clone.ensures.cases c.in-Ok.ensures.answers in
     record {
       leads = key_found whole source names (pairs_of l.pairs.items) (pairs_of c.keep_pair.new.pairs.items) (documents (into_iter_items l.item-iterator)) (documents (into_iter_items c.next.new.self)) (document c.in-Some.item) key scopes (scopes_of c.evaluate_one.new.self.context) n m
           (ap documents next) l.invariant.leads evaluated c.in_ok-keep_pair.ensures c.in-Ok.ensures.scopes;
@@ -36,7 +36,7 @@ pub returns-in-Err-clause-answers : goal.returns-in-Err-clause-answers
 returns-in-Err-clause-answers c =
     let l = c.loop-item in
     let next : into_iter_items l.item-iterator ≡ c.in-Some.item ∷ into_iter_items c.next.new.self = grind (arith, common_steps) in
-    let source = c.args.source.now in
+    let source = c.args.reading.now in
     let names = names_in c.args.names in
     let scopes = scopes_of l.self.context in
     let n = l.self.cost.spent in
@@ -44,13 +44,13 @@ returns-in-Err-clause-answers c =
     let whole : Outcome (List Turn) → Type 0 = KeysEvaluated source names [] (documents c.args.items.items) (scopes_of c.args.self.now.context) c.args.self.now.cost.spent in
     key_fault (λ (v : Vec (Doc × Doc) Global). pairs_of v.items) whole source names (pairs_of l.pairs.items) (documents (into_iter_items l.item-iterator)) (documents (into_iter_items c.next.new.self)) (document c.in-Some.item) scopes n m m c.in-Err.fault
     (ap documents next) l.invariant.leads
-    (subst (λ (x : Document). Answers document (Evaluated source (scopes ++ bound_to names (x ∷ [])) n) (Err c.in-Err.fault) m) c.in_ok-clone.ensures.cases (c.in-Err.ensures.answers source c.parsed-read.ensures))
+    (subst (λ (x : Document). Answers document (Evaluated source (scopes ++ bound_to names (x ∷ [])) n) (Err c.in-Err.fault) m) c.in_ok-clone.ensures.cases c.in-Err.ensures.answers)
 
 pub returns-clause-answers : goal.returns-clause-answers
 returns-clause-answers c =
     let l = c.loop-item in
     let none : into_iter_items l.item-iterator ≡ [] = grind (arith, common_steps) in
-    let source = c.args.source.now in
+    let source = c.args.reading.now in
     let names = names_in c.args.names in
     let scopes = scopes_of l.self.context in
     let done : Outcome (List Turn) = given (pairs_of l.pairs.items) l.self.cost.spent in

@@ -11,7 +11,7 @@ use Rattle.jsone_render.proofs.renderer.Renderer.sort_keys.Given as goal
 -- what the members that are left come to, is what all come to
 abbrev pub invariant-loop-item : goal.invariant-loop-item
 invariant-loop-item l = record {
-  leads : (o : Outcome (List (Document × Document))) → KeysEvaluated l.source (names_in l.names) (pairs_of l.pairs.items) (documents (into_iter_items l.item-iterator)) (scopes_of l.self.context) l.self.cost.spent o
-      → KeysEvaluated l.source (names_in l.names) [] (documents l.fn.items.items) (scopes_of l.initial.self.context) l.initial.self.cost.spent o;
+  leads : (o : Outcome (List (Document × Document))) → KeysEvaluated l.reading (names_in l.names) (pairs_of l.pairs.items) (documents (into_iter_items l.item-iterator)) (scopes_of l.self.context) l.self.cost.spent o
+      → KeysEvaluated l.reading (names_in l.names) [] (documents l.fn.items.items) (scopes_of l.initial.self.context) l.initial.self.cost.spent o;
   same : scopes_of l.self.context ≡ scopes_of l.initial.self.context;
 }

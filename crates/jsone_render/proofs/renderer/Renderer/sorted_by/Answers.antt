@@ -1,4 +1,4 @@
-use Rattle.std.proofs.Common.{Err, Vec, Global, sym, subst}
+use Rattle.std.proofs.Common.{ℕ, List, [], Err, Vec, Global, sym, subst, ◌∙◌}
 use Rattle.farm_text.specs.Document.{member_at}
 use Rattle.farm_text.specs.Doc.{document, documents}
 use Rattle.farm_text.proofs.DocLemmas.{members_in}
@@ -6,7 +6,8 @@ use Rattle.jsone_eval.specs.Scopes.{scopes_of}
 use Rattle.jsone_render.specs.declared.faults.RenderFault.{RenderFault}
 use Rattle.jsone_render.specs.Answers.{Answers, found_in, names_in, pairs_of}
 use Rattle.farm_text.specs.declared.doc.Doc.{Doc}
-use Rattle.jsone_render.specs.Sorting.{SortedBy, IsSortOf}
+use Rattle.jsone_render.specs.Sorting.{KeysEvaluated, SortedBy, IsSortOf}
+use Rattle.jsone_render.specs.Outcomes.{given}
 use Rattle.jsone_render.proofs.SearchLemmas.{finished, kept_so, sorted_list, sorted_fault, sorted_no_list, sorted_no_text}
 use Rattle.jsone_render.proofs.renderer.Renderer.sorted_by.Goals as goal
 
@@ -35,7 +36,8 @@ returns-in-Err-sort_keys-clause-answers c =
     let scopes = scopes_of c.args.self.now.context in
     let spent = c.args.self.now.cost.spent in
     sorted_fault (λ (v : Vec (Doc × Doc) Global). pairs_of v.items) x (names_in c.args.names) (document c.args.value) (documents c.in-Ok.items.items) c.in-Some.source.now scopes spent c.sort_keys.new.self.cost.spent c.sort_keys.new.self.cost.spent c.in-Err-sort_keys.fault
-    c.in-Ok.ensures c.in-Some.ensures c.in-Err-sort_keys.ensures.answers
+    c.in-Ok.ensures c.in-Some.ensures
+    (subst (λ (e : List ℕ). Answers (λ (v : Vec (Doc × Doc) Global). pairs_of v.items) (KeysEvaluated e (names_in c.args.names) [] (documents c.in-Ok.items.items) scopes spent) (Err c.in-Err-sort_keys.fault) c.sort_keys.new.self.cost.spent) (c.deref.ensures ∙ c.in_ok-reading-in-Some.ensures) c.in-Err-sort_keys.ensures.answers)
 
 pub returns-in-Ok-sort_keys-clause-answers : goal.returns-in-Ok-sort_keys-clause-answers
 returns-in-Ok-sort_keys-clause-answers c =
@@ -44,7 +46,9 @@ returns-in-Ok-sort_keys-clause-answers c =
     let spent = c.args.self.now.cost.spent in
     let pairs = pairs_of c.in-Ok-sort_keys.pairs.items in
     sorted_list x (names_in c.args.names) (document c.args.value) (documents c.in-Ok.items.items) pairs c.in-Some.source.now scopes spent c.sort_keys.new.self.cost.spent c.finish_made.new.self.cost.spent c.finish_made.result
-    c.in-Ok.ensures c.in-Some.ensures c.in-Ok-sort_keys.ensures.answers (finished (IsSortOf pairs) c.sort_of.result c.sort_keys.new.self.cost.spent c.finish_made.result c.finish_made.new.self.cost.spent c.sort_of.ensures c.finish_made.ensures.answers)
+    c.in-Ok.ensures c.in-Some.ensures
+    (subst (λ (e : List ℕ). KeysEvaluated e (names_in c.args.names) [] (documents c.in-Ok.items.items) scopes spent (given pairs c.sort_keys.new.self.cost.spent)) (c.deref.ensures ∙ c.in_ok-reading-in-Some.ensures) c.in-Ok-sort_keys.ensures.answers)
+    (finished (IsSortOf pairs) c.sort_of.result c.sort_keys.new.self.cost.spent c.finish_made.result c.finish_made.new.self.cost.spent c.sort_of.ensures c.finish_made.ensures.answers)
 
 pub returns-in-Ok-sort_keys-clause-scopes : goal.returns-in-Ok-sort_keys-clause-scopes
 returns-in-Ok-sort_keys-clause-scopes c =

@@ -1,11 +1,11 @@
-use Rattle.std.proofs.Common.{◌≡◌, ◌∷◌, ◌++◌, [], ℕ, Bool, List, Vec, String, Global, Err, if◌then◌else◌, string_bytes, refl, sym, ap, subst, ◌∙◌, arith}
+use Rattle.std.proofs.Common.{◌≡◌, ◌∷◌, ◌++◌, [], ℕ, Bool, List, Vec, Bor, Global, Err, if◌then◌else◌, refl, sym, ap, subst, ◌∙◌, arith}
 use Rattle.std.specs.Vec.Iter.{into_iter_items}
 use Rattle.std.proofs.lemmas.Grind.{common_steps}
 use Rattle.farm_text.specs.Document.{Document}
 use Rattle.farm_text.specs.Doc.{document}
 use Rattle.jsone_values.specs.Truth.{is_true}
 use Rattle.jsone_eval.specs.Scopes.{scopes_of}
-use Rattle.jsone_render.specs.Answers.{Answers, strings_in}
+use Rattle.jsone_render.specs.Answers.{Answers, texts_in}
 use Rattle.jsone_render.specs.Conditions.{AreTrue}
 use Rattle.jsone_render.specs.Expressions.{Evaluated}
 use Rattle.jsone_render.specs.Outcomes.{Outcome, given}
@@ -26,38 +26,38 @@ step Whole found rest left next k scopes after n m d e leads is made same o h =
 pub loop-condition-preserved : goal.loop-condition-preserved
 loop-condition-preserved c =
     let l = c.loop-condition in
-    let left = strings_in (into_iter_items c.next.new.self) in
+    let left = texts_in (into_iter_items c.next.new.self) in
     let next : into_iter_items l.condition-iterator ≡ c.in-Some.condition ∷ into_iter_items c.next.new.self = grind (arith, common_steps) in
-    let k = string_bytes c.in-Some.condition in
+    let k = c.in-Some.condition.now in
     let scopes = scopes_of l.self.context in
     let d = document c.in-Ok.value in
     let m = c.evaluate.new.self.cost.spent in
-    let whole : Outcome (List (List ℕ)) → Type 0 = AreTrue [] (strings_in c.args.conditions.items) (scopes_of c.args.self.now.context) c.args.self.now.cost.spent in
-    let evaluated : Evaluated k scopes l.self.cost.spent (given d m) = subst (λ (b : List ℕ). Evaluated b scopes l.self.cost.spent (given d m)) (c.as_bytes.ensures.value ∙ c.as_str.ensures.value) c.in-Ok.ensures.answers in
+    let whole : Outcome (List (List ℕ)) → Type 0 = AreTrue [] (texts_in c.args.conditions.items) (scopes_of c.args.self.now.context) c.args.self.now.cost.spent in
+    let evaluated : Evaluated k scopes l.self.cost.spent (given d m) = subst (λ (b : List ℕ). Evaluated b scopes l.self.cost.spent (given d m)) c.as_bytes.ensures.value c.in-Ok.ensures.answers in
     record {
-      leads = step whole (strings_in l.found.items) (strings_in (into_iter_items l.condition-iterator)) left (strings_in c.keep_if.new.found.items) k scopes (scopes_of c.evaluate.new.self.context) l.self.cost.spent m d (ap strings_in next) l.invariant.leads evaluated
-          (c.in_ok-keep_if.ensures ∙ ap (λ (b : Bool). strings_in l.found.items ++ (if b then k ∷ [] else [])) c.is_true.ensures) c.in-Ok.ensures.scopes;
+      leads = step whole (texts_in l.found.items) (texts_in (into_iter_items l.condition-iterator)) left (texts_in c.keep_if.new.found.items) k scopes (scopes_of c.evaluate.new.self.context) l.self.cost.spent m d (ap texts_in next) l.invariant.leads evaluated
+          (c.in_ok-keep_if.ensures ∙ ap (λ (b : Bool). texts_in l.found.items ++ (if b then k ∷ [] else [])) c.is_true.ensures) c.in-Ok.ensures.scopes;
       same = c.in-Ok.ensures.scopes ∙ l.invariant.same;
     }
 
 pub returns-in-Err-clause-answers : goal.returns-in-Err-clause-answers
 returns-in-Err-clause-answers c =
     let l = c.loop-condition in
-    let left = strings_in (into_iter_items c.next.new.self) in
+    let left = texts_in (into_iter_items c.next.new.self) in
     let next : into_iter_items l.condition-iterator ≡ c.in-Some.condition ∷ into_iter_items c.next.new.self = grind (arith, common_steps) in
-    let k = string_bytes c.in-Some.condition in
+    let k = c.in-Some.condition.now in
     let scopes = scopes_of l.self.context in
     let n = l.self.cost.spent in
     let m = c.evaluate.new.self.cost.spent in
-    let whole : Outcome (List (List ℕ)) → Type 0 = AreTrue [] (strings_in c.args.conditions.items) (scopes_of c.args.self.now.context) c.args.self.now.cost.spent in
-    loop_fault document (λ (v : Vec (String Global) Global). strings_in v.items) (Evaluated k scopes n) (Goes (strings_in l.found.items) k left scopes) (λ ks o. AreTrue (strings_in l.found.items) ks scopes n o) (strings_in (into_iter_items l.condition-iterator)) (k ∷ left) whole
-    c.in-Err.fault m m (ap strings_in next) (λ o h. h) l.invariant.leads
-    (subst (λ (b : List ℕ). Answers document (Evaluated b scopes n) (Err c.in-Err.fault) m) (c.as_bytes.ensures.value ∙ c.as_str.ensures.value) c.in-Err.ensures.answers)
+    let whole : Outcome (List (List ℕ)) → Type 0 = AreTrue [] (texts_in c.args.conditions.items) (scopes_of c.args.self.now.context) c.args.self.now.cost.spent in
+    loop_fault document (λ (v : Vec (Bor (List ℕ)) Global). texts_in v.items) (Evaluated k scopes n) (Goes (texts_in l.found.items) k left scopes) (λ ks o. AreTrue (texts_in l.found.items) ks scopes n o) (texts_in (into_iter_items l.condition-iterator)) (k ∷ left) whole
+    c.in-Err.fault m m (ap texts_in next) (λ o h. h) l.invariant.leads
+    (subst (λ (b : List ℕ). Answers document (Evaluated b scopes n) (Err c.in-Err.fault) m) c.as_bytes.ensures.value c.in-Err.ensures.answers)
 
 pub returns-clause-answers : goal.returns-clause-answers
 returns-clause-answers c =
     let l = c.loop-condition in
     let none : into_iter_items l.condition-iterator ≡ [] = grind (arith, common_steps) in
     let scopes = scopes_of l.self.context in
-    let done = given (strings_in l.found.items) l.self.cost.spent in
-    l.invariant.leads done (subst (λ ks. AreTrue (strings_in l.found.items) ks scopes l.self.cost.spent done) (sym (ap strings_in none)) refl)
+    let done = given (texts_in l.found.items) l.self.cost.spent in
+    l.invariant.leads done (subst (λ ks. AreTrue (texts_in l.found.items) ks scopes l.self.cost.spent done) (sym (ap texts_in none)) refl)

@@ -1,9 +1,11 @@
-use Rattle.std.proofs.Common.{◌≡◌, ℕ, ◌<◌, List, map, Option, Some, option_map, refl, sym, ◌∙◌, ap, subst}
+use Rattle.std.proofs.Common.{◌≡◌, ℕ, ◌<◌, List, map, Some, option_map, sym, ◌∙◌, ap, subst, vec_capacity}
 use Rattle.std.specs.Prelude.{All}
 use Rattle.std.specs.Option.{ForSome}
-use Rattle.task_groups.specs.Members.{TaskGroup, TaskGroups, Joining, rows_of, last_row, joined}
+use Rattle.task_groups.specs.Members.{TaskGroup, TaskGroups, Joining, rows_of, last_row}
 use Rattle.task_groups.specs.Kept.{shown, joining_of, HaveRisingRows}
+use Rattle.task_groups.specs.Placed.{ArePlaced}
 use Rattle.task_groups.proofs.GroupLemmas.{rising-joined, rising-of}
+use Rattle.task_groups.proofs.PlacedLemmas.{placed-joined}
 use Rattle.task_groups.proofs.PageLemmas.{all-below}
 use Rattle.task_groups.proofs.groups.Groups.join.Goals as goal
 
@@ -25,5 +27,6 @@ invariant_of-self c =
     let below : All (λ h. h < row) (rows_of j.id held) = all-below row (rows_of j.id held) (rising-of j.id held c.self.invariant.rising) last in
     record {
       rising = subst HaveRisingRows (sym c.add_row.ensures) (rising-joined j.id j.scheduler row held c.self.invariant.rising below);
+      placed = subst (ArePlaced c.self.inside.places) (sym c.add_row.ensures) (placed-joined c.self.inside.places c.self.inside.groups.items (vec_capacity c.self.inside.groups) row j (c.self.invariant.room_is j taken) c.self.invariant.placed);
       room_is = rw c.take.ensures.after (λ x is. cc);
     }

@@ -1,0 +1,36 @@
+-- What is kept beside the tasks. The contracts of private functions alone speak of these.
+use Rattle.std.specs.Prelude.{◌≡◌, ℕ, ◌==◌, false, List, length, slice_get}
+use Rattle.run_states.specs.Rows.{Row}
+use Rattle.run_states.specs.Later.{RowsLater}
+use Rattle.farm_rows.specs.declared.index.Index.{Index}
+use Rattle.farm_rows.specs.Sweep.{IsKept}
+use Rattle.farm_rows.specs.Placed.{ArePlaced}
+use Rattle.farm_rows.specs.Members.{MayBeMembers}
+use Rattle.farm_rows.specs.Dated.{MayBeDue}
+use Rattle.farm_rows.specs.Dependencies.{MayBeDependencies}
+use Rattle.farm_rows.specs.Queues.{MayBeQueues}
+
+-- all that is kept beside these tasks is right, as far as it is kept
+pub record IsIndexOf (index : Index) (rows : List Row) : Type 0 where
+  pub placed : ArePlaced index.places rows
+  pub members : MayBeMembers index.members rows
+  pub due : MayBeDue index.dues rows
+  pub waiting : MayBeDependencies index.graph rows
+  pub queued : MayBeQueues index.queues rows
+
+-- the task at a place may have changed in its state, and the others are as they were
+pub record IsLaterAt (place : ℕ) (before rows : List Row) : Type 0 where
+  pub stay : RowsLater before rows
+  pub long : length rows ≡ length before
+  pub others : (other : ℕ) → (other == place) ≡ false → slice_get rows other ≡ slice_get before other
+
+-- all that is kept is right but for the task at a place, which may have changed since
+pub record IsIndexBut (place : ℕ) (index : Index) (rows : List Row) : Type 0 where
+  pub before : List Row
+  pub right : IsIndexOf index before
+  pub later : IsLaterAt place before rows
+
+-- what tables keep, and what is kept beside
+pub record AreTables (rows : List Row) (last next : ℕ) (capacity : ℕ) (index : Index) : Type 0 where
+  pub kept : IsKept rows last next capacity
+  pub indexed : IsIndexOf index rows
