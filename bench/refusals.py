@@ -8,7 +8,8 @@ second round that one and all behind it. N goes from the first one on by STEP (e
 a run has to end by itself, without a signal, and:
 - with 0 or 7; with 0, and no reply that says that memory ran out, its output is that of a run with ample memory;
 - of `answer` each reply is of an expected status, or 503;
-- with a disk, `check --disk` finds afterwards, with ample memory, at least as many records as changes were answered with 200.
+- with a disk, `check --disk` opens it afterwards, with ample memory; of `answer` it finds at least as many records as changes were answered with 200, less two,
+  since a call with nothing to do is answered so without a record. Over sockets records are not counted.
 It ends with 1 at the first run that does not.
 """
 import os
