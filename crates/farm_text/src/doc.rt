@@ -42,6 +42,15 @@ impl Doc {
         }
     }
 
+    /// Writes the document as JSON without spaces, behind what the writer has.
+    pub fn write_to(&self, out: &mut Writer) -> Result<(), AllocError>
+        ensures ok { OnOk result (out.new.tokens
+            ≡ out.old.tokens ++ json_tokens (outline (data_of (document self.now)))) }
+        ensures before { out.new.before ≡ out.old.before }
+    {
+        write_value(self, out)
+    }
+
     /// The document as JSON without spaces. `read` gives it back, and never says that a number in it is not whole.
     pub fn write(&self, alloc: Global) -> Result<Text, AllocError>
         ensures text { IfOk result (λ t. t ≡ document_text (document self.now)) }
