@@ -47,6 +47,8 @@ impl Doc {
         ensures ok { OnOk result (out.new.tokens
             ≡ out.old.tokens ++ json_tokens (outline (data_of (document self.now)))) }
         ensures before { out.new.before ≡ out.old.before }
+        ensures reads_back { OnOk result (ReadsBack (document self.now)) }
+        ensures whole { OnOk result (IsWhole (document self.now)) }
     {
         write_value(self, out)
     }
@@ -60,10 +62,7 @@ impl Doc {
     {
         let mut out = Writer::new(Vec::with_capacity(alloc, 128)?);
         write_value(self, &mut out)?;
-        let bytes = out.into_inner();
-        // The writer's bytes are proved to be UTF-8, so they are not read again.
-        let content = unsafe { String::from_utf8_unchecked(bytes) };
-        Ok(Text::from_string(content))
+        Ok(Text::from_writer(out))
     }
 }
 
