@@ -30,7 +30,6 @@ use crate::waits::{early_dependency, missing_dependency, waits_well};
 use crate::work::change;
 use farm_record::{Change, Creation, Kind, RunName};
 use farm_text::{LAST_TOLD_MOMENT, Moment, SlugId, Text};
-use farm_text::{LAST_TOLD_MOMENT, Moment, SlugId, Text};
 use run_states::{Claim as RunClaim, RunRoom, TaskRow};
 use std::alloc::{AllocError, Global};
 use std::marker::Model;
