@@ -1,54 +1,63 @@
--- The members of a status, part by part; for private clauses.
-use Rattle.std.specs.Prelude.{ℕ, pos, codes, Option, Some, None}
-use Rattle.farm_text.specs.Document.{whole, text, array, Members, no_members, put}
+-- The members of a status and of its runs, part by part in their order; for private clauses.
+use Rattle.std.specs.Prelude.{ℕ, pos, List, [], ◌∷◌, ◌++◌, codes, Option, option_map}
+use Rattle.farm_text.specs.Document.{Document, whole, text}
 use Rattle.farm_text.specs.Slug.{slug_text}
 use Rattle.task_defs.specs.Forms.{queue_name}
-use Rattle.task_defs.specs.declared.names.TaskQueue.{TaskQueue}
-use Rattle.task_defs.specs.declared.task_def.TaskDef.{TaskDef}
 use Rattle.run_states.specs.Rows.{Row, row_state}
 use Rattle.run_states.specs.Runs.{run_state}
 use Rattle.run_states.specs.Reasons.{state_name, created_name, resolved_name}
 use Rattle.run_states.specs.declared.run.Claim.{Claim}
 use Rattle.run_states.specs.declared.run.Outcome.{Outcome}
 use Rattle.run_states.specs.declared.run.Run.{Run}
-use Rattle.task_statuses.specs.Statuses.{moment_doc, runs_from, task_state_name}
+use Rattle.task_statuses.specs.Statuses.{moment_doc, task_state_name, where_some}
 
--- the moments
-abbrev pub with_times : TaskDef → Members
-with_times def = put (codes "expires") (moment_doc def.expires) (put (codes "deadline") (moment_doc def.deadline) no_members)
+-- the members of a status before its runs
+abbrev pub before_runs : Row → List (List ℕ × Document)
+before_runs row =
+    (codes "deadline", moment_doc row.definition.deadline)
+    ∷ (codes "expires", moment_doc row.definition.expires)
+    ∷ (codes "projectId", text row.definition.project_id)
+    ∷ (codes "provisionerId", text row.definition.queue.provisioner_id)
+    ∷ (codes "retriesLeft", whole (pos row.retries_left))
+    ∷ []
 
--- and the queue
-abbrev pub with_queue : TaskQueue → Members → Members
-with_queue queue ms =
-    put (codes "workerType") (text queue.worker_type)
-    (put (codes "taskQueueId") (text (queue_name queue.provisioner_id queue.worker_type)) (put (codes "provisionerId") (text queue.provisioner_id) ms))
+-- the members of a status behind its runs
+abbrev pub behind_runs : Row → List (List ℕ × Document)
+behind_runs row =
+    (codes "schedulerId", text row.definition.scheduler_id)
+    ∷ (codes "state", text (task_state_name (row_state row)))
+    ∷ (codes "taskGroupId", text (slug_text row.definition.task_group_id))
+    ∷ (codes "taskId", text (slug_text row.id))
+    ∷ (codes "taskQueueId", text (queue_name row.definition.queue.provisioner_id row.definition.queue.worker_type))
+    ∷ (codes "workerType", text row.definition.queue.worker_type)
+    ∷ []
 
--- and the owners
-abbrev pub with_owners : TaskDef → Members → Members
-with_owners def ms =
-    put (codes "taskGroupId") (text (slug_text def.task_group_id)) (put (codes "schedulerId") (text def.scheduler_id) (put (codes "projectId") (text def.project_id) ms))
+-- how a run ended, where it did
+abbrev pub ended : Option Outcome → List (List ℕ × Document)
+ended outcome =
+    where_some (codes "reasonResolved") (option_map (λ o. text (resolved_name o.reason)) outcome)
+    ++ where_some (codes "resolved") (option_map (λ o. moment_doc o.at) outcome)
 
--- and the row's own
-abbrev pub with_ids : Row → Members → Members
-with_ids row ms =
-    put (codes "taskId") (text (slug_text row.id)) (put (codes "state") (text (task_state_name (row_state row)))
-    (put (codes "runs") (array (runs_from 0 row.runs)) (put (codes "retriesLeft") (whole (pos row.retries_left)) ms)))
+-- when a run was claimed, where it was
+abbrev pub started : Option Claim → List (List ℕ × Document)
+started claim = where_some (codes "started") (option_map (λ c. moment_doc c.started) claim)
 
--- what each run has
-abbrev pub run_members : ℕ → Run → Members
-run_members number run =
-    put (codes "state") (text (state_name (run_state run))) (put (codes "scheduled") (moment_doc run.scheduled)
-    (put (codes "runId") (whole (pos number)) (put (codes "reasonCreated") (text (created_name run.created)) no_members)))
+-- whose a run is and until when, where it was claimed
+abbrev pub taken : Option Claim → List (List ℕ × Document)
+taken claim =
+    where_some (codes "takenUntil") (option_map (λ c. moment_doc c.taken_until) claim)
+    ++ where_some (codes "workerGroup") (option_map (λ c. text c.worker_group) claim)
+    ++ where_some (codes "workerId") (option_map (λ c. text c.worker_id) claim)
 
--- and what a run that was claimed has
-abbrev pub with_claim : Option Claim → Members → Members
-with_claim None ms = ms
-with_claim (Some claim) ms =
-    put (codes "workerId") (text claim.worker_id) (put (codes "workerGroup") (text claim.worker_group)
-    (put (codes "takenUntil") (moment_doc claim.taken_until) (put (codes "started") (moment_doc claim.started) ms)))
+-- the members of a run up to how it ended
+abbrev pub reasons : Run → List (List ℕ × Document)
+reasons run = (codes "reasonCreated", text (created_name run.created)) ∷ ended run.outcome
 
--- and what a run that ended has
-abbrev pub with_outcome : Option Outcome → Members → Members
-with_outcome None ms = ms
-with_outcome (Some outcome) ms =
-    put (codes "resolved") (moment_doc outcome.at) (put (codes "reasonResolved") (text (resolved_name outcome.reason)) ms)
+-- the members of a run from its number to its state
+abbrev pub course : ℕ → Run → List (List ℕ × Document)
+course number run =
+    (codes "runId", whole (pos number))
+    ∷ (codes "scheduled", moment_doc run.scheduled)
+    ∷ started run.claim
+    ++ (codes "state", text (state_name (run_state run)))
+    ∷ []
