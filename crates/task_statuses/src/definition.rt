@@ -8,7 +8,11 @@ use std::alloc::{AllocError, Global};
 use task_defs::TaskDef;
 
 /// Writes the definition of a task in full form, with each moment in 24 bytes.
-pub fn write_definition(alloc: Global, definition: &TaskDef, out: &mut Writer) -> Result<(), AllocError>
+pub fn write_definition(
+    alloc: Global,
+    definition: &TaskDef,
+    out: &mut Writer,
+) -> Result<(), AllocError>
     ensures ok { OnOk result (out.new.tokens ≡ out.old.tokens ++ tokens_of (definition_of definition.now)) }
     ensures before { out.new.before ≡ out.old.before }
 {

@@ -10,5 +10,5 @@ mod status;
 
 pub use definition::write_definition;
 pub use laws::moments_have_texts;
-pub use members::write_moment;
+pub use members::{id_member, moment_member, number_member, text_member};
 pub use status::write_status;

@@ -10,7 +10,7 @@ use json::Writer;
 use std::alloc::AllocError;
 
 /// Writes a moment.
-pub fn write_moment(moment: Moment, out: &mut Writer) -> Result<(), AllocError>
+fn write_moment(moment: Moment, out: &mut Writer) -> Result<(), AllocError>
     ensures ok { OnOk result (out.new.tokens ≡ out.old.tokens ++ tokens_of (moment_doc moment)) }
     ensures before { out.new.before ≡ out.old.before }
 {
@@ -20,7 +20,7 @@ pub fn write_moment(moment: Moment, out: &mut Writer) -> Result<(), AllocError>
 }
 
 /// Writes a member with a moment.
-pub(crate) fn moment_member(name: &str, moment: Moment, out: &mut Writer) -> Result<(), AllocError>
+pub fn moment_member(name: &str, moment: Moment, out: &mut Writer) -> Result<(), AllocError>
     ensures ok { OnOk result (out.new.tokens ≡ out.old.tokens ++ tokens_of_members ((name.now, moment_doc moment) ∷ [])) }
     ensures before { out.new.before ≡ out.old.before }
 {
@@ -29,7 +29,7 @@ pub(crate) fn moment_member(name: &str, moment: Moment, out: &mut Writer) -> Res
 }
 
 /// Writes a member with a text.
-pub(crate) fn text_member(name: &str, text: &str, out: &mut Writer) -> Result<(), AllocError>
+pub fn text_member(name: &str, text: &str, out: &mut Writer) -> Result<(), AllocError>
     ensures ok { OnOk result (out.new.tokens ≡ out.old.tokens ++ tokens_of_members ((name.now, plain_text text.now) ∷ [])) }
     ensures before { out.new.before ≡ out.old.before }
 {
@@ -38,7 +38,7 @@ pub(crate) fn text_member(name: &str, text: &str, out: &mut Writer) -> Result<()
 }
 
 /// Writes a member with an id.
-pub(crate) fn id_member(name: &str, id: SlugId, out: &mut Writer) -> Result<(), AllocError>
+pub fn id_member(name: &str, id: SlugId, out: &mut Writer) -> Result<(), AllocError>
     ensures ok { OnOk result (out.new.tokens ≡ out.old.tokens ++ tokens_of_members ((name.now, plain_text (slug_text id)) ∷ [])) }
     ensures before { out.new.before ≡ out.old.before }
 {
@@ -47,7 +47,7 @@ pub(crate) fn id_member(name: &str, id: SlugId, out: &mut Writer) -> Result<(), 
 }
 
 /// Writes a member with a number.
-pub(crate) fn number_member(name: &str, number: u64, out: &mut Writer) -> Result<(), AllocError>
+pub fn number_member(name: &str, number: u64, out: &mut Writer) -> Result<(), AllocError>
     ensures ok { OnOk result (out.new.tokens ≡ out.old.tokens ++ tokens_of_members ((name.now, whole (pos number)) ∷ [])) }
     ensures before { out.new.before ≡ out.old.before }
 {
