@@ -21,4 +21,4 @@ full-form-is def d created deadline expires form =
 pub full-form-written : {E : Type 0} (def : TaskDef) (r : Result (Unit {0}) E) (old new : List Token) → def.created ≤ 253_402_300_799_999 → def.deadline ≤ 253_402_300_799_999 → def.expires ≤ 253_402_300_799_999
     → OnOk r ((full : Document) × IsFullForm def full × (new ≡ old ++ tokens_of full)) → OnOk r (new ≡ old ++ tokens_of (definition_of def))
 full-form-written def r old new created deadline expires written =
-    on_ok_weaker r (λ w. w.2.1 ∙ ap (λ (d : Document). old ++ tokens_of d) (full-form-is def w.0 created deadline expires w.1)) written
+    on_ok_weaker r (λ w. w.2 ∙ ap (λ (d : Document). old ++ tokens_of d) (full-form-is def w.0 created deadline expires w.1)) written

@@ -12,7 +12,7 @@ use Rattle.run_states.specs.declared.run.Claim.{Claim}
 use Rattle.run_states.specs.declared.run.Outcome.{Outcome}
 use Rattle.run_states.specs.declared.run.Run.{Run}
 use Rattle.task_statuses.proofs.WritingLemmas.{item_then}
-use Rattle.task_statuses.specs.Parts.{reasons, course, taken}
+use Rattle.task_statuses.specs.Parts.{reasons, made, course, taken}
 use Rattle.task_statuses.specs.Statuses as statuses
 use Rattle.task_statuses.specs.Tokens.{tokens_of, tokens_of_items}
 
@@ -21,9 +21,9 @@ pub text_counted : (millis : ℕ) (written : List ℕ) → millis ≤ 253_402_30
 text_counted millis written within is = IsMomentText-one millis written (moment_text millis) is (IsMomentText-moment_text millis within)
 
 -- a run's members, part by part, are those of its document
-pub run_whole : (number : ℕ) (run : Run) → object (members_of (reasons run ++ (course number run ++ taken run.claim))) ≡ statuses.run_doc number run
+pub run_whole : (number : ℕ) (run : Run) → object (members_of (reasons run ++ (made number run ++ (course run ++ taken run.claim)))) ≡ statuses.run_doc number run
 run_whole number run = by run.claim run.outcome refl refl where
-  by : (k : Option Claim) (o : Option Outcome) → run.claim ≡ k → run.outcome ≡ o → object (members_of (reasons run ++ (course number run ++ taken run.claim))) ≡ statuses.run_doc number run
+  by : (k : Option Claim) (o : Option Outcome) → run.claim ≡ k → run.outcome ≡ o → object (members_of (reasons run ++ (made number run ++ (course run ++ taken run.claim)))) ≡ statuses.run_doc number run
   by None None claim outcome = rw (claim, outcome) refl
   by None (Some o) claim outcome = rw (claim, outcome) refl
   by (Some k) None claim outcome = rw (claim, outcome) refl

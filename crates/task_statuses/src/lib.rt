@@ -11,4 +11,5 @@ mod status;
 pub use definition::write_definition;
 pub use laws::moments_have_texts;
 pub use members::{id_member, moment_member, number_member, text_member};
+pub use runs::write_worker;
 pub use status::write_status;

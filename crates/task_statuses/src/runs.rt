@@ -29,7 +29,8 @@ fn write_run(number: usize, run: &Run, out: &mut Writer) -> Result<(), AllocErro
 {
     out.begin_object()?;
     write_reasons(run, out)?;
-    write_course(number, run, out)?;
+    write_made(number, run, out)?;
+    write_course(run, out)?;
     write_taken(&run.claim, out)?;
     out.end_object()
 }
@@ -63,13 +64,20 @@ fn write_outcome(outcome: Outcome, out: &mut Writer) -> Result<(), AllocError>
     moment_member("resolved", outcome.at, out)
 }
 
-/// Writes the number of a run, its moments and its state.
-fn write_course(number: usize, run: &Run, out: &mut Writer) -> Result<(), AllocError>
-    ensures ok { OnOk result (out.new.tokens ≡ out.old.tokens ++ tokens_of_members (parts.course number run.now)) }
+/// Writes the number of a run, and when it was made.
+fn write_made(number: usize, run: &Run, out: &mut Writer) -> Result<(), AllocError>
+    ensures ok { OnOk result (out.new.tokens ≡ out.old.tokens ++ tokens_of_members (parts.made number run.now)) }
     ensures before { out.new.before ≡ out.old.before }
 {
     number_member("runId", number as u64, out)?;
-    moment_member("scheduled", run.scheduled, out)?;
+    moment_member("scheduled", run.scheduled, out)
+}
+
+/// Writes when a run was claimed, and its state.
+fn write_course(run: &Run, out: &mut Writer) -> Result<(), AllocError>
+    ensures ok { OnOk result (out.new.tokens ≡ out.old.tokens ++ tokens_of_members (parts.course run.now)) }
+    ensures before { out.new.before ≡ out.old.before }
+{
     write_started(&run.claim, out)?;
     text_member("state", run.state().name(), out)
 }
@@ -102,6 +110,14 @@ fn write_claim(claim: &Claim, out: &mut Writer) -> Result<(), AllocError>
     ensures before { out.new.before ≡ out.old.before }
 {
     moment_member("takenUntil", claim.taken_until, out)?;
+    write_worker(claim, out)
+}
+
+/// Writes whose a run is.
+pub fn write_worker(claim: &Claim, out: &mut Writer) -> Result<(), AllocError>
+    ensures ok { OnOk result (out.new.tokens ≡ out.old.tokens ++ tokens_of_members (parts.worker claim.now)) }
+    ensures before { out.new.before ≡ out.old.before }
+{
     text_member("workerGroup", claim.worker_group.as_str(), out)?;
     text_member("workerId", claim.worker_id.as_str(), out)
 }

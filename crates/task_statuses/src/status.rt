@@ -10,6 +10,7 @@ use crate::runs::write_runs;
 use json::Writer;
 use run_states::TaskRow;
 use std::alloc::{AllocError, Global};
+use task_defs::{TaskDef, TaskQueue};
 
 /// Writes the status of a task: its deadline, when it expires, its owners, its queue, the retries that it has left, its runs and its state.
 pub fn write_status(alloc: Global, row: &TaskRow, out: &mut Writer) -> Result<(), AllocError>
@@ -29,13 +30,31 @@ fn write_before_runs(row: &TaskRow, out: &mut Writer) -> Result<(), AllocError>
     ensures ok { OnOk result (out.new.tokens ≡ out.old.tokens ++ tokens_of_members (parts.before_runs row.now)) }
     ensures before { out.new.before ≡ out.old.before }
 {
-    let definition = row.definition();
-    let provisioner = definition.queue.provisioner_id.as_str();
-    moment_member("deadline", definition.deadline, out)?;
-    moment_member("expires", definition.expires, out)?;
-    text_member("projectId", definition.project_id.as_str(), out)?;
-    text_member("provisionerId", provisioner, out)?;
+    write_dates(row.definition(), out)?;
+    write_owners(row.definition(), out)?;
     number_member("retriesLeft", u64::from(row.retries_left()), out)
+}
+
+/// Writes its moments.
+fn write_dates(definition: &TaskDef, out: &mut Writer) -> Result<(), AllocError>
+    ensures ok { OnOk result (out.new.tokens ≡ out.old.tokens ++ tokens_of_members (parts.dates definition.now)) }
+    ensures before { out.new.before ≡ out.old.before }
+{
+    moment_member("deadline", definition.deadline, out)?;
+    moment_member("expires", definition.expires, out)
+}
+
+/// Writes whose the task is, and whose workers run it.
+fn write_owners(definition: &TaskDef, out: &mut Writer) -> Result<(), AllocError>
+    ensures ok { OnOk result (out.new.tokens ≡ out.old.tokens ++ tokens_of_members (parts.owners definition.now)) }
+    ensures before { out.new.before ≡ out.old.before }
+{
+    text_member("projectId", definition.project_id.as_str(), out)?;
+    text_member(
+        "provisionerId",
+        definition.queue.provisioner_id.as_str(),
+        out,
+    )
 }
 
 /// Writes the members behind the runs.
@@ -43,12 +62,35 @@ fn write_behind_runs(alloc: Global, row: &TaskRow, out: &mut Writer) -> Result<(
     ensures ok { OnOk result (out.new.tokens ≡ out.old.tokens ++ tokens_of_members (parts.behind_runs row.now)) }
     ensures before { out.new.before ≡ out.old.before }
 {
-    let definition = row.definition();
-    let queue = &definition.queue;
-    text_member("schedulerId", definition.scheduler_id.as_str(), out)?;
-    text_member("state", task_state_name(row.state()), out)?;
-    id_member("taskGroupId", definition.task_group_id, out)?;
-    id_member("taskId", row.id(), out)?;
-    text_member("taskQueueId", queue.name(alloc)?.as_str(), out)?;
+    write_standing(row, out)?;
+    write_ids(row, out)?;
+    write_place(alloc, &row.definition().queue, out)
+}
+
+/// Writes what schedules the task, and its state.
+fn write_standing(row: &TaskRow, out: &mut Writer) -> Result<(), AllocError>
+    ensures ok { OnOk result (out.new.tokens ≡ out.old.tokens ++ tokens_of_members (parts.standing row.now)) }
+    ensures before { out.new.before ≡ out.old.before }
+{
+    text_member("schedulerId", row.definition().scheduler_id.as_str(), out)?;
+    text_member("state", task_state_name(row.state()), out)
+}
+
+/// Writes its ids.
+fn write_ids(row: &TaskRow, out: &mut Writer) -> Result<(), AllocError>
+    ensures ok { OnOk result (out.new.tokens ≡ out.old.tokens ++ tokens_of_members (parts.ids row.now)) }
+    ensures before { out.new.before ≡ out.old.before }
+{
+    id_member("taskGroupId", row.definition().task_group_id, out)?;
+    id_member("taskId", row.id(), out)
+}
+
+/// Writes where the task waits for a worker.
+fn write_place(alloc: Global, queue: &TaskQueue, out: &mut Writer) -> Result<(), AllocError>
+    ensures ok { OnOk result (out.new.tokens ≡ out.old.tokens ++ tokens_of_members (parts.place queue.now)) }
+    ensures before { out.new.before ≡ out.old.before }
+{
+    let name = queue.name(alloc)?;
+    text_member("taskQueueId", name.as_str(), out)?;
     text_member("workerType", queue.worker_type.as_str(), out)
 }
