@@ -15,10 +15,6 @@ abbrev pub run_members : ℕ → Row → Claim → List (List ℕ × Document)
 run_members run row claim =
     (codes "runId", whole (pos run)) ∷ (codes "status", status_of row) ∷ (codes "takenUntil", moment_doc claim.taken_until) ∷ []
 
--- and behind it: whose the run is
-abbrev pub worker_members : Claim → List (List ℕ × Document)
-worker_members claim = (codes "workerGroup", text claim.worker_group) ∷ (codes "workerId", text claim.worker_id) ∷ []
-
 -- which rule the state of a task breaks, and its status
 abbrev pub conflict_details : ℕ → Row → Document
 conflict_details rule row = object (members_of ((codes "rule", whole (pos rule)) ∷ (codes "status", status_of row) ∷ []))

@@ -80,7 +80,13 @@ fn page_text(
 }
 
 /// Writes a page of these tasks.
-fn write_page(alloc: Global, list: &TaskList, token: Option<SlugId>, rows: &[&TaskRow], out: &mut Writer) -> Result<(), AllocError>
+fn write_page(
+    alloc: Global,
+    list: &TaskList,
+    token: Option<SlugId>,
+    rows: &[&TaskRow],
+    out: &mut Writer,
+) -> Result<(), AllocError>
     ensures ok { OnOk result (out.new.tokens ≡ out.old.tokens ++ tokens_of (pages.page_doc list.now token (map (λ row. row.now) rows.now))) }
     ensures before { out.new.before ≡ out.old.before }
 {

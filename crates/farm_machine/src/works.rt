@@ -6,7 +6,7 @@ ghost use Rattle.run_states.specs.Rows.{Row};
 ghost use Rattle.task_statuses.specs.Statuses.{definition_of};
 ghost use Rattle.task_statuses.specs.Tokens.{tokens_of, tokens_of_members};
 ghost use Rattle.farm_machine.specs.Replies.{status_body};
-ghost use Rattle.farm_machine.specs.Shown.{run_members, worker_members};
+ghost use Rattle.farm_machine.specs.Shown.{run_members};
 ghost use Rattle.farm_machine.specs.Tellings.{told_by};
 ghost use Rattle.farm_machine.specs.Works as works;
 
@@ -16,7 +16,7 @@ use farm_text::Text;
 use json::Writer;
 use run_states::{Claim, TaskRow};
 use std::alloc::{AllocError, Global};
-use task_statuses::{moment_member, number_member, text_member, write_definition, write_status};
+use task_statuses::{moment_member, number_member, write_definition, write_status, write_worker};
 
 /// What of a planned change is told.
 #[derive(Clone, Copy, Debug, PartialEq, Eq)]
@@ -55,7 +55,12 @@ pub(crate) fn told(alloc: Global, telling: Telling, rows: &[TaskRow]) -> Result<
 }
 
 /// Writes what is told.
-fn write_told(alloc: Global, telling: Telling, rows: &[TaskRow], out: &mut Writer) -> Result<(), AllocError>
+fn write_told(
+    alloc: Global,
+    telling: Telling,
+    rows: &[TaskRow],
+    out: &mut Writer,
+) -> Result<(), AllocError>
     ensures ok { OnOk result (out.new.tokens ≡ out.old.tokens ++ tokens_of (told_by telling rows.now)) }
     ensures before { out.new.before ≡ out.old.before }
 {
@@ -78,7 +83,12 @@ fn write_status_of(alloc: Global, row: Option<&TaskRow>, out: &mut Writer) -> Re
 }
 
 /// Writes the run that its worker keeps of a task, if there is one.
-fn write_kept_of(alloc: Global, run: u8, row: Option<&TaskRow>, out: &mut Writer) -> Result<(), AllocError>
+fn write_kept_of(
+    alloc: Global,
+    run: u8,
+    row: Option<&TaskRow>,
+    out: &mut Writer,
+) -> Result<(), AllocError>
     ensures ok { OnOk result (out.new.tokens ≡ out.old.tokens ++ tokens_of (works.of_first (works.kept_doc run) (option_to_list (option_copied row.entry)))) }
     ensures before { out.new.before ≡ out.old.before }
 {
@@ -124,7 +134,13 @@ fn write_last_run(alloc: Global, row: &TaskRow, out: &mut Writer) -> Result<(), 
 }
 
 /// Writes a run that a worker takes, with the task's definition.
-fn write_taken_run(alloc: Global, run: u8, row: &TaskRow, claim: &Claim, out: &mut Writer) -> Result<(), AllocError>
+fn write_taken_run(
+    alloc: Global,
+    run: u8,
+    row: &TaskRow,
+    claim: &Claim,
+    out: &mut Writer,
+) -> Result<(), AllocError>
     ensures ok { OnOk result (out.new.tokens ≡ out.old.tokens ++ tokens_of (works.held_run run row.now claim.now ((codes "task", definition_of row.now.definition) ∷ []))) }
     ensures before { out.new.before ≡ out.old.before }
 {
@@ -148,7 +164,13 @@ fn write_kept(alloc: Global, run: u8, row: &TaskRow, out: &mut Writer) -> Result
 }
 
 /// Writes a run that a worker has.
-fn write_kept_run(alloc: Global, run: u8, row: &TaskRow, claim: &Claim, out: &mut Writer) -> Result<(), AllocError>
+fn write_kept_run(
+    alloc: Global,
+    run: u8,
+    row: &TaskRow,
+    claim: &Claim,
+    out: &mut Writer,
+) -> Result<(), AllocError>
     ensures ok { OnOk result (out.new.tokens ≡ out.old.tokens ++ tokens_of (works.held_run run row.now claim.now [])) }
     ensures before { out.new.before ≡ out.old.before }
 {
@@ -159,7 +181,13 @@ fn write_kept_run(alloc: Global, run: u8, row: &TaskRow, claim: &Claim, out: &mu
 }
 
 /// Writes the number of a run, the status of its task and until when it is a worker's.
-fn write_run(alloc: Global, run: u8, row: &TaskRow, claim: &Claim, out: &mut Writer) -> Result<(), AllocError>
+fn write_run(
+    alloc: Global,
+    run: u8,
+    row: &TaskRow,
+    claim: &Claim,
+    out: &mut Writer,
+) -> Result<(), AllocError>
     ensures ok { OnOk result (out.new.tokens ≡ out.old.tokens ++ tokens_of_members (run_members run row.now claim.now)) }
     ensures before { out.new.before ≡ out.old.before }
 {
@@ -167,15 +195,6 @@ fn write_run(alloc: Global, run: u8, row: &TaskRow, claim: &Claim, out: &mut Wri
     out.key("status")?;
     write_status(alloc, row, out)?;
     moment_member("takenUntil", claim.taken_until, out)
-}
-
-/// Writes whose a run is.
-fn write_worker(claim: &Claim, out: &mut Writer) -> Result<(), AllocError>
-    ensures ok { OnOk result (out.new.tokens ≡ out.old.tokens ++ tokens_of_members (worker_members claim.now)) }
-    ensures before { out.new.before ≡ out.old.before }
-{
-    text_member("workerGroup", claim.worker_group.as_str(), out)?;
-    text_member("workerId", claim.worker_id.as_str(), out)
 }
 
 /// The claim of the run of this number.

@@ -1,4 +1,4 @@
--- The members of a status and of its runs, part by part in their order; for private clauses.
+-- The members of a status and of its runs, part by part in their order.
 use Rattle.std.specs.Prelude.{ℕ, pos, List, [], ◌∷◌, ◌++◌, codes, Option, Some, None, option_map}
 use Rattle.farm_text.specs.Document.{Document, whole, text}
 use Rattle.farm_text.specs.Slug.{slug_text}
