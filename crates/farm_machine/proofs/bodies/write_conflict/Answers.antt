@@ -19,6 +19,6 @@ returns-clause-ok c =
     let message = (codes "message", text (codes "the state forbids it")) ∷ [] in
     on_ok_weaker c.end_object.result
     (λ e. object_then t u x c.end_object.new.self.tokens (code ++ (details ++ message)) c.in_ok-begin_object.ensures.ok
-      (members_then u v x code (details ++ message) c.in_ok-text_member.ensures.ok
-      (members_then v w x details message (member_then v k w (codes "details") told c.in_ok-key.ensures.ok c.in_ok-write_conflict_details.ensures.ok) c.in_ok-text_member-2.ensures.ok)) e)
+    (members_then u v x code (details ++ message) c.in_ok-text_member.ensures.ok
+    (members_then v w x details message (member_then v k w (codes "details") told c.in_ok-key.ensures.ok c.in_ok-write_conflict_details.ensures.ok) c.in_ok-text_member-2.ensures.ok)) e)
     c.end_object.ensures.ok

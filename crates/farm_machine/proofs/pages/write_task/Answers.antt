@@ -20,6 +20,6 @@ returns-clause-ok c =
     let defined = c.in_ok-write_definition.ensures.ok ∙ ap (λ (d : TaskDef). l ++ tokens_of (definition_of d)) c.definition.ensures in
     on_ok_weaker c.end_object.result
     (λ e. object_then t u w c.end_object.new.self.tokens (status ++ task) c.in_ok-begin_object.ensures.ok
-      (members_then u v w status task (member_then u k v (codes "status") (status_of row) c.in_ok-key.ensures.ok c.in_ok-write_status.ensures.ok)
-      (member_then v l w (codes "task") (definition_of row.definition) c.in_ok-key-2.ensures.ok defined)) e)
+    (members_then u v w status task (member_then u k v (codes "status") (status_of row) c.in_ok-key.ensures.ok c.in_ok-write_status.ensures.ok)
+    (member_then v l w (codes "task") (definition_of row.definition) c.in_ok-key-2.ensures.ok defined)) e)
     c.end_object.ensures.ok

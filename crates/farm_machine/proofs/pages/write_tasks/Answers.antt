@@ -17,6 +17,6 @@ loop-row-preserved c =
     let step : drop l.row-index rows ≡ row ∷ rest = drop-cons rows l.row-index row c.loop-row-test.true ∙ ap (λ (r : Bor Row). r ∷ rest) (sym c.row-item.is) in (
       c.in_ok-write_task.ensures.before ∙ l.invariant.0,
       ap (λ (n : ℕ). c.write_task.new.out.tokens ++ tokens_of_items (items_of (map listed_doc (map (λ (r : Bor Row). r.now) (drop n rows))))) next
-      ∙ item_then l.out.tokens c.write_task.new.out.tokens whole (listed_doc row.now) (items_of (map listed_doc (map (λ (r : Bor Row). r.now) rest))) c.in_ok-write_task.ensures.ok
-        (ap (λ (rs : List (Bor Row)). l.out.tokens ++ tokens_of_items (items_of (map listed_doc (map (λ (r : Bor Row). r.now) rs)))) (sym step) ∙ l.invariant.1),
+          ∙ item_then l.out.tokens c.write_task.new.out.tokens whole (listed_doc row.now) (items_of (map listed_doc (map (λ (r : Bor Row). r.now) rest))) c.in_ok-write_task.ensures.ok
+          (ap (λ (rs : List (Bor Row)). l.out.tokens ++ tokens_of_items (items_of (map listed_doc (map (λ (r : Bor Row). r.now) rs)))) (sym step) ∙ l.invariant.1),
     )

@@ -18,5 +18,5 @@ returns-clause-ok c =
     let until = (codes "takenUntil", moment_doc c.args.claim.now.taken_until) ∷ [] in
     on_ok_weaker c.moment_member.result
     (λ e. members_then t u w number (status ++ until) (members_of_same t u (λ n. (codes "runId", whole (pos n)) ∷ []) c.from.result c.args.run c.in_ok-number_member.ensures.ok c.from.ensures)
-      (members_then u v w status until (member_then u k v (codes "status") (status_of row) c.in_ok-key.ensures.ok c.in_ok-write_status.ensures.ok) e))
+    (members_then u v w status until (member_then u k v (codes "status") (status_of row) c.in_ok-key.ensures.ok c.in_ok-write_status.ensures.ok) e))
     c.moment_member.ensures.ok

@@ -17,6 +17,6 @@ loop-row-preserved c =
     let step : drop l.row-index rows ≡ row ∷ rest = drop-cons rows l.row-index row c.loop-row-test.true ∙ ap (λ (r : Row). r ∷ rest) (sym c.row-item.is) in (
       c.in_ok-write_last_run.ensures.before ∙ l.invariant.0,
       ap (λ (n : ℕ). c.write_last_run.new.out.tokens ++ tokens_of_items (items_of (map taken_doc (drop n rows)))) next
-      ∙ item_then l.out.tokens c.write_last_run.new.out.tokens whole (taken_doc row) (items_of (map taken_doc rest)) c.in_ok-write_last_run.ensures.ok
-        (ap (λ (rs : List Row). l.out.tokens ++ tokens_of_items (items_of (map taken_doc rs))) (sym step) ∙ l.invariant.1),
+          ∙ item_then l.out.tokens c.write_last_run.new.out.tokens whole (taken_doc row) (items_of (map taken_doc rest)) c.in_ok-write_last_run.ensures.ok
+          (ap (λ (rs : List Row). l.out.tokens ++ tokens_of_items (items_of (map taken_doc rs))) (sym step) ∙ l.invariant.1),
     )

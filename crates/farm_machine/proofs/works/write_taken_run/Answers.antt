@@ -23,6 +23,6 @@ returns-clause-ok c =
     let defined = c.in_ok-write_definition.ensures.ok ∙ ap (λ (d : TaskDef). k ++ tokens_of (definition_of d)) c.definition.ensures in
     on_ok_weaker c.end_object.result
     (λ e. object_then t u x c.end_object.new.self.tokens (run ++ (task ++ worker claim)) c.in_ok-begin_object.ensures.ok
-      (members_then u v x run (task ++ worker claim) c.in_ok-write_run.ensures.ok
-      (members_then v w x task (worker claim) (member_then v k w (codes "task") (definition_of row.definition) c.in_ok-key.ensures.ok defined) c.in_ok-write_worker.ensures.ok)) e)
+    (members_then u v x run (task ++ worker claim) c.in_ok-write_run.ensures.ok
+    (members_then v w x task (worker claim) (member_then v k w (codes "task") (definition_of row.definition) c.in_ok-key.ensures.ok defined) c.in_ok-write_worker.ensures.ok)) e)
     c.end_object.ensures.ok
