@@ -8,7 +8,7 @@ ghost use Rattle.farm_rows.specs.Changes.{on_row, kept_scheduler, may_create, ma
 ghost use Rattle.farm_rows.specs.Waits.{missing_dependency, early_dependency};
 ghost use Rattle.farm_rows.specs.Lists.{is_listed, listed, names_listed, page_rows, has_more};
 ghost use Rattle.farm_rows.specs.Plans.{IsPlanOn};
-ghost use Rattle.farm_rows.specs.Deeds.{change_of, row_of, planned_of, claims_of};
+ghost use Rattle.farm_rows.specs.Deeds.{change_of, row_of, planned_of, claims_of, run_room_of};
 ghost use Rattle.farm_rows.specs.Summary.{summary_of};
 ghost use Rattle.farm_rows.specs.Sweep.{all_turns};
 
@@ -30,7 +30,7 @@ use crate::waits::{early_dependency, missing_dependency, waits_well};
 use crate::work::change;
 use farm_record::{Change, Creation, Kind, RunName};
 use farm_text::{LAST_TOLD_MOMENT, Moment, SlugId};
-use run_states::{Claim as RunClaim, TaskRow};
+use run_states::{Claim as RunClaim, RunRoom, TaskRow};
 use std::alloc::{AllocError, Global};
 use std::marker::Model;
 use task_defs::{Identifier, TaskQueue};
@@ -277,10 +277,11 @@ impl TaskTables {
             rows: _,
             grown,
             claims,
+            run_room,
         } = plan;
         match deed {
             Deed::Create(row) => self.create(at, row, grown),
-            deed => self.change(at, &deed, claims),
+            deed => self.change(at, &deed, claims, run_room),
         }
     }
 
@@ -298,13 +299,22 @@ impl TaskTables {
     }
 
     /// Makes a change of the tasks that stand.
-    fn change(&mut self, at: Moment, deed: &Deed, claims: Vec<RunClaim>)
+    fn change(&mut self, at: Moment, deed: &Deed, claims: Vec<RunClaim>, run_room: Option<RunRoom>)
         requires claims { claims.items ≡ claims_of at deed.now }
+        requires run_room { run_room ≡ run_room_of deed.now }
         requires stands { row_of deed.now ≡ None }
         requires lawful { may_apply self.old (change_of at deed.now) ≡ true }
         ensures { self.new ≡ applied self.old (change_of at deed.now) }
     {
-        let drawn = change(&mut self.rows, &mut self.index, at, self.next, deed, claims);
+        let drawn = change(
+            &mut self.rows,
+            &mut self.index,
+            at,
+            self.next,
+            deed,
+            claims,
+            run_room,
+        );
         self.next += drawn;
         self.last = at;
     }
