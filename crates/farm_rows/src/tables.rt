@@ -3,7 +3,7 @@ ghost use Rattle.std.specs.Prelude.{◌≡◌, ◌<◌, ◌≤◌, [], true, tru
 ghost use Rattle.farm_text.specs.declared.moment.TheConstants.{LAST_TOLD_MOMENT};
 ghost use Rattle.farm_rows.specs.Contents.{no_contents, row_with, counts_of, HaveOwnIds};
 ghost use Rattle.farm_rows.specs.Due.{is_due, advance};
-ghost use Rattle.farm_rows.specs.Picks.{waits_in, picks};
+ghost use Rattle.farm_rows.specs.Picks.{waits_under, picks};
 ghost use Rattle.farm_rows.specs.Changes.{on_row, kept_scheduler, may_create, may_be, may_apply, applied};
 ghost use Rattle.farm_rows.specs.Waits.{missing_dependency, early_dependency};
 ghost use Rattle.farm_rows.specs.Lists.{is_listed, listed, names_listed, page_rows, has_more};
@@ -29,7 +29,7 @@ use crate::turns::resolve_due;
 use crate::waits::{early_dependency, missing_dependency, waits_well};
 use crate::work::change;
 use farm_record::{Change, Creation, Kind, RunName};
-use farm_text::{LAST_TOLD_MOMENT, Moment, SlugId};
+use farm_text::{LAST_TOLD_MOMENT, Moment, SlugId, Text};
 use run_states::{Claim as RunClaim, RunRoom, TaskRow};
 use std::alloc::{AllocError, Global};
 use std::marker::Model;
@@ -140,9 +140,9 @@ impl TaskTables {
         &self.rows[row as usize]
     }
 
-    /// How many tasks wait in a queue.
-    pub fn pending(&self, queue: &TaskQueue) -> u32
-        ensures { result ≡ count_by (waits_in queue.now) self.now.rows }
+    /// How many tasks wait in the queue of a name, as `TaskQueue::name` makes it; where no queue has it, none. It takes no memory.
+    pub fn pending(&self, queue: &Text) -> u32
+        ensures { result ≡ count_by (waits_under queue.now) self.now.rows }
     {
         self.index.pending(&self.rows, queue) as u32
     }
