@@ -1,5 +1,5 @@
 -- The pages of lists of tasks, member by member.
-use Rattle.std.proofs.Common.{◌≡◌, ℕ, Bool, true, false, if◌then◌else◌, codes, List, [], ◌∷◌, ◌++◌, length, ◌-◌, map, Option, Some, None, option_copied, is_some, MatchOption, Bor, refl, sym, ap, ◌∙◌, subst}
+use Rattle.std.proofs.Common.{◌≡◌, ℕ, Bool, true, false, if◌then◌else◌, List, [], ◌∷◌, length, ◌-◌, map, Option, Some, None, option_copied, is_some, MatchOption, Bor, refl, sym, ap, ◌∙◌, subst}
 use Rattle.std.specs.List.{list_any, last_or, slice_get}
 use Rattle.run_states.specs.Rows.{Row}
 use Rattle.run_states.proofs.RunLemmas.{get-last}
@@ -7,7 +7,7 @@ use Rattle.farm_rows.specs.Changes.{kept_scheduler}
 use Rattle.farm_rows.specs.Lists.{is_listed, listed, names_listed, page_rows, has_more}
 use Rattle.farm_rows.specs.declared.lists.Page.{Page}
 use Rattle.farm_rows.specs.declared.lists.TaskList.{TaskList}
-use Rattle.farm_rows.specs.declared.lists.TaskList.TheVariants.{Group, Dependants}
+use Rattle.farm_rows.specs.declared.lists.TaskList.TheVariants.{Group}
 use Rattle.farm_machine.specs.declared.question.PageRequest.{PageRequest}
 use Rattle.farm_machine.specs.Pages.{page_doc, token_behind, page_body}
 
