@@ -1,8 +1,7 @@
 -- What the calls of workers and managers of tasks do may be done, where nothing refuses them.
 use Rattle.std.proofs.Common.{◌≡◌, ℕ, ◌<◌, ◌≤◌, ◌+◌, min, Bool, true, false, not, ◌&&◌, IsTrue, List, [], ◌∷◌, length, Option, Some, None, nat_le, nat_lt, refl, sym, ap, ◌∙◌, subst, inl, inr, arith}
 use Rattle.std.proofs.lemmas.Bool.{le-leb, leb-false, lt-ltb}
-use Rattle.farm_text.specs.Doc.{document}
-use Rattle.farm_text.specs.declared.doc.Doc.{Doc}
+use Rattle.farm_text.specs.Document.{document_text}
 use Rattle.farm_text.specs.declared.moment.TheConstants.{LAST_TOLD_MOMENT}
 use Rattle.farm_record.specs.declared.change.Kind.{Kind}
 use Rattle.farm_record.specs.declared.change.Kind.TheVariants.{Schedule, Rerun, Cancel, Claim as TakesRuns, Reclaim, Resolve}
@@ -180,9 +179,9 @@ claim-does work at contents names runs most until kind ready here own most_is na
     subst (λ (k : Kind). IsDeed at (claim_work work at).deed (Changes k)) (sym kind_is) (claim-deed work at names ready own_ids picked some few)
 
 -- where there are none, that is read
-pub claim-reads : (work : WorkRequest) (at : Setting) (contents : Contents) (names : List RunName) (most : ℕ) (body : Doc) → contents ≡ at.state.contents → most ≡ min work.tasks 32 → names ≡ picks most work.queue contents.rows
-    → ¬ ((1 ≤ length names) × (length names ≤ 32)) → document body ≡ work_body [] → IsDeed at (claim_work work at).deed (Reads body)
+pub claim-reads : (work : WorkRequest) (at : Setting) (contents : Contents) (names : List RunName) (most : ℕ) (body : List ℕ) → contents ≡ at.state.contents → most ≡ min work.tasks 32 → names ≡ picks most work.queue contents.rows
+    → ¬ ((1 ≤ length names) × (length names ≤ 32)) → body ≡ document_text (work_body []) → IsDeed at (claim_work work at).deed (Reads body)
 claim-reads work at contents names most body here most_is names_are no_ is =
     let picked : names ≡ picks (min work.tasks 32) work.queue at.state.contents.rows =
     names_are ∙ (ap (λ n. picks n work.queue contents.rows) most_is ∙ ap (λ (k : Contents). picks (min work.tasks 32) work.queue k.rows) here) in
-    subst (λ (d : Deed). (d.change ≡ None) × (document body ≡ d.body (changed at.state.contents at.moment None))) (sym (claim-none work at names picked no_)) (refl, is)
+    subst (λ (d : Deed). (d.change ≡ None) × (body ≡ document_text (d.body (changed at.state.contents at.moment None)))) (sym (claim-none work at names picked no_)) (refl, is)

@@ -1,24 +1,15 @@
 -- The pages of lists of tasks, member by member.
-use Rattle.std.proofs.Common.{◌≡◌, ℕ, Bool, true, false, if◌then◌else◌, codes, List, [], ◌∷◌, ◌++◌, length, ◌-◌, map, Option, Some, None, option_copied, is_some, MatchOption, Bor, refl, sym, ap, ◌∙◌, subst}
+use Rattle.std.proofs.Common.{◌≡◌, ℕ, Bool, true, false, if◌then◌else◌, List, [], ◌∷◌, length, ◌-◌, map, Option, Some, None, option_copied, is_some, MatchOption, Bor, refl, sym, ap, ◌∙◌, subst}
 use Rattle.std.specs.List.{list_any, last_or, slice_get}
-use Rattle.farm_text.specs.Document.{Document, members_of, put}
 use Rattle.run_states.specs.Rows.{Row}
 use Rattle.run_states.proofs.RunLemmas.{get-last}
 use Rattle.farm_rows.specs.Changes.{kept_scheduler}
 use Rattle.farm_rows.specs.Lists.{is_listed, listed, names_listed, page_rows, has_more}
 use Rattle.farm_rows.specs.declared.lists.Page.{Page}
 use Rattle.farm_rows.specs.declared.lists.TaskList.{TaskList}
-use Rattle.farm_rows.specs.declared.lists.TaskList.TheVariants.{Group, Dependants}
+use Rattle.farm_rows.specs.declared.lists.TaskList.TheVariants.{Group}
 use Rattle.farm_machine.specs.declared.question.PageRequest.{PageRequest}
-use Rattle.farm_machine.specs.Pages.{page_members, page_doc, token_behind, page_body}
-use Rattle.farm_machine.specs.Shown.{token_members, with_name}
-
--- the tasks behind the members before them
-pub put-tasks : (list : TaskList) (token : Option (List ℕ)) (tasks : Document) → put (codes "tasks") tasks (with_name list (token_members token)) ≡ members_of (page_members list token ++ (codes "tasks", tasks) ∷ [])
-put-tasks (Group group) None tasks = refl
-put-tasks (Group group) (Some id) tasks = refl
-put-tasks (Dependants id) None tasks = refl
-put-tasks (Dependants id) (Some other) tasks = refl
+use Rattle.farm_machine.specs.Pages.{page_doc, token_behind, page_body}
 
 -- what is behind a reference is there where the reference is
 pub some-copied : {A : Type 0} (o : Option (Bor A)) → is_some o ≡ is_some (option_copied o)

@@ -1,6 +1,6 @@
 -- What the code says of a call that nothing refuses; for private clauses.
 use Rattle.std.specs.Prelude.{◌≡◌, ◌≤◌, true, false, None}
-use Rattle.farm_text.specs.Doc.{document}
+use Rattle.farm_text.specs.Document.{document_text}
 use Rattle.farm_text.specs.declared.moment.TheConstants.{LAST_TOLD_MOMENT}
 use Rattle.farm_rows.specs.Changes.{may_apply}
 use Rattle.farm_rows.specs.Due.{is_due}
@@ -17,8 +17,8 @@ pub record IsReady (at : Setting) : Type 0 where
   pub later : at.state.contents.last ≤ at.moment
   pub nothing_due : is_due at.state.contents at.moment ≡ false
 
--- this is what is done: it reads that body; or it makes a change, which may be made where the farm is not full
+-- this is what is done: it reads that body, whose text this is; or it makes a change, which may be made where the farm is not full
 abbrev pub IsDeed : Setting → Deed → Done → Type 0
-IsDeed at deed (Reads body) = (deed.change ≡ None) × (document body ≡ deed.body (changed at.state.contents at.moment None))
+IsDeed at deed (Reads body) = (deed.change ≡ None) × (body ≡ document_text (deed.body (changed at.state.contents at.moment None)))
 IsDeed at deed (Changes kind) =
     (deed ≡ changing at.moment kind) × (full at.state deed.change ≡ None → may_apply at.state.contents (at_moment at.moment kind) ≡ true)

@@ -13,6 +13,7 @@ ghost use Rattle.call_rules.specs.HookNames.{hook_name as name_of_hook};
 ghost use Rattle.call_rules.specs.Policy.{run_name};
 ghost use Rattle.scope_sets.specs.Expressions.{view};
 
+use crate::bodies::{conflict_text, status_text};
 use crate::expressions::expression_doc;
 use crate::question::BodyFault;
 use crate::reply::Answer;
@@ -25,16 +26,15 @@ use run_states::TaskRow;
 use scope_sets::Expr;
 use std::alloc::{AllocError, Global};
 use task_defs::TaskQueue;
-use task_statuses::status_doc;
 
 /// A call is done, with this body.
-pub(crate) fn ok(alloc: Global, body: &Doc) -> Result<Answer, AllocError>
-    ensures { IfOk result (λ a. a ≡ ok (document_text (document body.now))) }
+pub(crate) fn ok(body: Text) -> Answer
+    ensures { result ≡ ok body }
 {
-    Ok(Answer {
+    Answer {
         status: StatusCode::OK,
-        body: body.write(alloc)?,
-    })
+        body,
+    }
 }
 
 /// Nothing of this kind has that name.
@@ -166,24 +166,11 @@ pub(crate) fn bad_dependency(alloc: Global, rule: u8, id: SlugId) -> Result<Answ
     input_error(alloc, details)
 }
 
-/// The status of a task, as the body of an answer.
-pub(crate) fn status_body(alloc: Global, row: &TaskRow) -> Result<Doc, AllocError>
-    ensures { IfOk result (λ d. document d ≡ status_body row.now) }
-{
-    let status = status_doc(alloc, row)?;
-    Ok(
-        Entries::new(alloc)
-            .with(alloc, "status", status)?
-            .into_doc(),
-    )
-}
-
 /// The status of a task is answered.
 pub(crate) fn status(alloc: Global, row: &TaskRow) -> Result<Answer, AllocError>
     ensures { IfOk result (λ a. a ≡ ok (document_text (status_body row.now))) }
 {
-    let body = status_body(alloc, row)?;
-    ok(alloc, &body)
+    Ok(ok(status_text(alloc, row)?))
 }
 
 /// How many tasks wait in a queue, as the body of an answer.
@@ -203,13 +190,9 @@ pub(crate) fn pending_body(alloc: Global, queue: &TaskQueue, count: u32) -> Resu
 pub(crate) fn conflict(alloc: Global, rule: u8, row: &TaskRow) -> Result<Answer, AllocError>
     ensures { IfOk result (λ a. a ≡ conflict rule row.now) }
 {
-    let status = status_doc(alloc, row)?;
-    let details = Entries::new(alloc)
-        .with(alloc, "rule", Doc::Int(i64::from(rule)))?
-        .with(alloc, "status", status)?;
     Ok(Answer {
         status: StatusCode::CONFLICT,
-        body: error_text(alloc, "RequestConflict", details, "the state forbids it")?,
+        body: conflict_text(alloc, rule, row)?,
     })
 }
 

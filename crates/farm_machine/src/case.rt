@@ -10,7 +10,7 @@ use crate::config::Config;
 use crate::reply::Answer;
 use crate::tables::Tables;
 use farm_record::Kind;
-use farm_text::{Doc, Moment, SlugId};
+use farm_text::{Moment, SlugId, Text};
 use scope_sets::Expr;
 use std::alloc::{AllocError, Global};
 use std::marker::Model;
@@ -58,8 +58,8 @@ impl<'a> Scene<'a> {
 /// What a call does where nothing refuses it.
 #[derive(Debug, Drop)]
 pub(crate) enum Done {
-    /// It changes nothing, and this is the body of its answer.
-    Reads(Doc),
+    /// It changes nothing, and this is the text of its answer's body.
+    Reads(Text),
     /// It makes this change, and answers what becomes of the tasks that it names.
     Changes(Kind),
 }

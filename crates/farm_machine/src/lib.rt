@@ -7,6 +7,7 @@
 
 mod access;
 mod answers;
+mod bodies;
 mod calls;
 mod case;
 pub mod config;

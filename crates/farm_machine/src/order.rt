@@ -85,7 +85,7 @@ pub(crate) fn finish<C: Called + Drop>(
         return Ok(Judged::only(answer));
     }
     match call.deed(alloc, &at)? {
-        Done::Reads(body) => Ok(Judged::only(answers::ok(alloc, &body)?)),
+        Done::Reads(body) => Ok(Judged::only(answers::ok(body))),
         Done::Changes(kind) => {
             let made = make(alloc, config, tables, moment, drawn, kind)?;
             Ok(made)
@@ -233,6 +233,5 @@ fn tell(
 fn told_answer(alloc: Global, telling: Telling, rows: &[TaskRow]) -> Result<Answer, AllocError>
     ensures { IfOk result (λ a. a ≡ ok (document_text (told_by telling rows.now))) }
 {
-    let body = told(alloc, telling, rows)?;
-    answers::ok(alloc, &body)
+    Ok(answers::ok(told(alloc, telling, rows)?))
 }

@@ -1,20 +1,21 @@
 //! The pages of lists of tasks, as the bodies of answers.
-ghost use Rattle.std.specs.Prelude.{◌≡◌, None, map, IfOk, if◌then◌else◌};
+ghost use Rattle.std.specs.Prelude.{◌≡◌, None, [], ◌∷◌, ◌++◌, map, IfOk, OnOk, if◌then◌else◌};
 ghost use Rattle.std.specs.List.{last_or};
-ghost use Rattle.farm_text.specs.Doc.{document, documents};
-ghost use Rattle.farm_text.specs.Entries.{held};
+ghost use Rattle.farm_text.specs.Document.{array, items_of, document_text};
+ghost use Rattle.task_statuses.specs.Tokens.{tokens_of, tokens_of_members};
 ghost use Rattle.farm_machine.specs.Pages as pages;
-ghost use Rattle.farm_machine.specs.Shown.{token_members, with_name};
+ghost use Rattle.farm_machine.specs.Shown.{token_members};
 
 use crate::answers;
 use crate::case::Scene;
 use crate::question::{PageRequest, Parameter};
 use crate::reply::Answer;
 use farm_rows::{Page, TaskList};
-use farm_text::{Doc, Entries, SlugId};
+use farm_text::{SlugId, Text};
+use json::Writer;
 use run_states::TaskRow;
 use std::alloc::{AllocError, Global};
-use task_statuses::{definition_doc, status_doc};
+use task_statuses::{id_member, write_definition, write_status};
 
 /// The answer where the token of a page names no task of the list.
 pub(crate) fn bad_token(
@@ -34,21 +35,21 @@ pub(crate) fn bad_token(
     }
 }
 
-/// The page that is asked of a list, whose token names a task of it.
+/// The text of the page that is asked of a list, whose token names a task of it.
 pub(crate) fn read_page(
     alloc: Global,
     at: &Scene<'_>,
     list: &TaskList,
     page: &PageRequest,
-) -> Result<Doc, AllocError>
+) -> Result<Text, AllocError>
     requires { pages.bad_token list.now page.now at.now.state.contents.rows ≡ None }
-    ensures { IfOk result (λ d. document d ≡ pages.page_body list.now page.now at.now.state.contents.rows) }
+    ensures { IfOk result (λ t. t ≡ document_text (pages.page_body list.now page.now at.now.state.contents.rows)) }
 {
     let Some(shown) = at.tables.page(alloc, list, page.after, page.limit)? else {
         unreachable!();
     };
     let token = token_behind(&shown, page.after);
-    page_doc(alloc, list, token, shown.rows.as_slice())
+    page_text(alloc, list, token, shown.rows.as_slice())
 }
 
 /// The token of the page behind this one, where more tasks follow: its last task, or where it has none its own token.
@@ -64,70 +65,82 @@ fn token_behind(shown: &Page<'_>, after: Option<SlugId>) -> Option<SlugId>
     }
 }
 
-/// A page of these tasks.
-fn page_doc(
+/// The text of a page of these tasks.
+fn page_text(
     alloc: Global,
     list: &TaskList,
     token: Option<SlugId>,
     rows: &[&TaskRow],
-) -> Result<Doc, AllocError>
-    ensures { IfOk result (λ d. document d ≡ pages.page_doc list.now token (map (λ row. row.now) rows.now)) }
+) -> Result<Text, AllocError>
+    ensures { IfOk result (λ t. t ≡ document_text (pages.page_doc list.now token (map (λ row. row.now) rows.now))) }
 {
-    let tasks = listed_docs(alloc, rows)?;
-    let entries = add_name(alloc, token_entries(alloc, token)?, list)?;
-    Ok(entries.with(alloc, "tasks", Doc::List(tasks))?.into_doc())
+    let mut out = Writer::new(Vec::with_capacity(alloc, 1_024)?);
+    write_page(alloc, list, token, rows, &mut out)?;
+    Ok(Text::from_writer(out))
 }
 
-/// The token as a member, where there is one.
-fn token_entries(alloc: Global, token: Option<SlugId>) -> Result<Entries, AllocError>
-    ensures { IfOk result (λ e. held e ≡ token_members token) }
+/// Writes a page of these tasks.
+fn write_page(
+    alloc: Global,
+    list: &TaskList,
+    token: Option<SlugId>,
+    rows: &[&TaskRow],
+    out: &mut Writer,
+) -> Result<(), AllocError>
+    ensures ok { OnOk result (out.new.tokens ≡ out.old.tokens ++ tokens_of (pages.page_doc list.now token (map (λ row. row.now) rows.now))) }
+    ensures before { out.new.before ≡ out.old.before }
+{
+    out.begin_object()?;
+    write_token(token, out)?;
+    write_name(list, out)?;
+    out.key("tasks")?;
+    write_tasks(alloc, rows, out)?;
+    out.end_object()
+}
+
+/// Writes the token as a member, where there is one.
+fn write_token(token: Option<SlugId>, out: &mut Writer) -> Result<(), AllocError>
+    ensures ok { OnOk result (out.new.tokens ≡ out.old.tokens ++ tokens_of_members (token_members token)) }
+    ensures before { out.new.before ≡ out.old.before }
 {
     match token {
-        Some(id) => {
-            let name = id.to_text(alloc)?;
-            Ok(Entries::new(alloc).with(alloc, "continuationToken", Doc::Text(name))?)
-        }
-        None => Ok(Entries::new(alloc)),
+        Some(id) => id_member("continuationToken", id, out),
+        None => Ok(()),
     }
 }
 
-/// These members with the one that tells what a list is of.
-fn add_name(alloc: Global, entries: Entries, list: &TaskList) -> Result<Entries, AllocError>
-    ensures { IfOk result (λ e. held e ≡ with_name list.now (held entries)) }
+/// Writes the member that tells what a list is of.
+fn write_name(list: &TaskList, out: &mut Writer) -> Result<(), AllocError>
+    ensures ok { OnOk result (out.new.tokens ≡ out.old.tokens ++ tokens_of_members (pages.list_name list.now ∷ [])) }
+    ensures before { out.new.before ≡ out.old.before }
 {
     match list {
-        TaskList::Group(group) => {
-            let name = group.to_text(alloc)?;
-            Ok(entries.with(alloc, "taskGroupId", Doc::Text(name))?)
-        }
-        TaskList::Dependants(id) => {
-            let name = id.to_text(alloc)?;
-            Ok(entries.with(alloc, "taskId", Doc::Text(name))?)
-        }
+        TaskList::Group(group) => id_member("taskGroupId", *group, out),
+        TaskList::Dependants(id) => id_member("taskId", *id, out),
     }
 }
 
-/// The tasks of a page.
-fn listed_docs(alloc: Global, rows: &[&TaskRow]) -> Result<Vec<Doc>, AllocError>
-    ensures { IfOk result (λ docs. documents docs.items ≡ map pages.listed_doc (map (λ row. row.now) rows.now)) }
+/// Writes the tasks of a page.
+fn write_tasks(alloc: Global, rows: &[&TaskRow], out: &mut Writer) -> Result<(), AllocError>
+    ensures ok { OnOk result (out.new.tokens ≡ out.old.tokens ++ tokens_of (array (items_of (map pages.listed_doc (map (λ row. row.now) rows.now))))) }
+    ensures before { out.new.before ≡ out.old.before }
 {
-    let mut docs = Vec::with_capacity(alloc, rows.len())?;
+    out.begin_array()?;
     for row in rows {
-        docs.push(listed_doc(alloc, row)?)?;
+        write_task(alloc, row, out)?;
     }
-    Ok(docs)
+    out.end_array()
 }
 
-/// A task of a page: its status and its definition.
-fn listed_doc(alloc: Global, row: &TaskRow) -> Result<Doc, AllocError>
-    ensures { IfOk result (λ d. document d ≡ pages.listed_doc row.now) }
+/// Writes a task of a page: its status and its definition.
+fn write_task(alloc: Global, row: &TaskRow, out: &mut Writer) -> Result<(), AllocError>
+    ensures ok { OnOk result (out.new.tokens ≡ out.old.tokens ++ tokens_of (pages.listed_doc row.now)) }
+    ensures before { out.new.before ≡ out.old.before }
 {
-    let status = status_doc(alloc, row)?;
-    let task = definition_doc(alloc, row.definition())?;
-    Ok(
-        Entries::new(alloc)
-            .with(alloc, "status", status)?
-            .with(alloc, "task", task)?
-            .into_doc(),
-    )
+    out.begin_object()?;
+    out.key("status")?;
+    write_status(alloc, row, out)?;
+    out.key("task")?;
+    write_definition(alloc, row.definition(), out)?;
+    out.end_object()
 }

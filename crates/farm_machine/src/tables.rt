@@ -16,7 +16,9 @@ ghost use Rattle.farm_machine.specs.Calls.CreateTask.{scheduler_besides};
 ghost use Rattle.farm_machine.specs.Changes.{reached};
 
 use farm_record::{Change, Creation, RunName};
-use farm_rows::{Page, Summary, TaskList, TaskPlan, TaskTables, tables_cross_threads};
+use farm_rows::{
+    Page, Summary, TaskList, TaskPlan, TaskTables, one_name_is_one_queue, tables_cross_threads,
+};
 use farm_text::{Moment, SlugId};
 use run_states::TaskRow;
 use std::alloc::{AllocError, Global};
@@ -118,11 +120,13 @@ impl Tables {
         self.tasks.picks(alloc, queue, most)
     }
 
-    /// How many tasks wait in a queue.
-    pub(crate) fn pending(&self, queue: &TaskQueue) -> u32
-        ensures { result ≡ count_by (waits_in queue.now) self.now.rows }
+    /// How many tasks wait in a queue. They are counted under its name.
+    pub(crate) fn pending(&self, alloc: Global, queue: &TaskQueue) -> Result<u32, AllocError>
+        ensures { IfOk result (λ count. count ≡ count_by (waits_in queue.now) self.now.rows) }
     {
-        self.tasks.pending(queue)
+        one_name_is_one_queue(queue);
+        let name = queue.name(alloc)?;
+        Ok(self.tasks.pending(&name))
     }
 
     /// Whether a task is of this group.

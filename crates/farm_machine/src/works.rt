@@ -1,21 +1,22 @@
 //! What a planned change is answered: the status of its task, or the runs that a worker has by it.
-ghost use Rattle.std.specs.Prelude.{◌≡◌, List, [], ◌∷◌, map, codes, IfOk, option_copied};
+ghost use Rattle.std.specs.Prelude.{◌≡◌, List, [], ◌∷◌, ◌++◌, map, codes, IfOk, OnOk, option_copied};
 ghost use Rattle.std.specs.Option.{option_to_list};
-ghost use Rattle.farm_text.specs.Doc.{document, documents};
-ghost use Rattle.farm_text.specs.Document.{object};
-ghost use Rattle.farm_text.specs.Entries.{held};
+ghost use Rattle.farm_text.specs.Document.{array, items_of, document_text};
 ghost use Rattle.run_states.specs.Rows.{Row};
 ghost use Rattle.task_statuses.specs.Statuses.{definition_of};
+ghost use Rattle.task_statuses.specs.Tokens.{tokens_of, tokens_of_members};
 ghost use Rattle.farm_machine.specs.Replies.{status_body};
+ghost use Rattle.farm_machine.specs.Shown.{run_members};
 ghost use Rattle.farm_machine.specs.Tellings.{told_by};
 ghost use Rattle.farm_machine.specs.Works as works;
 
-use crate::answers;
+use crate::bodies::write_status_body;
 use farm_record::Kind;
-use farm_text::{Doc, Entries};
+use farm_text::Text;
+use json::Writer;
 use run_states::{Claim, TaskRow};
 use std::alloc::{AllocError, Global};
-use task_statuses::{definition_doc, moment_doc, status_doc};
+use task_statuses::{moment_member, number_member, write_definition, write_status, write_worker};
 
 /// What of a planned change is told.
 #[derive(Clone, Copy, Debug, PartialEq, Eq)]
@@ -44,87 +45,156 @@ pub(crate) fn telling_of(kind: &Kind) -> Telling
     }
 }
 
-/// What is told, given the tasks that the change names as they will be.
-pub(crate) fn told(alloc: Global, telling: Telling, rows: &[TaskRow]) -> Result<Doc, AllocError>
-    ensures { IfOk result (λ d. document d ≡ told_by telling rows.now) }
+/// The text that tells it, given the tasks that the change names as they will be.
+pub(crate) fn told(alloc: Global, telling: Telling, rows: &[TaskRow]) -> Result<Text, AllocError>
+    ensures { IfOk result (λ t. t ≡ document_text (told_by telling rows.now)) }
+{
+    let mut out = Writer::new(Vec::with_capacity(alloc, 1_024)?);
+    write_told(alloc, telling, rows, &mut out)?;
+    Ok(Text::from_writer(out))
+}
+
+/// Writes what is told.
+fn write_told(
+    alloc: Global,
+    telling: Telling,
+    rows: &[TaskRow],
+    out: &mut Writer,
+) -> Result<(), AllocError>
+    ensures ok { OnOk result (out.new.tokens ≡ out.old.tokens ++ tokens_of (told_by telling rows.now)) }
+    ensures before { out.new.before ≡ out.old.before }
 {
     match telling {
-        Telling::Taken => work_body(alloc, rows),
-        Telling::Status => status_of(alloc, rows.first()),
-        Telling::Kept(run) => kept_of(alloc, run, rows.first()),
+        Telling::Taken => write_work(alloc, rows, out),
+        Telling::Status => write_status_of(alloc, rows.first(), out),
+        Telling::Kept(run) => write_kept_of(alloc, run, rows.first(), out),
     }
 }
 
-/// The status of a task, if there is one.
-fn status_of(alloc: Global, row: Option<&TaskRow>) -> Result<Doc, AllocError>
-    ensures { IfOk result (λ d. document d ≡ works.of_first status_body (option_to_list (option_copied row.entry))) }
+/// Writes the status of a task, if there is one.
+fn write_status_of(alloc: Global, row: Option<&TaskRow>, out: &mut Writer) -> Result<(), AllocError>
+    ensures ok { OnOk result (out.new.tokens ≡ out.old.tokens ++ tokens_of (works.of_first status_body (option_to_list (option_copied row.entry)))) }
+    ensures before { out.new.before ≡ out.old.before }
 {
     match row {
-        Some(row) => answers::status_body(alloc, row),
-        None => Ok(Doc::Null),
+        Some(row) => write_status_body(alloc, row, out),
+        None => out.null(),
     }
 }
 
-/// The run that its worker keeps of a task, if there is one.
-fn kept_of(alloc: Global, run: u8, row: Option<&TaskRow>) -> Result<Doc, AllocError>
-    ensures { IfOk result (λ d. document d ≡ works.of_first (works.kept_doc run) (option_to_list (option_copied row.entry))) }
+/// Writes the run that its worker keeps of a task, if there is one.
+fn write_kept_of(
+    alloc: Global,
+    run: u8,
+    row: Option<&TaskRow>,
+    out: &mut Writer,
+) -> Result<(), AllocError>
+    ensures ok { OnOk result (out.new.tokens ≡ out.old.tokens ++ tokens_of (works.of_first (works.kept_doc run) (option_to_list (option_copied row.entry)))) }
+    ensures before { out.new.before ≡ out.old.before }
 {
     match row {
-        Some(row) => kept_doc(alloc, run, row),
-        None => Ok(Doc::Null),
+        Some(row) => write_kept(alloc, run, row, out),
+        None => out.null(),
     }
 }
 
-/// The runs that a worker takes, as the body of an answer.
-pub(crate) fn work_body(alloc: Global, rows: &[TaskRow]) -> Result<Doc, AllocError>
-    ensures { IfOk result (λ d. document d ≡ works.work_body rows.now) }
+/// Writes the runs that a worker takes, as the body of an answer.
+fn write_work(alloc: Global, rows: &[TaskRow], out: &mut Writer) -> Result<(), AllocError>
+    ensures ok { OnOk result (out.new.tokens ≡ out.old.tokens ++ tokens_of (works.work_body rows.now)) }
+    ensures before { out.new.before ≡ out.old.before }
 {
-    let tasks = taken_docs(alloc, rows)?;
-    Ok(
-        Entries::new(alloc)
-            .with(alloc, "tasks", Doc::List(tasks))?
-            .into_doc(),
-    )
+    out.begin_object()?;
+    out.key("tasks")?;
+    write_taken(alloc, rows, out)?;
+    out.end_object()
 }
 
-/// The last run of each of these tasks.
-fn taken_docs(alloc: Global, rows: &[TaskRow]) -> Result<Vec<Doc>, AllocError>
-    ensures { IfOk result (λ docs. documents docs.items ≡ map works.taken_doc rows.now) }
+/// Writes the last run of each of these tasks.
+fn write_taken(alloc: Global, rows: &[TaskRow], out: &mut Writer) -> Result<(), AllocError>
+    ensures ok { OnOk result (out.new.tokens ≡ out.old.tokens ++ tokens_of (array (items_of (map works.taken_doc rows.now)))) }
+    ensures before { out.new.before ≡ out.old.before }
 {
-    let mut docs = Vec::with_capacity(alloc, rows.len())?;
+    out.begin_array()?;
     for row in rows {
-        docs.push(taken_doc(alloc, row)?)?;
+        write_last_run(alloc, row, out)?;
     }
-    Ok(docs)
+    out.end_array()
 }
 
-/// The last run of a task, which a worker takes, with the task's definition.
-fn taken_doc(alloc: Global, row: &TaskRow) -> Result<Doc, AllocError>
-    ensures { IfOk result (λ d. document d ≡ works.taken_doc row.now) }
+/// Writes the last run of a task, which a worker takes, with the task's definition.
+fn write_last_run(alloc: Global, row: &TaskRow, out: &mut Writer) -> Result<(), AllocError>
+    ensures ok { OnOk result (out.new.tokens ≡ out.old.tokens ++ tokens_of (works.taken_doc row.now)) }
+    ensures before { out.new.before ≡ out.old.before }
 {
     let last = row.runs().len().saturating_sub(1) as u8;
     match claim_at(row, last) {
-        Some(claim) => taken_run(alloc, last, row, claim),
-        None => Ok(Doc::Null),
+        Some(claim) => write_taken_run(alloc, last, row, claim, out),
+        None => out.null(),
     }
 }
 
-fn taken_run(alloc: Global, run: u8, row: &TaskRow, claim: &Claim) -> Result<Doc, AllocError>
-    ensures { IfOk result (λ d. document d ≡ works.held_run run row.now claim.now ((codes "task", definition_of row.now.definition) ∷ [])) }
+/// Writes a run that a worker takes, with the task's definition.
+fn write_taken_run(
+    alloc: Global,
+    run: u8,
+    row: &TaskRow,
+    claim: &Claim,
+    out: &mut Writer,
+) -> Result<(), AllocError>
+    ensures ok { OnOk result (out.new.tokens ≡ out.old.tokens ++ tokens_of (works.held_run run row.now claim.now ((codes "task", definition_of row.now.definition) ∷ []))) }
+    ensures before { out.new.before ≡ out.old.before }
 {
-    let task = definition_doc(alloc, row.definition())?;
-    let members = members(alloc, run, row, claim)?;
-    Ok(members.with(alloc, "task", task)?.into_doc())
+    out.begin_object()?;
+    write_run(alloc, run, row, claim, out)?;
+    out.key("task")?;
+    write_definition(alloc, row.definition(), out)?;
+    write_worker(claim, out)?;
+    out.end_object()
 }
 
-/// A run that its worker keeps.
-fn kept_doc(alloc: Global, run: u8, row: &TaskRow) -> Result<Doc, AllocError>
-    ensures { IfOk result (λ d. document d ≡ works.kept_doc run row.now) }
+/// Writes a run that its worker keeps.
+fn write_kept(alloc: Global, run: u8, row: &TaskRow, out: &mut Writer) -> Result<(), AllocError>
+    ensures ok { OnOk result (out.new.tokens ≡ out.old.tokens ++ tokens_of (works.kept_doc run row.now)) }
+    ensures before { out.new.before ≡ out.old.before }
 {
     match claim_at(row, run) {
-        Some(claim) => Ok(members(alloc, run, row, claim)?.into_doc()),
-        None => Ok(Doc::Null),
+        Some(claim) => write_kept_run(alloc, run, row, claim, out),
+        None => out.null(),
     }
+}
+
+/// Writes a run that a worker has.
+fn write_kept_run(
+    alloc: Global,
+    run: u8,
+    row: &TaskRow,
+    claim: &Claim,
+    out: &mut Writer,
+) -> Result<(), AllocError>
+    ensures ok { OnOk result (out.new.tokens ≡ out.old.tokens ++ tokens_of (works.held_run run row.now claim.now [])) }
+    ensures before { out.new.before ≡ out.old.before }
+{
+    out.begin_object()?;
+    write_run(alloc, run, row, claim, out)?;
+    write_worker(claim, out)?;
+    out.end_object()
+}
+
+/// Writes the number of a run, the status of its task and until when it is a worker's.
+fn write_run(
+    alloc: Global,
+    run: u8,
+    row: &TaskRow,
+    claim: &Claim,
+    out: &mut Writer,
+) -> Result<(), AllocError>
+    ensures ok { OnOk result (out.new.tokens ≡ out.old.tokens ++ tokens_of_members (run_members run row.now claim.now)) }
+    ensures before { out.new.before ≡ out.old.before }
+{
+    number_member("runId", u64::from(run), out)?;
+    out.key("status")?;
+    write_status(alloc, row, out)?;
+    moment_member("takenUntil", claim.taken_until, out)
 }
 
 /// The claim of the run of this number.
@@ -135,19 +205,4 @@ fn claim_at(row: &TaskRow, run: u8) -> Option<&Claim>
         Some(run) => run.claim.as_ref(),
         None => None,
     }
-}
-
-/// What a worker is told of a run that it has, but for the task.
-fn members(alloc: Global, run: u8, row: &TaskRow, claim: &Claim) -> Result<Entries, AllocError>
-    ensures { IfOk result (λ e. object (held e) ≡ works.held_run run row.now claim.now []) }
-{
-    let status = status_doc(alloc, row)?;
-    let until = moment_doc(alloc, claim.taken_until)?;
-    let group = Doc::text(alloc, claim.worker_group.as_str())?;
-    let id = Doc::text(alloc, claim.worker_id.as_str())?;
-    let first = Entries::new(alloc).with(alloc, "runId", Doc::Int(i64::from(run)))?;
-    let second = first.with(alloc, "status", status)?;
-    let third = second.with(alloc, "takenUntil", until)?;
-    let fourth = third.with(alloc, "workerGroup", group)?;
-    Ok(fourth.with(alloc, "workerId", id)?)
 }

@@ -7,6 +7,7 @@ ghost use Rattle.farm_record.specs.Writing.{IsFullOf};
 
 use crate::unread::Unread;
 use farm_text::{Doc, ReadFault, SlugId, Text, a_text_is_of_one_document};
+use json::Writer;
 use std::alloc::{AllocError, Global};
 use task_defs::{
     DefError, TaskDef, a_full_form_says_its_definition, read_task, the_fault_is_one,
@@ -17,9 +18,9 @@ use task_defs::{
 pub(crate) fn full_text(alloc: Global, def: &TaskDef) -> Result<Text, AllocError>
     ensures { IfOk result (IsFullOf def.now) }
 {
-    let full = def.doc(alloc)?;
-    let text = full.write(alloc)?;
-    Ok(text)
+    let mut out = Writer::new(Vec::with_capacity(alloc, 512)?);
+    def.write_to(alloc, &mut out)?;
+    Ok(Text::from_writer(out))
 }
 
 /// The definition whose text this is, for the task of this id.

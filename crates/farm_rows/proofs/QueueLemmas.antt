@@ -7,11 +7,11 @@ use Rattle.run_states.specs.Rows.{Row, is_pending}
 use Rattle.farm_record.specs.declared.change.RunName.{RunName}
 use Rattle.claim_queue.specs.Held.{held_from}
 use Rattle.claim_queue.specs.Waits.{Waiting, Waits, better, best_of, waits_in as is_in, goes_before as waits_before}
-use Rattle.farm_rows.specs.Picks.{is_same_queue, waits_in, goes_before, better as better_row, pick}
+use Rattle.farm_rows.specs.Picks.{is_same_queue, waits_in, waits_under, goes_before, better as better_row, pick}
 use Rattle.farm_rows.specs.Left.{is_taken, left}
 use Rattle.farm_rows.specs.Queues.{name_of, HasOneSlash, waiting_of, held_of, left_of, AreLeft}
-use Rattle.farm_rows.proofs.PickLemmas.{left-nil}
 use Rattle.farm_rows.proofs.QueueNameLemmas.{one-queue}
+use Rattle.farm_rows.proofs.ReadyLemmas.{count-same}
 
 -- what is held of each row
 abbrev pub Holds : (Row → Option Waiting) → List (Option Waiting) → List Row → Type 0
@@ -46,6 +46,22 @@ module _ (f : Row → Option Waiting) (name : List ℕ) where
     by : length (filter (is_in name) held) ≡ length (filter test rows) → (t : Bool) → is_in name x ≡ t → length (filter (is_in name) (x ∷ held)) ≡ length (filter test (row ∷ rows))
     by rest true is = ap length (taken-in (is_in name) x held is) ∙ (ap suc rest ∙ sym (ap length (taken-in test row rows (sym same ∙ is))))
     by rest false is = ap length (passed-by (is_in name) x held is) ∙ (rest ∙ sym (ap length (passed-by test row rows (sym same ∙ is))))
+
+held-under : (name : List ℕ) (row : Row) (t : Bool) → is_in name (cond t (Some (waiting_of row)) None) ≡ (t && bytes_eq (name_of row.definition.queue) name)
+held-under name row true = refl
+held-under name row false = refl
+
+-- how many wait in the queue of a name
+pub count-is : (name : List ℕ) (waits : Waits) (rows : List Row) → AreLeft [] waits rows → count_by (is_in name) waits.rows ≡ count_by (waits_under name) rows
+count-is name waits rows all =
+    sym (length-filter (is_in name) waits.rows)
+    ∙ (same-many (left_of []) name waits.rows rows all
+    ∙ (length-filter (test (left_of []) name) rows
+    ∙ count-same (test (left_of []) name) (waits_under name) (λ row. held-under name row (is_pending row)) rows))
+
+-- and under the name of a queue as many as in the queue
+pub under-is : (queue : TaskQueue) → HasOneSlash (name_of queue) → (rows : List Row) → count_by (waits_under (name_of queue)) rows ≡ count_by (waits_in queue) rows
+under-is queue one rows = count-same (waits_under (name_of queue)) (waits_in queue) (λ row. ap (λ t. is_pending row && t) (one-queue queue row.definition.queue one)) rows
 
 -- ---- the first of a queue
 
@@ -214,13 +230,6 @@ module _ (queue : TaskQueue) (one : HasOneSlash (name_of queue)) where
         taken-in (test (left_of taken) (name_of queue)) row rows (test-is taken row ∙ (ap (λ t. not t && waits_in queue row) out ∙ here))
         ∙ (ap (λ (rs : List Row). row ∷ rs) rest
         ∙ sym (ap (filter (waits_in queue)) (taken-in (λ r. not (is_taken taken r)) row rows (ap not out)) ∙ taken-in (waits_in queue) row (left taken rows) here))
-
-  -- how many wait in the queue
-  pub count-is : (waits : Waits) (rows : List Row) → AreLeft [] waits rows → count_by (is_in (name_of queue)) waits.rows ≡ count_by (waits_in queue) rows
-  count-is waits rows all =
-      sym (length-filter (is_in (name_of queue)) waits.rows)
-      ∙ (same-many (left_of []) (name_of queue) waits.rows rows all
-      ∙ (ap length (filters-are [] rows ∙ ap (filter (waits_in queue)) (left-nil rows)) ∙ length-filter (waits_in queue) rows))
 
   -- the first of them is the pick
   pub best-is-pick : (taken : List RunName) (waits : Waits) (rows : List Row) → AreLeft taken waits rows → option_and_then (slice_get rows) (best_of (name_of queue) waits) ≡ pick queue (left taken rows)

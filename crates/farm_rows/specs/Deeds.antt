@@ -61,3 +61,8 @@ drawn_by _ rows = 0
 abbrev pub claims_of : ℕ → Deed → List RunClaim
 claims_of at (deeds.Claim claim) = replicate (length claim.runs) (claim_of at claim)
 claims_of at _ = []
+
+-- the room for the runs of a task: a rerun takes one, any other change none
+abbrev pub run_room_of : Deed → Option (Unit {0})
+run_room_of (deeds.Rerun id) = Some tt
+run_room_of _ = None

@@ -2,6 +2,7 @@
 use Rattle.std.specs.Prelude.{ℕ, zero, suc, ◌+◌, ◌-◌, Bool, true, false, not, ◌&&◌, ◌==◌, List, [], ◌∷◌, length, filter, Option, Some, None, option_and_then, unwrap_or, bytes_eq, if◌then◌else◌}
 use Rattle.std.specs.Option.{option_map_or}
 use Rattle.std.specs.List.{reduce}
+use Rattle.task_defs.specs.Forms.{queue_name}
 use Rattle.task_defs.specs.declared.names.TaskQueue.{TaskQueue}
 use Rattle.run_states.specs.Rows.{Row, last_run, is_pending}
 use Rattle.farm_record.specs.declared.change.RunName.{RunName}
@@ -14,6 +15,10 @@ is_same_queue a b = bytes_eq a.provisioner_id b.provisioner_id && bytes_eq a.wor
 -- a task waits for a worker in a queue
 abbrev pub waits_in : TaskQueue → Row → Bool
 waits_in queue row = is_pending row && is_same_queue row.definition.queue queue
+
+-- a task waits for a worker in the queue of this name
+abbrev pub waits_under : List ℕ → Row → Bool
+waits_under name row = is_pending row && bytes_eq (queue_name row.definition.queue.provisioner_id row.definition.queue.worker_type) name
 
 -- the number that the last run of a task drew
 abbrev pub number_of : Row → ℕ

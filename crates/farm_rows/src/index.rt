@@ -11,7 +11,7 @@ ghost use Rattle.farm_rows.specs.Due.{all_due_moments, meets_deadline};
 ghost use Rattle.farm_rows.specs.Ready.{is_ready};
 ghost use Rattle.farm_rows.specs.Members.{in_group};
 ghost use Rattle.farm_rows.specs.Listing.{places_of, starting_at};
-ghost use Rattle.farm_rows.specs.Picks.{waits_in, picks, are_picks};
+ghost use Rattle.farm_rows.specs.Picks.{waits_under, picks, are_picks};
 ghost use Rattle.farm_rows.specs.Indexed.{IsIndexOf, IsIndexBut};
 
 use crate::dependencies::DependencyGraph;
@@ -33,7 +33,7 @@ use crate::rows::Rows;
 use crate::settle::ready_place;
 use crate::walks::{deadline_place, first_due, lost_place};
 use farm_record::{Creation, RunName};
-use farm_text::{Moment, SlugId};
+use farm_text::{Moment, SlugId, Text};
 use run_states::TaskRow;
 use slug_places::places::Places;
 use std::alloc::{AllocError, Global};
@@ -173,10 +173,10 @@ impl Index {
         }
     }
 
-    /// How many tasks wait in a queue.
-    pub(crate) fn pending(&self, rows: &[TaskRow], queue: &TaskQueue) -> usize
+    /// How many tasks wait in the queue of a name.
+    pub(crate) fn pending(&self, rows: &[TaskRow], queue: &Text) -> usize
         requires { IsIndexOf self.now rows.now }
-        ensures { result ≡ count_by (waits_in queue.now) rows.now }
+        ensures { result ≡ count_by (waits_under queue.now) rows.now }
     {
         pending_in(&self.queues, rows, queue)
     }

@@ -1,4 +1,4 @@
-//! Laws of what falls due and of the changes: empty functions, whose contracts are the laws.
+//! Laws of what falls due, of the changes and of the names of queues: functions that do nothing, whose contracts are the laws.
 ghost use Rattle.std.specs.Prelude.{◌≡◌, ◌<◌, ◌≤◌, ◌+◌, ◌++◌, ◌&&◌, ℕ, List, Option, max, length, count_by, is_none, true, false, Some};
 ghost use Rattle.std.specs.Thread.{IsSend};
 ghost use Rattle.run_states.specs.Rows.{Row, claim_due, new_row, scheduled};
@@ -7,10 +7,12 @@ ghost use Rattle.farm_record.specs.declared.change.Change.{Change};
 ghost use Rattle.farm_record.specs.declared.change.Creation.{Creation};
 ghost use Rattle.farm_record.specs.declared.change.Kind.{Kind};
 ghost use Rattle.farm_record.specs.declared.change.Kind.TheVariants.{Rerun};
+ghost use Rattle.task_defs.specs.Forms.{queue_name};
 ghost use Rattle.task_defs.specs.declared.choices.Requires.{Requires};
 ghost use Rattle.task_defs.specs.declared.choices.Requires.TheVariants.{AllCompleted};
 ghost use Rattle.farm_rows.specs.contracts.tables.TaskTables.{the_row};
 ghost use Rattle.farm_rows.specs.Contents.{Contents, row_with, HaveOwnIds};
+ghost use Rattle.farm_rows.specs.Picks.{waits_in, waits_under};
 ghost use Rattle.farm_rows.specs.Ready.{id_serves, is_ready, has_ready, settled_row, settled};
 ghost use Rattle.farm_rows.specs.Due.{all_due_moments, is_due, first_due, change_first, resolved_at, advance};
 ghost use Rattle.farm_rows.specs.Changes.{waits_well, creating, may_apply, after_kind, applied};
@@ -20,6 +22,7 @@ ghost use Rattle.farm_rows.specs.declared.lists.TaskList.{TaskList};
 ghost use Rattle.farm_rows.specs.Starts.{all_starts, starts_once, may_start};
 
 use run_states::rows_cross_threads;
+use task_defs::TaskQueue;
 
 /// Settling starts the first task that is ready, again and again, with the number that is next; where none is ready, it changes nothing;
 /// and so none is ready afterwards.
@@ -123,6 +126,15 @@ pub fn pages_are_the_whole_list()
     ensures whole { (list : TaskList) (count limit : ℕ) (after : Option (List ℕ)) (rows : List Row) → HaveOwnIds rows → 0 < limit
         → length rows ≤ count → pages count after limit (listed list rows) ≡ behind after (listed list rows) }
 {}
+
+/// The tasks that wait under the name of a queue are as many as wait in it: an identifier has no slash, so one name is one queue.
+pub fn one_name_is_one_queue(queue: &TaskQueue)
+    ensures { (rows : List Row) → count_by (waits_under (queue_name queue.now.provisioner_id queue.now.worker_type)) rows
+        ≡ count_by (waits_in queue.now) rows }
+{
+    queue.provisioner_id.as_str();
+    queue.worker_type.as_str();
+}
 
 /// The tables of a farm's tasks may go to another thread.
 pub fn tables_cross_threads()

@@ -10,7 +10,7 @@ ghost use Rattle.farm_rows.specs.Indexed.{IsIndexOf};
 use crate::index::Index;
 use farm_record::{Reclaim, Report, Resolution};
 use farm_text::{Moment, SlugId};
-use run_states::{Claim as RunClaim, ReasonResolved, TaskRow};
+use run_states::{Claim as RunClaim, ReasonResolved, RunRoom, TaskRow};
 
 /// The task becomes pending, where it is unscheduled.
 pub(crate) fn schedule(rows: &mut [TaskRow], index: &mut Index, id: SlugId, at: Moment, number: u64)
@@ -25,15 +25,22 @@ pub(crate) fn schedule(rows: &mut [TaskRow], index: &mut Index, id: SlugId, at: 
     }
 }
 
-/// The task is run again, where it may be.
-pub(crate) fn rerun(rows: &mut [TaskRow], index: &mut Index, id: SlugId, at: Moment, number: u64)
+/// The task is run again, where it may be, in this room.
+pub(crate) fn rerun(
+    rows: &mut [TaskRow],
+    index: &mut Index,
+    id: SlugId,
+    at: Moment,
+    number: u64,
+    room: RunRoom,
+)
     requires { IsIndexOf index.old rows.old }
     ensures index { IsIndexOf index.new rows.new }
     ensures rows { rows.new ≡ change_row id (run_again number at) rows.old }
 {
     if let Some(place) = index.place_of(rows, id) {
         let row = &mut rows[place];
-        let _ = row.rerun(at, number);
+        let _ = row.rerun(at, number, room);
         index.changed(rows, place);
     }
 }

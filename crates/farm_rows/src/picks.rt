@@ -3,14 +3,15 @@ ghost use Rattle.farm_rows.specs.Changes.{may_keep, are_first};
 ghost use Rattle.std.specs.Prelude.{◌≡◌, ◌&&◌, ◌++◌, ◌∷◌, [], nat_le, length, filter, false, Some, bytes_eq, count_by, option_copied, IfOk};
 ghost use Rattle.std.specs.Option.{option_map_or, option_to_list};
 ghost use Rattle.std.specs.List.{list_any, reduce};
-ghost use Rattle.farm_rows.specs.Picks.{is_same_queue, waits_in, goes_before, better, number_of, last_name, names_last, pick, picks, are_picks};
+ghost use Rattle.farm_rows.specs.Picks.{is_same_queue, waits_in, waits_under, goes_before, better, number_of, last_name, names_last, pick, picks, are_picks};
 ghost use Rattle.farm_rows.specs.Left.{left};
 
 use crate::checks::may_keep;
+use crate::queues::names::is_name_of;
 use crate::rows::Rows;
 use claim_queue::rank;
 use farm_record::{Claim, RunName};
-use farm_text::{Moment, SlugId};
+use farm_text::{Moment, SlugId, Text};
 use run_states::TaskRow;
 use std::alloc::{AllocError, Global};
 use task_defs::TaskQueue;
@@ -35,11 +36,18 @@ fn are_first(rows: &Rows<'_>, names: &[RunName]) -> bool
     }
 }
 
-/// How many tasks wait in a queue.
-pub(crate) fn pending(rows: &[TaskRow], queue: &TaskQueue) -> usize
-    ensures { result ≡ count_by (waits_in queue.now) rows.now }
+/// How many tasks wait in the queue of a name.
+pub(crate) fn pending(rows: &[TaskRow], queue: &Text) -> usize
+    ensures { result ≡ count_by (waits_under queue.now) rows.now }
 {
-    rows.iter().filter(|row| waits_in(row, queue)).count()
+    rows.iter().filter(|row| waits_under(row, queue)).count()
+}
+
+/// Whether a task waits for a worker in the queue of a name.
+fn waits_under(row: &TaskRow, name: &Text) -> bool
+    ensures { result ≡ waits_under name.now row.now }
+{
+    row.is_pending() && is_name_of(name, &row.definition().queue)
 }
 
 /// The runs that are claimed next in a queue, so many, or all that wait.

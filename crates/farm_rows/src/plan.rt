@@ -3,7 +3,7 @@ ghost use Rattle.std.specs.Prelude.{◌≡◌};
 
 use farm_record::{Claim, Reclaim, Resolution};
 use farm_text::{Moment, SlugId};
-use run_states::{Claim as RunClaim, TaskRow};
+use run_states::{Claim as RunClaim, RunRoom, TaskRow};
 use std::marker::Model;
 use std::slice;
 
@@ -31,6 +31,8 @@ pub struct TaskPlan {
     pub(crate) grown: Vec<TaskRow>,
     /// A claim for each run that is taken.
     pub(crate) claims: Vec<RunClaim>,
+    /// Room for the runs of the task, where one is run again.
+    pub(crate) run_room: Option<RunRoom>,
 }
 
 impl Model for TaskPlan {
@@ -38,7 +40,7 @@ impl Model for TaskPlan {
     ghost use Rattle.std.specs.Coded.{codes};
     ghost use Rattle.task_defs.specs.Codes.{members_code};
     ghost use Rattle.farm_rows.specs.Plans.{Planned};
-    ghost use Rattle.farm_rows.specs.Deeds.{claims_of, planned_of};
+    ghost use Rattle.farm_rows.specs.Deeds.{claims_of, run_room_of, planned_of};
 
     ghost Value = { Planned };
 
@@ -46,7 +48,7 @@ impl Model for TaskPlan {
 
     ghost view = { λ p. planned_of p.at p.deed p.rows.items (vec_capacity p.grown) };
 
-    ghost invariant = { λ p. (p.grown.items ≡ []) × (p.claims.items ≡ claims_of p.at p.deed) };
+    ghost invariant = { λ p. (p.grown.items ≡ []) × (p.claims.items ≡ claims_of p.at p.deed) × (p.run_room ≡ run_room_of p.deed) };
 }
 
 impl TaskPlan {

@@ -3,12 +3,12 @@
 ghost use Rattle.std.specs.Prelude.{◌≡◌, ◌^◌, ◌≤◌, ◌<◌, ◌↔◌, ◌∷◌, [], ◌++◌, List, Some, IsTrue, IfSome, IfOk, OnOk, length, count_by, slice_get};
 ghost use Rattle.run_states.specs.Rows.{Row};
 ghost use Rattle.farm_rows.specs.Contents.{HaveOwnIds};
-ghost use Rattle.farm_rows.specs.Picks.{waits_in, picks, are_picks};
+ghost use Rattle.farm_rows.specs.Picks.{waits_under, picks, are_picks};
 ghost use Rattle.farm_rows.specs.Queues.{name_of, MayAdd, AreQueues, AreQueuesBut};
 
 mod held;
 pub(crate) mod kept;
-mod names;
+pub(crate) mod names;
 mod walks;
 
 use crate::tables::MOST_TASKS;
@@ -123,15 +123,11 @@ impl Queues {
         );
     }
 
-    /// How many tasks wait in a queue; and none where memory is wanting.
-    pub(crate) fn pending(&self, queue: &TaskQueue) -> Option<usize>
-        ensures { (rows : List Row) → AreQueues self.now rows → IfSome result (λ count. count ≡ count_by (waits_in queue.now) rows) }
+    /// How many tasks wait in the queue of a name. It takes no memory.
+    pub(crate) fn pending(&self, queue: &Text) -> usize
+        ensures { (rows : List Row) → AreQueues self.now rows → result ≡ count_by (waits_under queue.now) rows }
     {
-        let alloc = *self.names.allocator();
-        match name_of(alloc, queue) {
-            Ok(name) => Some(self.pending.count(&name)),
-            Err(_) => None,
-        }
+        self.pending.count(queue)
     }
 
     /// The runs that are claimed next in a queue, so many, or all that wait.

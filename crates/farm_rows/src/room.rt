@@ -1,8 +1,11 @@
-//! Room for the tasks, which is taken before it is needed: a list that is longer stands ready wherever the tables are full.
+//! Room for the tasks, which is taken before it is needed: a list that is longer stands ready wherever the tables are full. And room for
+//! the runs of a task that is run again.
 ghost use Rattle.std.specs.Prelude.{◌≡◌, ◌+◌, ◌<◌, ◌≤◌, [], ◌∷◌, ◌++◌, max, vec_len, vec_capacity, IfOk};
 ghost use Rattle.farm_rows.specs.Plans.{room_for};
+ghost use Rattle.farm_rows.specs.Deeds.{run_room_of};
 
-use run_states::TaskRow;
+use crate::plan::Deed;
+use run_states::{RunRoom, TaskRow};
 use std::alloc::{AllocError, Global};
 
 /// For how many tasks there is room at least where so many stand.
@@ -58,5 +61,20 @@ fn make_room(rows: &mut Vec<TaskRow>, mut grown: Vec<TaskRow>)
             unreachable!();
         }
         *rows = grown;
+    }
+}
+
+/// Room for the runs of the task that a change runs again, if it is one that does.
+pub(crate) fn run_room(alloc: Global, deed: &Deed) -> Result<Option<RunRoom>, AllocError>
+    ensures { IfOk result (λ room. room ≡ run_room_of deed.now) }
+{
+    match deed {
+        Deed::Rerun(_) => Ok(Some(RunRoom::make(alloc)?)),
+        Deed::Create(_)
+        | Deed::Schedule(_)
+        | Deed::Cancel(_)
+        | Deed::Claim(_)
+        | Deed::Reclaim(_)
+        | Deed::Resolve(_) => Ok(None),
     }
 }

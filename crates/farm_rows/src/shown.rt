@@ -8,6 +8,7 @@ ghost use Rattle.farm_rows.specs.Deeds.{kind_of, rows_after};
 use crate::copies::claims;
 use crate::index::Index;
 use crate::plan::Deed;
+use crate::room::run_room;
 use crate::rows::Rows;
 use crate::work::make;
 use farm_record::RunName;
@@ -27,7 +28,16 @@ pub(crate) fn shown(
 {
     let mut shown = named(alloc, rows, deed)?;
     let claims = claims(alloc, at, deed)?;
-    make(&mut shown, &mut Index::given_up(), at, number, deed, claims);
+    let room = run_room(alloc, deed)?;
+    make(
+        &mut shown,
+        &mut Index::given_up(),
+        at,
+        number,
+        deed,
+        claims,
+        room,
+    );
     Ok(shown)
 }
 

@@ -3,12 +3,12 @@ ghost use Rattle.std.specs.Prelude.{◌≡◌, ◌<◌, ◌≤◌, [], true, tru
 ghost use Rattle.farm_text.specs.declared.moment.TheConstants.{LAST_TOLD_MOMENT};
 ghost use Rattle.farm_rows.specs.Contents.{no_contents, row_with, counts_of, HaveOwnIds};
 ghost use Rattle.farm_rows.specs.Due.{is_due, advance};
-ghost use Rattle.farm_rows.specs.Picks.{waits_in, picks};
+ghost use Rattle.farm_rows.specs.Picks.{waits_under, picks};
 ghost use Rattle.farm_rows.specs.Changes.{on_row, kept_scheduler, may_create, may_be, may_apply, applied};
 ghost use Rattle.farm_rows.specs.Waits.{missing_dependency, early_dependency};
 ghost use Rattle.farm_rows.specs.Lists.{is_listed, listed, names_listed, page_rows, has_more};
 ghost use Rattle.farm_rows.specs.Plans.{IsPlanOn};
-ghost use Rattle.farm_rows.specs.Deeds.{change_of, row_of, planned_of, claims_of};
+ghost use Rattle.farm_rows.specs.Deeds.{change_of, row_of, planned_of, claims_of, run_room_of};
 ghost use Rattle.farm_rows.specs.Summary.{summary_of};
 ghost use Rattle.farm_rows.specs.Sweep.{all_turns};
 
@@ -29,8 +29,8 @@ use crate::turns::resolve_due;
 use crate::waits::{early_dependency, missing_dependency, waits_well};
 use crate::work::change;
 use farm_record::{Change, Creation, Kind, RunName};
-use farm_text::{LAST_TOLD_MOMENT, Moment, SlugId};
-use run_states::{Claim as RunClaim, TaskRow};
+use farm_text::{LAST_TOLD_MOMENT, Moment, SlugId, Text};
+use run_states::{Claim as RunClaim, RunRoom, TaskRow};
 use std::alloc::{AllocError, Global};
 use std::marker::Model;
 use task_defs::{Identifier, TaskQueue};
@@ -140,9 +140,9 @@ impl TaskTables {
         &self.rows[row as usize]
     }
 
-    /// How many tasks wait in a queue.
-    pub fn pending(&self, queue: &TaskQueue) -> u32
-        ensures { result ≡ count_by (waits_in queue.now) self.now.rows }
+    /// How many tasks wait in the queue of a name, as `TaskQueue::name` makes it; where no queue has it, none. It takes no memory.
+    pub fn pending(&self, queue: &Text) -> u32
+        ensures { result ≡ count_by (waits_under queue.now) self.now.rows }
     {
         self.index.pending(&self.rows, queue) as u32
     }
@@ -277,10 +277,11 @@ impl TaskTables {
             rows: _,
             grown,
             claims,
+            run_room,
         } = plan;
         match deed {
             Deed::Create(row) => self.create(at, row, grown),
-            deed => self.change(at, &deed, claims),
+            deed => self.change(at, &deed, claims, run_room),
         }
     }
 
@@ -298,13 +299,22 @@ impl TaskTables {
     }
 
     /// Makes a change of the tasks that stand.
-    fn change(&mut self, at: Moment, deed: &Deed, claims: Vec<RunClaim>)
+    fn change(&mut self, at: Moment, deed: &Deed, claims: Vec<RunClaim>, run_room: Option<RunRoom>)
         requires claims { claims.items ≡ claims_of at deed.now }
+        requires run_room { run_room ≡ run_room_of deed.now }
         requires stands { row_of deed.now ≡ None }
         requires lawful { may_apply self.old (change_of at deed.now) ≡ true }
         ensures { self.new ≡ applied self.old (change_of at deed.now) }
     {
-        let drawn = change(&mut self.rows, &mut self.index, at, self.next, deed, claims);
+        let drawn = change(
+            &mut self.rows,
+            &mut self.index,
+            at,
+            self.next,
+            deed,
+            claims,
+            run_room,
+        );
         self.next += drawn;
         self.last = at;
     }

@@ -3,7 +3,7 @@ ghost use Rattle.std.specs.Prelude.{◌≡◌, ◌≤◌, ◌+◌, length, repli
 ghost use Rattle.farm_rows.specs.Ready.{settled};
 ghost use Rattle.farm_rows.specs.Sweep.{numbered};
 ghost use Rattle.farm_rows.specs.Changes.{claim_of, all_claimed};
-ghost use Rattle.farm_rows.specs.Deeds.{rows_after, drawn_by, claims_of};
+ghost use Rattle.farm_rows.specs.Deeds.{rows_after, drawn_by, claims_of, run_room_of};
 ghost use Rattle.farm_rows.specs.Indexed.{IsIndexOf};
 
 use crate::index::Index;
@@ -11,8 +11,8 @@ use crate::moves::{cancel, claim, drawn, reclaim, rerun, resolve, schedule};
 use crate::plan::Deed;
 use crate::settle::settle;
 use farm_record::{Claim, Resolution};
-use farm_text::Moment;
-use run_states::{Claim as RunClaim, TaskRow};
+use farm_text::{Moment, SlugId};
+use run_states::{Claim as RunClaim, RunRoom, TaskRow};
 
 /// Makes a change of the tasks that stand, and answers how many numbers it draws.
 pub(crate) fn make(
@@ -22,9 +22,11 @@ pub(crate) fn make(
     number: u64,
     deed: &Deed,
     claims: Vec<RunClaim>,
+    run_room: Option<RunRoom>,
 ) -> u64
     requires index { IsIndexOf index.old rows.old }
     requires claims { claims.items ≡ claims_of at deed.now }
+    requires run_room { run_room ≡ run_room_of deed.now }
     ensures index { IsIndexOf index.new rows.new }
     ensures rows { rows.new ≡ rows_after at number deed.now rows.old }
     ensures drawn { result ≡ drawn_by deed.now rows.old }
@@ -36,7 +38,7 @@ pub(crate) fn make(
             1
         }
         Deed::Rerun(id) => {
-            rerun(rows, index, *id, at, number);
+            run_again(rows, index, *id, at, number, run_room);
             1
         }
         Deed::Cancel(id) => {
@@ -63,18 +65,40 @@ pub(crate) fn change(
     number: u64,
     deed: &Deed,
     claims: Vec<RunClaim>,
+    run_room: Option<RunRoom>,
 ) -> u64
     requires index { IsIndexOf index.old rows.old }
     requires few { length rows.old ≤ 1_000_000 }
     requires drawn { number ≤ 50_000_000 }
     requires claims { claims.items ≡ claims_of at deed.now }
+    requires run_room { run_room ≡ run_room_of deed.now }
     ensures index { IsIndexOf index.new rows.new }
     ensures settled { settled (numbered (rows_after at number deed.now rows.old) (number + drawn_by deed.now rows.old)) at
         ≡ numbered rows.new (number + result) }
     ensures few { result ≤ 1_000_001 }
 {
-    let drawn = make(rows, index, at, number, deed, claims);
+    let drawn = make(rows, index, at, number, deed, claims, run_room);
     drawn + settle(rows, index, at, number + drawn)
+}
+
+/// Runs a task again, where it may be, in the room that there is.
+fn run_again(
+    rows: &mut [TaskRow],
+    index: &mut Index,
+    id: SlugId,
+    at: Moment,
+    number: u64,
+    run_room: Option<RunRoom>,
+)
+    requires index { IsIndexOf index.old rows.old }
+    requires run_room { run_room ≡ run_room_of (Deed.Rerun id) }
+    ensures index { IsIndexOf index.new rows.new }
+    ensures rows { rows.new ≡ rows_after at number (Deed.Rerun id) rows.old }
+{
+    match run_room {
+        Some(room) => rerun(rows, index, id, at, number, room),
+        None => unreachable!(),
+    }
 }
 
 /// Ends the run of a report, and answers how many numbers it draws.

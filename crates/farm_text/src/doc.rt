@@ -42,6 +42,17 @@ impl Doc {
         }
     }
 
+    /// Writes the document as JSON without spaces, behind what the writer has.
+    pub fn write_to(&self, out: &mut Writer) -> Result<(), AllocError>
+        ensures ok { OnOk result (out.new.tokens
+            ≡ out.old.tokens ++ json_tokens (outline (data_of (document self.now)))) }
+        ensures before { out.new.before ≡ out.old.before }
+        ensures reads_back { OnOk result (ReadsBack (document self.now)) }
+        ensures whole { OnOk result (IsWhole (document self.now)) }
+    {
+        write_value(self, out)
+    }
+
     /// The document as JSON without spaces. `read` gives it back, and never says that a number in it is not whole.
     pub fn write(&self, alloc: Global) -> Result<Text, AllocError>
         ensures text { IfOk result (λ t. t ≡ document_text (document self.now)) }
@@ -51,10 +62,7 @@ impl Doc {
     {
         let mut out = Writer::new(Vec::with_capacity(alloc, 128)?);
         write_value(self, &mut out)?;
-        let bytes = out.into_inner();
-        // The writer's bytes are proved to be UTF-8, so they are not read again.
-        let content = unsafe { String::from_utf8_unchecked(bytes) };
-        Ok(Text::from_string(content))
+        Ok(Text::from_writer(out))
     }
 }
 

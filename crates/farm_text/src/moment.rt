@@ -1,10 +1,12 @@
-ghost use Rattle.std.specs.Prelude.{◌≡◌, ℕ, List, ◌+◌, ◌%◌, ◌≤◌, ◌↔◌, min, pos, IsSome, IfSome, IfOk};
+ghost use Rattle.std.specs.Prelude.{◌≡◌, ℕ, List, [], ◌∷◌, ◌++◌, OnOk, ◌+◌, ◌%◌, ◌≤◌, ◌↔◌, min, pos, IsSome, IfSome, IfOk};
+ghost use Rattle.json.specs.Token.{string};
 ghost use Rattle.jiff_core.specs.Calendar.{IsCivilDate, days_from_civil};
 ghost use Rattle.farm_text.specs.Moment.{IsMomentText, last_digits};
 ghost use Rattle.farm_text.specs.declared.moment.TheConstants.{LAST_MOMENT, LAST_TOLD_MOMENT};
 
 use crate::text::Text;
 use jiff_core::civil::Date;
+use json::Writer;
 use std::alloc::{AllocError, Global};
 use std::marker::Model;
 use std::str;
@@ -76,6 +78,18 @@ impl Moment {
             unreachable!();
         };
         Text::from_str(alloc, text)
+    }
+
+    /// Writes the moment's text as JSON, behind what the writer has.
+    pub fn write_to(self, out: &mut Writer) -> Result<(), AllocError>
+        ensures ok { OnOk result ((text : List ℕ) × IsMomentText self text × (out.new.tokens ≡ out.old.tokens ++ string text ∷ [])) }
+        ensures before { out.new.before ≡ out.old.before }
+    {
+        let bytes = write_moment(self);
+        let Ok(text) = str::from_utf8(&bytes) else {
+            unreachable!();
+        };
+        out.string(text)
     }
 
     /// The milliseconds since 1970-01-01T00:00:00Z.

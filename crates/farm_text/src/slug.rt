@@ -1,9 +1,11 @@
-ghost use Rattle.std.specs.Prelude.{◌≡◌, ℕ, ◌/◌, ◌↔◌, List, length, slice_index, IsTrue, IsSome, IfSome, IfOk};
+ghost use Rattle.std.specs.Prelude.{◌≡◌, ℕ, [], ◌∷◌, ◌++◌, OnOk, ◌/◌, ◌↔◌, List, length, slice_index, IsTrue, IsSome, IfSome, IfOk};
+ghost use Rattle.json.specs.Token.{string};
 ghost use Rattle.farm_text.specs.Slug.{IsUuid4, IsSlug, slug_text, slug_of};
 ghost use Rattle.farm_text.specs.Told.{first_uuid};
 
 use crate::text::Text;
 use base64::engine::general_purpose::URL_SAFE_NO_PAD;
+use json::Writer;
 use std::alloc::{AllocError, Global};
 use std::marker::Model;
 use std::str;
@@ -105,6 +107,18 @@ impl SlugId {
             unreachable!();
         };
         Text::from_str(alloc, text)
+    }
+
+    /// Writes the id's slugid as JSON, behind what the writer has.
+    pub fn write_to(self, out: &mut Writer) -> Result<(), AllocError>
+        ensures ok { OnOk result (out.new.tokens ≡ out.old.tokens ++ string (slug_text self) ∷ []) }
+        ensures before { out.new.before ≡ out.old.before }
+    {
+        let bytes = self.text();
+        let Ok(text) = str::from_utf8(&bytes) else {
+            unreachable!();
+        };
+        out.string(text)
     }
 
     /// The id's sixteen bytes.

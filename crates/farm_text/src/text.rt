@@ -4,7 +4,10 @@ ghost use Rattle.std.specs.Cmp.{partial_order_from_own_ties};
 ghost use Rattle.std.specs.Cmp.Lexicographic.{pointwise, slice_cmp};
 ghost use Rattle.std.specs.Cmp.Rules.{comparing};
 ghost use Rattle.std.specs.Ordering.{nat_cmp, as_partial_cmp};
+ghost use Rattle.json.specs.Lex.{tokens};
+ghost use Rattle.json.specs.Print.{print};
 
+use json::Writer;
 use std::alloc::{AllocError, Global};
 use std::cmp::Ordering;
 use std::marker::Model;
@@ -37,6 +40,19 @@ impl Text {
     pub fn from_string(content: String) -> Text
         ensures { result ≡ string_bytes content }
     {
+        Text { content }
+    }
+
+    /// The text that a writer of JSON wrote from nothing. It is not copied.
+    pub fn from_writer(out: Writer) -> Text
+        requires { out.before ≡ [] }
+        ensures text { result ≡ print out.tokens }
+        ensures reads_back { tokens result ≡ out.tokens }
+        ensures utf8 { IsUtf8 result }
+    {
+        let bytes = out.into_inner();
+        // The writer's bytes are proved to be UTF-8, so they are not read again.
+        let content = unsafe { String::from_utf8_unchecked(bytes) };
         Text { content }
     }
 

@@ -1,19 +1,18 @@
 //! Copies of runs.
 ghost use Rattle.std.specs.Prelude.{◌≡◌, ◌≤◌, length, vec_len, vec_capacity, IfOk};
 
-use crate::row::MOST_RUNS;
 use crate::run::{Claim, Run};
 use farm_text::Text;
 use std::alloc::{AllocError, Global};
 use task_defs::Identifier;
 
-/// The same runs, which are at most 50, with room for 50.
-pub(crate) fn copies(alloc: Global, runs: &[Run]) -> Result<Vec<Run>, AllocError>
+/// The same runs, which are at most 50, with room for so many.
+pub(crate) fn copies(alloc: Global, runs: &[Run], room: usize) -> Result<Vec<Run>, AllocError>
     requires { length runs.now ≤ 50 }
     ensures items { IfOk result (λ v. v.items ≡ runs.now) }
-    ensures room { IfOk result (λ v. 50 ≤ vec_capacity v) }
+    ensures room { IfOk result (λ v. room ≤ vec_capacity v) }
 {
-    let mut made = Vec::with_capacity(alloc, MOST_RUNS)?;
+    let mut made = Vec::with_capacity(alloc, room)?;
     for run in runs {
         made.push(copy(alloc, run)?)?;
     }

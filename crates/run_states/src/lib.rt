@@ -9,6 +9,7 @@ mod laws;
 mod moves;
 mod reasons;
 mod refusal;
+mod room;
 mod row;
 mod run;
 mod runs;
@@ -20,5 +21,6 @@ pub use laws::{
 };
 pub use reasons::{ReasonCreated, ReasonResolved, RunState};
 pub use refusal::Refusal;
+pub use room::RunRoom;
 pub use row::{MOST_RETRIES, MOST_RUNS, TaskRow};
 pub use run::{Claim, Outcome, Run};

@@ -5,6 +5,7 @@ ghost use Rattle.run_states.specs.Moves.{claimed, reclaimed, retried, closed, re
 
 use crate::reasons::{ReasonCreated, ReasonResolved};
 use crate::refusal::Refusal;
+use crate::room::RunRoom;
 use crate::row::{MOST_RUNS, TaskRow};
 use crate::run::Claim;
 use crate::runs::{add_pending, at as run_at, end, keep, take_last};
@@ -57,9 +58,9 @@ impl TaskRow {
         Err(self.run_refusal(run))
     }
 
-    /// Runs a resolved task again, with the number that the new run draws. Answers whether it did: a pending or running task stays. Or why
-    /// it is refused.
-    pub fn rerun(&mut self, at: Moment, number: u64) -> Result<bool, Refusal>
+    /// Runs a resolved task again, with the number that the new run draws, and in this room, where it has less. Answers whether it did: a
+    /// pending or running task stays. Or why it is refused.
+    pub fn rerun(&mut self, at: Moment, number: u64, room: RunRoom) -> Result<bool, Refusal>
         ensures answer { result ≡ rerun_answer at self.old }
         ensures row { self.new ≡ run_again number at self.old }
     {
@@ -76,6 +77,7 @@ impl TaskRow {
         if stand >= MOST_RUNS {
             return Err(Refusal::FiftyRuns);
         }
+        room.give(&mut self.runs);
         add_pending(&mut self.runs, ReasonCreated::Rerun, number, at);
         self.retries_left = self.definition.retries.min((MOST_RUNS - 1 - stand) as u8);
         Ok(true)

@@ -20,8 +20,9 @@ pub const MOST_RETRIES: u8 = 49;
 
 /// A task that stands: its id, its definition, the retries that it has left and its runs.
 ///
-/// Its definition is shared with its copies. It has room for all its runs from its making, so nothing that happens to it later takes
-/// memory. The runs and the retries that are left are at most 50, so there is always room for a retry.
+/// Its definition is shared with its copies. The runs and the retries that are left are at most 50. It has room for its runs and for
+/// those retries, and for one run where it has none: so nothing that happens to it takes memory, and a rerun, by which it has retries once
+/// more, is given the room.
 #[derive(Debug, Drop)]
 pub struct TaskRow {
     pub(crate) id: SlugId,
@@ -31,7 +32,7 @@ pub struct TaskRow {
 }
 
 impl Model for TaskRow {
-    ghost use Rattle.std.specs.Prelude.{◌+◌, ◌≤◌, vec_len, vec_capacity};
+    ghost use Rattle.std.specs.Prelude.{◌+◌, ◌<◌, ◌≤◌, vec_len, vec_capacity};
     ghost use Rattle.std.specs.Coded.{codes};
     ghost use Rattle.task_defs.specs.Codes.{members_code};
     ghost use Rattle.std.specs.Arc.{arc_value};
@@ -43,7 +44,8 @@ impl Model for TaskRow {
 
     ghost view = { λ r. record { id = r.id; definition = arc_value r.definition; retries_left = r.retries_left; runs = r.runs.items } };
 
-    ghost invariant = { λ r. (vec_len r.runs + r.retries_left ≤ 50) × (r.retries_left ≤ 49) × (50 ≤ vec_capacity r.runs) };
+    ghost invariant = { λ r. (vec_len r.runs + r.retries_left ≤ 50) × (r.retries_left ≤ 49)
+        × (vec_len r.runs + r.retries_left ≤ vec_capacity r.runs) × (r.retries_left < vec_capacity r.runs) };
 }
 
 impl TaskRow {
@@ -51,8 +53,8 @@ impl TaskRow {
     pub fn make(alloc: Global, id: SlugId, definition: TaskDef) -> Result<TaskRow, AllocError>
         ensures { IfOk result (λ row. row ≡ new_row id definition) }
     {
-        let runs = Vec::with_capacity(alloc, MOST_RUNS)?;
         let retries_left = definition.retries.min(MOST_RETRIES);
+        let runs = Vec::with_capacity(alloc, usize::from(retries_left) + 1)?;
         Ok(TaskRow {
             id,
             retries_left,
@@ -65,7 +67,8 @@ impl TaskRow {
     pub fn copy(&self, alloc: Global) -> Result<TaskRow, AllocError>
         ensures { IfOk result (λ row. row ≡ self.now) }
     {
-        let runs = copies(alloc, &self.runs)?;
+        let room = self.runs.len().max(1) + usize::from(self.retries_left);
+        let runs = copies(alloc, &self.runs, room)?;
         Ok(TaskRow {
             id: self.id,
             definition: Arc::try_clone(&self.definition)?,

@@ -13,3 +13,4 @@ pub mod FullLengthLemmas
 pub mod SaysLemmas
 pub mod LengthLemmas
 pub mod CrossingLemmas
+pub mod WritingLemmas

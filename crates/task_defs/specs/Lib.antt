@@ -10,3 +10,4 @@ pub mod Rules
 pub mod Definitions
 pub mod Parts
 pub mod Lengths
+pub mod Writing

@@ -6,6 +6,7 @@ mod documents;
 mod fault;
 mod full_form;
 mod full_length;
+mod full_text;
 mod keys;
 mod labels;
 mod laws;

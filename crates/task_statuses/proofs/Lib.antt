@@ -1,3 +1,4 @@
 pub mod CalendarLemmas
 pub mod DefinitionLemmas
+pub mod WritingLemmas
 mod MemberLemmas

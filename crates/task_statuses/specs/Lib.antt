@@ -1,3 +1,4 @@
 pub mod Calendar
 pub mod Statuses
+pub mod Tokens
 pub mod Parts

@@ -1,99 +1,123 @@
 //! The runs of a status.
-ghost use Rattle.std.specs.Prelude.{◌≡◌, ◌<◌, ◌^◌, Some, IfOk, length};
-ghost use Rattle.farm_text.specs.Doc.{document, documents};
-ghost use Rattle.farm_text.specs.Document.{items_of};
-ghost use Rattle.farm_text.specs.Entries.{held};
-ghost use Rattle.task_statuses.specs.Parts.{run_members, with_claim, with_outcome};
+ghost use Rattle.std.specs.Prelude.{◌≡◌, ◌++◌, Some, OnOk};
+ghost use Rattle.farm_text.specs.Document.{array};
+ghost use Rattle.task_statuses.specs.Parts as parts;
 ghost use Rattle.task_statuses.specs.Statuses as statuses;
+ghost use Rattle.task_statuses.specs.Tokens.{tokens_of, tokens_of_members};
 
-use farm_text::{Doc, Entries, Moment};
+use crate::members::{moment_member, number_member, text_member};
+use json::Writer;
 use run_states::{Claim, Outcome, Run};
-use std::alloc::{AllocError, Global};
+use std::alloc::AllocError;
 
-/// A moment as a document.
-pub fn moment_doc(alloc: Global, moment: Moment) -> Result<Doc, AllocError>
-    ensures { IfOk result (λ d. document d ≡ statuses.moment_doc moment) }
+/// Writes the runs, each with its number from 0.
+pub(crate) fn write_runs(runs: &[Run], out: &mut Writer) -> Result<(), AllocError>
+    ensures ok { OnOk result (out.new.tokens ≡ out.old.tokens ++ tokens_of (array (statuses.runs_from 0 runs.now))) }
+    ensures before { out.new.before ≡ out.old.before }
 {
-    // Each moment lies where the calendar has years of four digits.
-    let _millis = moment.millis();
-    Ok(Doc::Text(moment.to_text(alloc)?))
-}
-
-/// The runs as documents, each with its number from 0.
-pub(crate) fn run_docs(alloc: Global, runs: &[Run]) -> Result<Vec<Doc>, AllocError>
-    ensures { IfOk result (λ docs. items_of (documents docs.items) ≡ statuses.runs_from 0 runs.now) }
-{
-    let mut docs = Vec::with_capacity(alloc, runs.len())?;
+    out.begin_array()?;
     for (number, run) in runs.iter().enumerate() {
-        docs.push(run_doc(alloc, number, run)?)?;
+        write_run(number, run, out)?;
     }
-    Ok(docs)
+    out.end_array()
 }
 
-/// A run as a document, with its number.
-fn run_doc(alloc: Global, number: usize, run: &Run) -> Result<Doc, AllocError>
-    requires { number < 2 ^ 63 }
-    ensures { IfOk result (λ d. document d ≡ statuses.run_doc number run.now) }
+/// Writes a run, with its number.
+fn write_run(number: usize, run: &Run, out: &mut Writer) -> Result<(), AllocError>
+    ensures ok { OnOk result (out.new.tokens ≡ out.old.tokens ++ tokens_of (statuses.run_doc number run.now)) }
+    ensures before { out.new.before ≡ out.old.before }
 {
-    let entries = made(alloc, number, run)?;
-    let claimed = add_claim(alloc, entries, run)?;
-    Ok(add_outcome(alloc, claimed, run)?.into_doc())
+    out.begin_object()?;
+    write_reasons(run, out)?;
+    write_made(number, run, out)?;
+    write_course(run, out)?;
+    write_taken(&run.claim, out)?;
+    out.end_object()
 }
 
-/// The members that each run has.
-fn made(alloc: Global, number: usize, run: &Run) -> Result<Entries, AllocError>
-    requires { number < 2 ^ 63 }
-    ensures { IfOk result (λ e. held e ≡ run_members number run.now) }
+/// Writes why a run was made, and how it ended where it did.
+fn write_reasons(run: &Run, out: &mut Writer) -> Result<(), AllocError>
+    ensures ok { OnOk result (out.new.tokens ≡ out.old.tokens ++ tokens_of_members (parts.reasons run.now)) }
+    ensures before { out.new.before ≡ out.old.before }
 {
-    let reason = Doc::text(alloc, run.created.name())?;
-    let scheduled = moment_doc(alloc, run.scheduled)?;
-    let state = Doc::text(alloc, run.state().name())?;
-    let first = Entries::new(alloc).with(alloc, "reasonCreated", reason)?;
-    let second = first.with(alloc, "runId", Doc::Int(number as i64))?;
-    let third = second.with(alloc, "scheduled", scheduled)?;
-    Ok(third.with(alloc, "state", state)?)
+    text_member("reasonCreated", run.created.name(), out)?;
+    write_ended(run.outcome, out)
 }
 
-/// The members with what came of its claim, where it has one.
-fn add_claim(alloc: Global, entries: Entries, run: &Run) -> Result<Entries, AllocError>
-    ensures { IfOk result (λ e. held e ≡ with_claim run.now.claim (held entries)) }
+/// Writes how a run ended, where it did.
+fn write_ended(outcome: Option<Outcome>, out: &mut Writer) -> Result<(), AllocError>
+    ensures ok { OnOk result (out.new.tokens ≡ out.old.tokens ++ tokens_of_members (parts.ended outcome)) }
+    ensures before { out.new.before ≡ out.old.before }
 {
-    match &run.claim {
-        None => Ok(entries),
-        Some(claim) => claimed(alloc, entries, claim),
-    }
-}
-
-/// The members with a claim.
-fn claimed(alloc: Global, entries: Entries, claim: &Claim) -> Result<Entries, AllocError>
-    ensures { IfOk result (λ e. held e ≡ with_claim (Some claim.now) (held entries)) }
-{
-    let started = moment_doc(alloc, claim.started)?;
-    let taken_until = moment_doc(alloc, claim.taken_until)?;
-    let group = Doc::text(alloc, claim.worker_group.as_str())?;
-    let id = Doc::text(alloc, claim.worker_id.as_str())?;
-    let first = entries.with(alloc, "started", started)?;
-    let second = first.with(alloc, "takenUntil", taken_until)?;
-    let third = second.with(alloc, "workerGroup", group)?;
-    Ok(third.with(alloc, "workerId", id)?)
-}
-
-/// The members with how the run ended, where it did.
-fn add_outcome(alloc: Global, entries: Entries, run: &Run) -> Result<Entries, AllocError>
-    ensures { IfOk result (λ e. held e ≡ with_outcome run.now.outcome (held entries)) }
-{
-    match run.outcome {
-        None => Ok(entries),
-        Some(outcome) => ended(alloc, entries, outcome),
+    match outcome {
+        None => Ok(()),
+        Some(outcome) => write_outcome(outcome, out),
     }
 }
 
-/// The members with an outcome.
-fn ended(alloc: Global, entries: Entries, outcome: Outcome) -> Result<Entries, AllocError>
-    ensures { IfOk result (λ e. held e ≡ with_outcome (Some outcome) (held entries)) }
+/// Writes how a run ended.
+fn write_outcome(outcome: Outcome, out: &mut Writer) -> Result<(), AllocError>
+    ensures ok { OnOk result (out.new.tokens ≡ out.old.tokens ++ tokens_of_members (parts.ended (Some outcome))) }
+    ensures before { out.new.before ≡ out.old.before }
 {
-    let reason = Doc::text(alloc, outcome.reason.name())?;
-    let at = moment_doc(alloc, outcome.at)?;
-    let first = entries.with(alloc, "reasonResolved", reason)?;
-    Ok(first.with(alloc, "resolved", at)?)
+    text_member("reasonResolved", outcome.reason.name(), out)?;
+    moment_member("resolved", outcome.at, out)
+}
+
+/// Writes the number of a run, and when it was made.
+fn write_made(number: usize, run: &Run, out: &mut Writer) -> Result<(), AllocError>
+    ensures ok { OnOk result (out.new.tokens ≡ out.old.tokens ++ tokens_of_members (parts.made number run.now)) }
+    ensures before { out.new.before ≡ out.old.before }
+{
+    number_member("runId", number as u64, out)?;
+    moment_member("scheduled", run.scheduled, out)
+}
+
+/// Writes when a run was claimed, and its state.
+fn write_course(run: &Run, out: &mut Writer) -> Result<(), AllocError>
+    ensures ok { OnOk result (out.new.tokens ≡ out.old.tokens ++ tokens_of_members (parts.course run.now)) }
+    ensures before { out.new.before ≡ out.old.before }
+{
+    write_started(&run.claim, out)?;
+    text_member("state", run.state().name(), out)
+}
+
+/// Writes when a run was claimed, where it was.
+fn write_started(claim: &Option<Claim>, out: &mut Writer) -> Result<(), AllocError>
+    ensures ok { OnOk result (out.new.tokens ≡ out.old.tokens ++ tokens_of_members (parts.started claim.now)) }
+    ensures before { out.new.before ≡ out.old.before }
+{
+    match claim {
+        None => Ok(()),
+        Some(claim) => moment_member("started", claim.started, out),
+    }
+}
+
+/// Writes whose a run is and until when, where it was claimed.
+fn write_taken(claim: &Option<Claim>, out: &mut Writer) -> Result<(), AllocError>
+    ensures ok { OnOk result (out.new.tokens ≡ out.old.tokens ++ tokens_of_members (parts.taken claim.now)) }
+    ensures before { out.new.before ≡ out.old.before }
+{
+    match claim {
+        None => Ok(()),
+        Some(claim) => write_claim(claim, out),
+    }
+}
+
+/// Writes whose a run is and until when.
+fn write_claim(claim: &Claim, out: &mut Writer) -> Result<(), AllocError>
+    ensures ok { OnOk result (out.new.tokens ≡ out.old.tokens ++ tokens_of_members (parts.taken (Some claim.now))) }
+    ensures before { out.new.before ≡ out.old.before }
+{
+    moment_member("takenUntil", claim.taken_until, out)?;
+    write_worker(claim, out)
+}
+
+/// Writes whose a run is.
+pub fn write_worker(claim: &Claim, out: &mut Writer) -> Result<(), AllocError>
+    ensures ok { OnOk result (out.new.tokens ≡ out.old.tokens ++ tokens_of_members (parts.worker claim.now)) }
+    ensures before { out.new.before ≡ out.old.before }
+{
+    text_member("workerGroup", claim.worker_group.as_str(), out)?;
+    text_member("workerId", claim.worker_id.as_str(), out)
 }

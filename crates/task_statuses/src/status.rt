@@ -1,79 +1,96 @@
 //! The status of a task.
-ghost use Rattle.std.specs.Prelude.{◌≡◌, IfOk};
-ghost use Rattle.farm_text.specs.Doc.{document};
-ghost use Rattle.farm_text.specs.Document.{text as plain_text};
-ghost use Rattle.farm_text.specs.Entries.{held};
-ghost use Rattle.task_statuses.specs.Parts.{with_times, with_queue, with_owners, with_ids};
+ghost use Rattle.std.specs.Prelude.{◌≡◌, ◌++◌, OnOk};
+ghost use Rattle.task_statuses.specs.Parts as parts;
 ghost use Rattle.task_statuses.specs.Statuses.{status_of};
+ghost use Rattle.task_statuses.specs.Tokens.{tokens_of, tokens_of_members};
 
+use crate::members::{id_member, moment_member, number_member, text_member};
 use crate::names::task_state_name;
-use crate::runs::{moment_doc, run_docs};
-use farm_text::{Doc, Entries};
+use crate::runs::write_runs;
+use json::Writer;
 use run_states::TaskRow;
 use std::alloc::{AllocError, Global};
-use task_defs::{Identifier, TaskDef, TaskQueue};
+use task_defs::{TaskDef, TaskQueue};
 
-/// The status of a task: its deadline, when it expires, its owners, its queue, the retries that it has left, its runs and its state.
-pub fn status_doc(alloc: Global, row: &TaskRow) -> Result<Doc, AllocError>
-    ensures { IfOk result (λ d. document d ≡ status_of row.now) }
+/// Writes the status of a task: its deadline, when it expires, its owners, its queue, the retries that it has left, its runs and its state.
+pub fn write_status(alloc: Global, row: &TaskRow, out: &mut Writer) -> Result<(), AllocError>
+    ensures ok { OnOk result (out.new.tokens ≡ out.old.tokens ++ tokens_of (status_of row.now)) }
+    ensures before { out.new.before ≡ out.old.before }
 {
-    let times = times(alloc, row.definition())?;
-    let queue = add_queue(alloc, times, &row.definition().queue)?;
-    let owners = add_owners(alloc, queue, row.definition())?;
-    Ok(add_ids(alloc, owners, row)?.into_doc())
+    out.begin_object()?;
+    write_before_runs(row, out)?;
+    out.key("runs")?;
+    write_runs(row.runs(), out)?;
+    write_behind_runs(alloc, row, out)?;
+    out.end_object()
 }
 
-/// The members of its moments.
-fn times(alloc: Global, definition: &TaskDef) -> Result<Entries, AllocError>
-    ensures { IfOk result (λ e. held e ≡ with_times definition.now) }
+/// Writes the members before the runs.
+fn write_before_runs(row: &TaskRow, out: &mut Writer) -> Result<(), AllocError>
+    ensures ok { OnOk result (out.new.tokens ≡ out.old.tokens ++ tokens_of_members (parts.before_runs row.now)) }
+    ensures before { out.new.before ≡ out.old.before }
 {
-    let deadline = moment_doc(alloc, definition.deadline)?;
-    let expires = moment_doc(alloc, definition.expires)?;
-    let first = Entries::new(alloc).with(alloc, "deadline", deadline)?;
-    Ok(first.with(alloc, "expires", expires)?)
+    write_dates(row.definition(), out)?;
+    write_owners(row.definition(), out)?;
+    number_member("retriesLeft", u64::from(row.retries_left()), out)
 }
 
-/// An identifier as a document.
-fn identifier_doc(alloc: Global, identifier: &Identifier) -> Result<Doc, AllocError>
-    ensures { IfOk result (λ d. document d ≡ plain_text identifier.now) }
+/// Writes its moments.
+fn write_dates(definition: &TaskDef, out: &mut Writer) -> Result<(), AllocError>
+    ensures ok { OnOk result (out.new.tokens ≡ out.old.tokens ++ tokens_of_members (parts.dates definition.now)) }
+    ensures before { out.new.before ≡ out.old.before }
 {
-    Doc::text(alloc, identifier.as_str())
+    moment_member("deadline", definition.deadline, out)?;
+    moment_member("expires", definition.expires, out)
 }
 
-/// These members with those of its queue.
-fn add_queue(alloc: Global, entries: Entries, queue: &TaskQueue) -> Result<Entries, AllocError>
-    ensures { IfOk result (λ e. held e ≡ with_queue queue.now (held entries)) }
+/// Writes whose the task is, and whose workers run it.
+fn write_owners(definition: &TaskDef, out: &mut Writer) -> Result<(), AllocError>
+    ensures ok { OnOk result (out.new.tokens ≡ out.old.tokens ++ tokens_of_members (parts.owners definition.now)) }
+    ensures before { out.new.before ≡ out.old.before }
 {
-    let provisioner = identifier_doc(alloc, &queue.provisioner_id)?;
+    text_member("projectId", definition.project_id.as_str(), out)?;
+    text_member(
+        "provisionerId",
+        definition.queue.provisioner_id.as_str(),
+        out,
+    )
+}
+
+/// Writes the members behind the runs.
+fn write_behind_runs(alloc: Global, row: &TaskRow, out: &mut Writer) -> Result<(), AllocError>
+    ensures ok { OnOk result (out.new.tokens ≡ out.old.tokens ++ tokens_of_members (parts.behind_runs row.now)) }
+    ensures before { out.new.before ≡ out.old.before }
+{
+    write_standing(row, out)?;
+    write_ids(row, out)?;
+    write_place(alloc, &row.definition().queue, out)
+}
+
+/// Writes what schedules the task, and its state.
+fn write_standing(row: &TaskRow, out: &mut Writer) -> Result<(), AllocError>
+    ensures ok { OnOk result (out.new.tokens ≡ out.old.tokens ++ tokens_of_members (parts.standing row.now)) }
+    ensures before { out.new.before ≡ out.old.before }
+{
+    text_member("schedulerId", row.definition().scheduler_id.as_str(), out)?;
+    text_member("state", task_state_name(row.state()), out)
+}
+
+/// Writes its ids.
+fn write_ids(row: &TaskRow, out: &mut Writer) -> Result<(), AllocError>
+    ensures ok { OnOk result (out.new.tokens ≡ out.old.tokens ++ tokens_of_members (parts.ids row.now)) }
+    ensures before { out.new.before ≡ out.old.before }
+{
+    id_member("taskGroupId", row.definition().task_group_id, out)?;
+    id_member("taskId", row.id(), out)
+}
+
+/// Writes where the task waits for a worker.
+fn write_place(alloc: Global, queue: &TaskQueue, out: &mut Writer) -> Result<(), AllocError>
+    ensures ok { OnOk result (out.new.tokens ≡ out.old.tokens ++ tokens_of_members (parts.place queue.now)) }
+    ensures before { out.new.before ≡ out.old.before }
+{
     let name = queue.name(alloc)?;
-    let worker = identifier_doc(alloc, &queue.worker_type)?;
-    let first = entries.with(alloc, "provisionerId", provisioner)?;
-    let second = first.with(alloc, "taskQueueId", Doc::Text(name))?;
-    Ok(second.with(alloc, "workerType", worker)?)
-}
-
-/// These members with those of its owners.
-fn add_owners(alloc: Global, entries: Entries, definition: &TaskDef) -> Result<Entries, AllocError>
-    ensures { IfOk result (λ e. held e ≡ with_owners definition.now (held entries)) }
-{
-    let project = Doc::text(alloc, definition.project_id.as_str())?;
-    let scheduler = Doc::text(alloc, definition.scheduler_id.as_str())?;
-    let group = definition.task_group_id.to_text(alloc)?;
-    let first = entries.with(alloc, "projectId", project)?;
-    let second = first.with(alloc, "schedulerId", scheduler)?;
-    Ok(second.with(alloc, "taskGroupId", Doc::Text(group))?)
-}
-
-/// These members with those of the row itself.
-fn add_ids(alloc: Global, entries: Entries, row: &TaskRow) -> Result<Entries, AllocError>
-    ensures { IfOk result (λ e. held e ≡ with_ids row.now (held entries)) }
-{
-    let retries = Doc::Int(i64::from(row.retries_left()));
-    let runs = run_docs(alloc, row.runs())?;
-    let state = Doc::text(alloc, task_state_name(row.state()))?;
-    let id = row.id().to_text(alloc)?;
-    let first = entries.with(alloc, "retriesLeft", retries)?;
-    let second = first.with(alloc, "runs", Doc::List(runs))?;
-    let third = second.with(alloc, "state", state)?;
-    Ok(third.with(alloc, "taskId", Doc::Text(id))?)
+    text_member("taskQueueId", name.as_str(), out)?;
+    text_member("workerType", queue.worker_type.as_str(), out)
 }

@@ -8,7 +8,7 @@ mod scripts;
 
 use crate::words::{definition, identifier, moment, next, numbered, truth};
 use farm_text::{Moment, SlugId};
-use run_states::{Claim, ReasonResolved, Refusal, TaskRow};
+use run_states::{Claim, ReasonResolved, Refusal, RunRoom, TaskRow};
 use std::alloc::Global;
 
 /// The plain definition, with five retries, which are the default; and the same with other numbers of retries.
@@ -145,7 +145,7 @@ fn outcome(alloc: Global, row: &mut TaskRow, word: &str, parts: &str) -> Option<
         "run" | "taken" | "stands" | "is" | "serves" | "told" => {
             Some(truth(looks::is_so(alloc, row, word, parts)?))
         }
-        _ => change(row, word, parts),
+        _ => change(alloc, row, word, parts),
     }
 }
 
@@ -173,7 +173,7 @@ fn claim(alloc: Global) -> Option<Claim> {
 }
 
 /// Makes a change, and tells what it answers.
-fn change(row: &mut TaskRow, word: &str, parts: &str) -> Option<&'static str> {
+fn change(alloc: Global, row: &mut TaskRow, word: &str, parts: &str) -> Option<&'static str> {
     let (at, rest) = next(parts);
     let (number, rest) = next(rest);
     let at = moment(at)?;
@@ -181,12 +181,13 @@ fn change(row: &mut TaskRow, word: &str, parts: &str) -> Option<&'static str> {
         "exceed" => Some(truth(row.exceed(at))),
         "cancel" => Some(truth(row.cancel(at))),
         "reclaim" => Some(answer(row.reclaim(number.parse::<u8>().ok()?, at))),
-        _ => draw(row, at, number.parse::<u64>().ok()?, word, rest),
+        _ => draw(alloc, row, at, number.parse::<u64>().ok()?, word, rest),
     }
 }
 
 /// Makes a change by which a run may draw this number.
 fn draw(
+    alloc: Global,
     row: &mut TaskRow,
     at: Moment,
     drawn: u64,
@@ -196,7 +197,7 @@ fn draw(
     match word {
         "schedule" => Some(truth(row.schedule(at, drawn))),
         "expire" => Some(truth(row.expire(at, drawn))),
-        "rerun" => Some(answer(row.rerun(at, drawn))),
+        "rerun" => Some(answer(row.rerun(at, drawn, RunRoom::make(alloc).ok()?))),
         _ => resolve(row, at, drawn, parts),
     }
 }

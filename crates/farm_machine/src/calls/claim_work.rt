@@ -3,7 +3,7 @@ ghost use Rattle.std.specs.Prelude.{None, ◌≡◌, IfOk};
 use crate::case::{Called, Done, Scene};
 use crate::question::WorkRequest;
 use crate::reply::Answer;
-use crate::works::work_body;
+use crate::works::{Telling, told};
 use call_rules::claim_scopes;
 use farm_record::{Claim, Kind, RunNames};
 use farm_text::Moment;
@@ -46,7 +46,7 @@ impl Called for ClaimWork {
         let names = at.tables.picks(alloc, &self.work.queue, most)?;
         match RunNames::from_list(names) {
             Some(runs) => Ok(Done::Changes(taking(self.work, runs, at.taken_until()))),
-            None => Ok(Done::Reads(work_body(alloc, &[])?)),
+            None => Ok(Done::Reads(told(alloc, Telling::Taken, &[])?)),
         }
     }
 }

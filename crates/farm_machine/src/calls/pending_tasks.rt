@@ -36,7 +36,8 @@ impl Called for PendingTasks {
     }
 
     fn deed(self, alloc: Global, at: &Scene<'_>) -> Result<Done, AllocError> {
-        let count = at.tables.pending(&self.queue);
-        Ok(Done::Reads(answers::pending_body(alloc, &self.queue, count)?))
+        let count = at.tables.pending(alloc, &self.queue)?;
+        let body = answers::pending_body(alloc, &self.queue, count)?;
+        Ok(Done::Reads(body.write(alloc)?))
     }
 }

@@ -36,6 +36,6 @@ impl Called for Ping {
         let body = Entries::new(alloc)
             .with(alloc, "alive", Doc::Bool(true))?
             .into_doc();
-        Ok(Done::Reads(body))
+        Ok(Done::Reads(body.write(alloc)?))
     }
 }

@@ -1,6 +1,7 @@
 ghost use Rattle.std.specs.Prelude.{None, ◌≡◌, IfOk};
 
 use crate::answers;
+use crate::bodies::status_text;
 use crate::case::{Called, Done, Scene};
 use crate::reply::Answer;
 use call_rules::status_scope;
@@ -42,6 +43,6 @@ impl Called for Status {
         let Some(row) = at.tables.row(self.id) else {
             unreachable!();
         };
-        Ok(Done::Reads(answers::status_body(alloc, row)?))
+        Ok(Done::Reads(status_text(alloc, row)?))
     }
 }

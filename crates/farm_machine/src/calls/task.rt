@@ -1,13 +1,13 @@
 ghost use Rattle.std.specs.Prelude.{None, ◌≡◌, IfOk};
 
 use crate::answers;
+use crate::bodies::definition_text;
 use crate::case::{Called, Done, Scene};
 use crate::reply::Answer;
 use call_rules::task_scope;
 use farm_text::SlugId;
 use scope_sets::Expr;
 use std::alloc::{AllocError, Global};
-use task_statuses::definition_doc;
 
 /// The definition of a task.
 #[derive(Clone, Copy)]
@@ -43,6 +43,6 @@ impl Called for Task {
         let Some(row) = at.tables.row(self.id) else {
             unreachable!();
         };
-        Ok(Done::Reads(definition_doc(alloc, row.definition())?))
+        Ok(Done::Reads(definition_text(alloc, row.definition())?))
     }
 }

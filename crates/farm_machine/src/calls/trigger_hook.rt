@@ -52,8 +52,8 @@ impl Called for TriggerHook {
         Ok(None)
     }
 
-    fn deed(self, _alloc: Global, _at: &Scene<'_>) -> Result<Done, AllocError> {
-        Ok(Done::Reads(Doc::Null))
+    fn deed(self, alloc: Global, _at: &Scene<'_>) -> Result<Done, AllocError> {
+        Ok(Done::Reads(Doc::Null.write(alloc)?))
     }
 }
 

@@ -3,12 +3,13 @@
 ghost use Rattle.std.specs.Prelude.{◌≡◌, ◌≤◌, ◌<◌, ◌^◌, ◌∷◌, [], ◌++◌, true, List, IfSome, IfOk, OnOk, is_some, length, count_by, slice_get};
 ghost use Rattle.run_states.specs.Rows.{Row};
 ghost use Rattle.farm_rows.specs.Contents.{HaveOwnIds};
-ghost use Rattle.farm_rows.specs.Picks.{waits_in, picks, are_picks};
+ghost use Rattle.farm_rows.specs.Picks.{waits_under, picks, are_picks};
 ghost use Rattle.farm_rows.specs.Queues.{name_of, MayBeNoted, MayBeQueues, MayBeQueuesBut};
 
 use crate::picks::{are_picks, pending, picks};
 use crate::queues::Queues;
 use farm_record::RunName;
+use farm_text::Text;
 use run_states::TaskRow;
 use std::alloc::{AllocError, Global};
 use task_defs::TaskQueue;
@@ -72,24 +73,14 @@ pub(crate) fn keep_waiting(queues: &mut Option<Queues>, rows: &[TaskRow], place:
     }
 }
 
-/// How many tasks wait in a queue.
-pub(crate) fn pending_in(queues: &Option<Queues>, rows: &[TaskRow], queue: &TaskQueue) -> usize
+/// How many tasks wait in the queue of a name.
+pub(crate) fn pending_in(queues: &Option<Queues>, rows: &[TaskRow], queue: &Text) -> usize
     requires { MayBeQueues queues.now rows.now }
-    ensures { result ≡ count_by (waits_in queue.now) rows.now }
-{
-    match known_pending(queues, queue) {
-        Some(count) => count,
-        None => pending(rows, queue),
-    }
-}
-
-/// How many tasks wait in a queue, where that can be told without a walk over all tasks.
-fn known_pending(queues: &Option<Queues>, queue: &TaskQueue) -> Option<usize>
-    ensures { (rows : List Row) → MayBeQueues queues.now rows → IfSome result (λ count. count ≡ count_by (waits_in queue.now) rows) }
+    ensures { result ≡ count_by (waits_under queue.now) rows.now }
 {
     match queues {
         Some(queues) => queues.pending(queue),
-        None => None,
+        None => pending(rows, queue),
     }
 }
 

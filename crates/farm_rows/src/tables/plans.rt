@@ -8,7 +8,7 @@ ghost use Rattle.farm_rows.specs.Deeds.{kind_of, change_of, row_of, claims_of, r
 
 use crate::copies::claims;
 use crate::plan::{Deed, TaskPlan};
-use crate::room::grown;
+use crate::room::{grown, run_room};
 use crate::settle::settle_new;
 use crate::shown::shown;
 use crate::tables::TaskTables;
@@ -86,6 +86,7 @@ impl TaskTables {
             rows: Vec::new(alloc),
             grown,
             claims: Vec::new(alloc),
+            run_room: None,
         })
     }
 
@@ -104,12 +105,14 @@ impl TaskTables {
         ensures plan { IfOk result (λ p. IsPlanOn self.now p) }
     {
         let (claims, rows) = self.parts(alloc, at, &deed)?;
+        let run_room = run_room(alloc, &deed)?;
         Ok(TaskPlan {
             at,
             deed,
             rows,
             grown: Vec::new(alloc),
             claims,
+            run_room,
         })
     }
 

@@ -76,9 +76,11 @@ fn is_kept(tables: &TaskTables, group: SlugId, scheduler: &str) -> bool {
 /// Whether run 0 of each of these tasks is picked from a task's queue, in this order, and as many wait.
 fn are_picked(alloc: Global, tables: &TaskTables, row: &TaskRow, numbers: &str) -> bool {
     let queue = &row.definition().queue;
-    match tables.picks(alloc, queue, 32) {
-        Ok(names) => tables.pending(queue) as usize == numbers.len() && are_named(&names, numbers),
-        Err(_) => false,
+    match (queue.name(alloc), tables.picks(alloc, queue, 32)) {
+        (Ok(name), Ok(names)) => {
+            tables.pending(&name) as usize == numbers.len() && are_named(&names, numbers)
+        }
+        _ => false,
     }
 }
 

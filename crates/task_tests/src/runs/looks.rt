@@ -1,10 +1,10 @@
 //! What is asked of a task.
 use crate::words::{is_run, moment, next, stands, truth};
-use farm_text::Doc;
+use json::Writer;
 use run_states::{Run, TaskRow};
-use std::alloc::Global;
+use std::alloc::{AllocError, Global};
 use task_defs::Requires;
-use task_statuses::{definition_doc, status_doc};
+use task_statuses::{write_definition, write_status};
 
 /// Whether a task is so.
 pub(super) fn is_so(alloc: Global, row: &TaskRow, word: &str, parts: &str) -> Option<bool> {
@@ -95,28 +95,35 @@ fn is_told(alloc: Global, row: &TaskRow, parts: &str) -> Option<bool> {
 
 /// Whether the text of a task's status is these parts, one behind the other.
 fn has_status(alloc: Global, row: &TaskRow, parts: &[&str]) -> bool {
-    match status_doc(alloc, row) {
-        Ok(status) => has_text(alloc, &status, parts),
+    match status_text(alloc, row) {
+        Ok(text) => is_joined(text.as_slice(), parts),
         Err(_) => false,
     }
+}
+
+/// The text of a task's status.
+fn status_text(alloc: Global, row: &TaskRow) -> Result<Vec<u8>, AllocError> {
+    let mut out = Writer::new(Vec::with_capacity(alloc, 512)?);
+    write_status(alloc, row, &mut out)?;
+    Ok(out.into_inner())
 }
 
 /// Whether a task's definition is the plain one in full form.
 fn is_defined(alloc: Global, row: &TaskRow) -> bool {
-    match definition_doc(alloc, row.definition()) {
-        Ok(doc) => has_text(alloc, &doc, &[IN_FULL]),
+    match definition_text(alloc, row) {
+        Ok(text) => is_joined(text.as_slice(), &[IN_FULL]),
         Err(_) => false,
     }
 }
 
-/// Whether the text of a document is these parts, one behind the other.
-fn has_text(alloc: Global, doc: &Doc, parts: &[&str]) -> bool {
-    match doc.write(alloc) {
-        Ok(text) => is_joined(text.as_bytes(), parts),
-        Err(_) => false,
-    }
+/// The text of a task's definition.
+fn definition_text(alloc: Global, row: &TaskRow) -> Result<Vec<u8>, AllocError> {
+    let mut out = Writer::new(Vec::with_capacity(alloc, 512)?);
+    write_definition(alloc, row.definition(), &mut out)?;
+    Ok(out.into_inner())
 }
 
+/// Whether a text is these parts, one behind the other.
 fn is_joined(text: &[u8], parts: &[&str]) -> bool {
     let mut rest = text;
     for part in parts {

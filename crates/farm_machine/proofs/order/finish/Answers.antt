@@ -1,7 +1,5 @@
 -- A rule of the call ends it, or what it does is judged.
-use Rattle.std.proofs.Common.{Option, ap, ◌∙◌, subst}
-use Rattle.farm_text.specs.Doc.{document}
-use Rattle.farm_text.specs.Document.{document_text}
+use Rattle.std.proofs.Common.{Option, ◌∙◌, subst}
 use Rattle.farm_machine.specs.declared.case.Done.TheVariants.{Reads, Changes}
 use Rattle.farm_machine.specs.Case.{IsFirstRule}
 use Rattle.farm_machine.specs.Deeds.{IsDeed}
@@ -16,14 +14,13 @@ returns-in-Some-clause-finished g c =
     IsFinished-ruled at case c.only.result c.in-Some.answer c.only.ensures.answer c.only.ensures.change
     (subst (IsFirstRule case.rules) c.in-Some.is c.in_ok-answer.ensures)
 
-pub returns-in_ok-ok-in-Reads-clause-finished : goal.returns-in_ok-ok-in-Reads-clause-finished
-returns-in_ok-ok-in-Reads-clause-finished g c =
+pub returns-in-Reads-clause-finished : goal.returns-in-Reads-clause-finished
+returns-in-Reads-clause-finished g c =
     let at = setting_at c.args.config.now c.args.tables.now c.args.moment c.args.drawn in
     let case = g.C.Called.case c.args.call at in
-    let text = document_text (document c.in-Reads.body) in
     let deed : IsDeed at case.deed (Reads c.in-Reads.body) = subst (IsDeed at case.deed) c.in-Reads.is c.in_ok-body.ensures in
-    IsFinished-reads at case c.only-in-Reads.result text (c.only-in-Reads.ensures.answer ∙ c.in_ok-ok-in-Reads.ensures) c.only-in-Reads.ensures.change
-    (subst (IsFirstRule case.rules) c.in_default.is c.in_ok-answer.ensures) deed.0 (ap document_text deed.1)
+    IsFinished-reads at case c.only-in-Reads.result c.in-Reads.body (c.only-in-Reads.ensures.answer ∙ c.ok.ensures) c.only-in-Reads.ensures.change
+    (subst (IsFirstRule case.rules) c.in_default.is c.in_ok-answer.ensures) deed.0 deed.1
 
 pub returns-in_ok-made-in-Changes-clause-finished : goal.returns-in_ok-made-in-Changes-clause-finished
 returns-in_ok-made-in-Changes-clause-finished g c =

@@ -1,0 +1,171 @@
+//! The full form of a definition, written as JSON member by member.
+ghost use Rattle.std.specs.Prelude.{◌≡◌, pos, [], ◌∷◌, map, codes, OnOk};
+ghost use Rattle.farm_text.specs.Slug.{slug_text};
+ghost use Rattle.farm_text.specs.Doc.{document};
+ghost use Rattle.farm_text.specs.Document.{Document, whole, text as plain_text};
+ghost use Rattle.task_defs.specs.Rules.{metadata_doc};
+ghost use Rattle.task_defs.specs.Definitions.{text_list, IsFullForm};
+ghost use Rattle.task_defs.specs.Writing.{IsWritten, AreWritten, MomentIsWritten, FirstAreWritten, work_members, owner_members, right_members, place_members};
+
+use crate::names::Route;
+use crate::objects::Metadata;
+use crate::task_def::TaskDef;
+use farm_text::{Doc, Moment, SlugId};
+use json::Writer;
+use scope_sets::Scope;
+use std::alloc::{AllocError, Global};
+
+impl TaskDef {
+    /// Writes the full form of the definition as JSON without spaces, behind what the writer has.
+    pub fn write_to(&self, alloc: Global, out: &mut Writer) -> Result<(), AllocError>
+        ensures form { OnOk result ((full : Document) × IsFullForm self.now full
+            × IsWritten full out.old.tokens out.new.tokens) }
+        ensures before { out.new.before ≡ out.old.before }
+    {
+        out.begin_object()?;
+        self.write_first(out)?;
+        self.write_work(out)?;
+        self.write_owner(out)?;
+        self.write_rights(out)?;
+        self.write_place(alloc, out)?;
+        out.end_object()
+    }
+
+    fn write_first(&self, out: &mut Writer) -> Result<(), AllocError>
+        ensures ok { OnOk result (FirstAreWritten self.now out.old.tokens out.new.tokens) }
+        ensures before { out.new.before ≡ out.old.before }
+    {
+        write_moment(out, "created", self.created)?;
+        write_moment(out, "deadline", self.deadline)?;
+        write_ids(out, "dependencies", self.dependencies.list())?;
+        write_moment(out, "expires", self.expires)
+    }
+
+    fn write_work(&self, out: &mut Writer) -> Result<(), AllocError>
+        ensures ok { OnOk result (AreWritten (work_members self.now) out.old.tokens out.new.tokens) }
+        ensures before { out.new.before ≡ out.old.before }
+    {
+        write_doc(out, "extra", self.extra.as_doc())?;
+        write_metadata(out, &self.metadata)?;
+        write_doc(out, "payload", self.payload.as_doc())?;
+        write_text(out, "priority", self.priority.name())
+    }
+
+    fn write_owner(&self, out: &mut Writer) -> Result<(), AllocError>
+        ensures ok { OnOk result (AreWritten (owner_members self.now) out.old.tokens out.new.tokens) }
+        ensures before { out.new.before ≡ out.old.before }
+    {
+        write_text(out, "projectId", self.project_id.as_str())?;
+        write_text(out, "provisionerId", self.queue.provisioner_id.as_str())?;
+        write_text(out, "requires", self.requires_.name())?;
+        write_number(out, "retries", self.retries)
+    }
+
+    fn write_rights(&self, out: &mut Writer) -> Result<(), AllocError>
+        ensures ok { OnOk result (AreWritten (right_members self.now) out.old.tokens out.new.tokens) }
+        ensures before { out.new.before ≡ out.old.before }
+    {
+        write_routes(out, self.routes.list())?;
+        write_text(out, "schedulerId", self.scheduler_id.as_str())?;
+        write_scopes(out, self.scopes.list())?;
+        write_doc(out, "tags", self.tags.as_doc())
+    }
+
+    fn write_place(&self, alloc: Global, out: &mut Writer) -> Result<(), AllocError>
+        ensures ok { OnOk result (AreWritten (place_members self.now) out.old.tokens out.new.tokens) }
+        ensures before { out.new.before ≡ out.old.before }
+    {
+        let name = self.queue.name(alloc)?;
+        write_slug(out, "taskGroupId", self.task_group_id)?;
+        write_text(out, "taskQueueId", name.as_str())?;
+        write_text(out, "workerType", self.queue.worker_type.as_str())
+    }
+}
+
+fn write_text(out: &mut Writer, key: &str, text: &str) -> Result<(), AllocError>
+    ensures ok { OnOk result (AreWritten ((key.now, plain_text text.now) ∷ []) out.old.tokens out.new.tokens) }
+    ensures before { out.new.before ≡ out.old.before }
+{
+    out.key(key)?;
+    out.string(text)
+}
+
+fn write_moment(out: &mut Writer, key: &str, moment: Moment) -> Result<(), AllocError>
+    ensures ok { OnOk result (MomentIsWritten key.now moment out.old.tokens out.new.tokens) }
+    ensures before { out.new.before ≡ out.old.before }
+{
+    out.key(key)?;
+    moment.write_to(out)
+}
+
+fn write_slug(out: &mut Writer, key: &str, id: SlugId) -> Result<(), AllocError>
+    ensures ok { OnOk result (AreWritten ((key.now, plain_text (slug_text id)) ∷ []) out.old.tokens out.new.tokens) }
+    ensures before { out.new.before ≡ out.old.before }
+{
+    out.key(key)?;
+    id.write_to(out)
+}
+
+fn write_doc(out: &mut Writer, key: &str, doc: &Doc) -> Result<(), AllocError>
+    ensures ok { OnOk result (AreWritten ((key.now, document doc.now) ∷ []) out.old.tokens out.new.tokens) }
+    ensures before { out.new.before ≡ out.old.before }
+{
+    out.key(key)?;
+    doc.write_to(out)
+}
+
+fn write_number(out: &mut Writer, key: &str, n: u8) -> Result<(), AllocError>
+    ensures ok { OnOk result (AreWritten ((key.now, whole (pos n)) ∷ []) out.old.tokens out.new.tokens) }
+    ensures before { out.new.before ≡ out.old.before }
+{
+    write_doc(out, key, &Doc::Int(i64::from(n)))
+}
+
+fn write_metadata(out: &mut Writer, metadata: &Metadata) -> Result<(), AllocError>
+    ensures ok { OnOk result (AreWritten ((codes "metadata", metadata_doc metadata.now) ∷ []) out.old.tokens out.new.tokens) }
+    ensures before { out.new.before ≡ out.old.before }
+{
+    out.key("metadata")?;
+    out.begin_object()?;
+    write_text(out, "description", metadata.description.as_str())?;
+    write_text(out, "name", metadata.name.as_str())?;
+    write_text(out, "owner", metadata.owner.as_str())?;
+    write_text(out, "source", metadata.source.as_str())?;
+    out.end_object()
+}
+
+fn write_ids(out: &mut Writer, key: &str, ids: &[SlugId]) -> Result<(), AllocError>
+    ensures ok { OnOk result (AreWritten ((key.now, text_list (map slug_text ids.now)) ∷ []) out.old.tokens out.new.tokens) }
+    ensures before { out.new.before ≡ out.old.before }
+{
+    out.key(key)?;
+    out.begin_array()?;
+    for id in ids {
+        id.write_to(out)?;
+    }
+    out.end_array()
+}
+
+fn write_routes(out: &mut Writer, routes: &[Route]) -> Result<(), AllocError>
+    ensures ok { OnOk result (AreWritten ((codes "routes", text_list routes.now) ∷ []) out.old.tokens out.new.tokens) }
+    ensures before { out.new.before ≡ out.old.before }
+{
+    out.key("routes")?;
+    out.begin_array()?;
+    for route in routes {
+        out.string(route.as_str())?;
+    }
+    out.end_array()
+}
+
+fn write_scopes(out: &mut Writer, scopes: &[Scope]) -> Result<(), AllocError>
+    ensures ok { OnOk result (AreWritten ((codes "scopes", text_list scopes.now) ∷ []) out.old.tokens out.new.tokens) }
+    ensures before { out.new.before ≡ out.old.before }
+{
+    out.key("scopes")?;
+    out.begin_array()?;
+    for scope in scopes {
+        out.string(scope.as_str())?;
+    }
+    out.end_array()
+}
