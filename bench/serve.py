@@ -8,7 +8,7 @@ for so many seconds (else 3): pings and signed pings on one connection and on fo
 which is on the disk before it is answered, from one client and from four. A connection serves 1,000 requests, and is then made anew.
 Below them stand what the clients here reach with a loop in the server's place that reads and writes as many bytes, how often a record of the size
 that a change had can be written and synced, and its gate too, as the program does it, and what the clients reach with both, one after the other: a loop
-that writes and syncs so before it replies. A farm that took no time of its own would come to that. Changes that are sent ahead, a thousand on a connection, wait for no client: they
+that writes and syncs so before it replies. A farm that took no time of its own would come to that, also where all requests are sent ahead. Changes that are sent ahead, a thousand on a connection, wait for no client: they
 show what the farm itself comes to. Each client is a process; a client in Python takes some
 twenty microseconds a call, so pings tell no more than that the program is not slower.
 """
@@ -18,6 +18,7 @@ import os
 import socket
 import sys
 import tempfile
+import threading
 import time
 
 import peers
@@ -25,6 +26,7 @@ import peers
 PROGRAM = os.path.abspath(sys.argv[1])
 SECONDS = float(sys.argv[2]) if len(sys.argv) > 2 else 3.0
 CYCLES = 333
+PLAIN_REPLY = b"HTTP/1.1 200 OK\r\nContent-Length: 14\r\nContent-Type: application/json\r\n\r\n{\"alive\":true}"
 
 
 class Line:
@@ -100,6 +102,24 @@ def changes_sent_ahead(first):
     return client
 
 
+def pings_sent_ahead(line, place, until):
+    """A thousand pings to the plain loop, which come to it all at once."""
+    many, whole = peers.PING * 1000, len(PLAIN_REPLY) * 1000
+    while time.perf_counter() < until:
+        line.close()
+        begin, came = time.perf_counter(), 0
+        with socket.create_connection(line.address, timeout=60) as peer:
+            sender = threading.Thread(target=peer.sendall, args=(many,))
+            sender.start()
+            while came < whole:
+                piece = peer.recv(1 << 20)
+                if not piece:
+                    raise SystemExit("the plain loop ended a connection")
+                came += len(piece)
+            sender.join()
+        line.times += [(time.perf_counter() - begin) / 1000] * 1000
+
+
 def run_client(client, address, place, begin, results):
     line = Line(address)
     begin.wait()
@@ -158,15 +178,14 @@ def plain_server(doors, asked, reply, turn=None, handle=None, record=b""):
         peer.close()
 
 
-def plain_loop(clients, *kept):
-    reply = b"HTTP/1.1 200 OK\r\nContent-Length: 14\r\nContent-Type: application/json\r\n\r\n{\"alive\":true}"
+def plain_loop(clients, client, *kept):
     with socket.socket() as doors:
         doors.bind(("127.0.0.1", 0))
         doors.listen()
-        servers = [multiprocessing.Process(target=plain_server, args=(doors, len(peers.PING), reply, *kept), daemon=True) for _ in range(clients)]
+        servers = [multiprocessing.Process(target=plain_server, args=(doors, len(peers.PING), PLAIN_REPLY, *kept), daemon=True) for _ in range(clients)]
         for server in servers:
             server.start()
-        times = measure(pings, doors.getsockname(), clients)
+        times = measure(client, doors.getsockname(), clients)
         for server in servers:
             server.terminate()
             server.join()
@@ -186,10 +205,10 @@ def disk_alone(folder, size):
     return sorted(times)
 
 
-def disk_and_loop(folder, size, clients):
+def disk_and_loop(folder, size, clients, client):
     """The plain loop, which keeps a record of this size before each reply."""
     handle = os.open(os.path.join(folder, "loop.disk"), os.O_RDWR | os.O_CREAT)
-    times = plain_loop(clients, multiprocessing.Lock(), handle, b"\0" * size)
+    times = plain_loop(clients, client, multiprocessing.Lock(), handle, b"\0" * size)
     os.close(handle)
     return times
 
@@ -200,7 +219,7 @@ def main():
         with peers.Farm(PROGRAM, folder) as farm:
             for clients in (1, 4):
                 row("ping", clients, measure(pings, farm.address, clients))
-                row("ping to the plain loop", clients, plain_loop(clients))
+                row("ping to the plain loop", clients, plain_loop(clients, pings))
             for clients in (1, 4):
                 row("signed ping", clients, measure(signed_pings, farm.address, clients))
             disk = os.path.join(folder, "farm.disk")
@@ -216,7 +235,9 @@ def main():
             size = max(2, (os.path.getsize(disk) - before) // made)
         row("a record of %d bytes and its gate on the disk alone" % size, 1, disk_alone(folder, size))
         for clients in (1, 4):
-            row("the plain loop, with such a record before each reply", clients, disk_and_loop(folder, size, clients))
+            row("the plain loop, with such a record before each reply", clients, disk_and_loop(folder, size, clients, pings))
+        for clients in (1, 4):
+            row("the same, a thousand requests sent ahead", clients, disk_and_loop(folder, size, clients, pings_sent_ahead))
 
 
 if __name__ == "__main__":
