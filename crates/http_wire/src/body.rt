@@ -67,7 +67,7 @@ fn drop_front(bytes: &mut Vec<u8>, count: usize)
     ensures { bytes.new.items ≡ drop count bytes.old.items }
 {
     let rest = bytes.len() - count;
-    bytes.copy_within(count.., 0);
+    bytes.rotate_left(count);
     bytes.truncate(rest);
 }
 
