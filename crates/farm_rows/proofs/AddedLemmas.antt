@@ -48,7 +48,7 @@ all-behind ids id (name ∷ named) all_ =
     let parts = and_parts (list_any (λ other. bytes_eq other name) ids) (list_all (λ n. list_any (λ other. bytes_eq other n) ids) named) all_ in
     rw (any-behind ids id name parts.0) (all-behind ids id named parts.1)
 
-stand-behind : (ids : List (List ℕ)) (id : List ℕ) (rows : List Row) → list_all (depends_on_these ids) rows ≡ true → list_all (depends_on_these (ids ++ id ∷ [])) rows ≡ true
+pub stand-behind : (ids : List (List ℕ)) (id : List ℕ) (rows : List Row) → list_all (depends_on_these ids) rows ≡ true → list_all (depends_on_these (ids ++ id ∷ [])) rows ≡ true
 stand-behind ids id [] all_ = refl
 stand-behind ids id (row ∷ rows) all_ =
     let parts = and_parts (depends_on_these ids row) (list_all (depends_on_these ids) rows) all_ in

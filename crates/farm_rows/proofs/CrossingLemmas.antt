@@ -12,6 +12,7 @@ use Rattle.farm_rows.specs.contracts.tables.TaskTables.{the_row}
 use Rattle.farm_rows.specs.contracts.tables.TaskTables.TheInside.{the_type as inside_type}
 use Rattle.farm_rows.proofs.GraphCrossing.{dependencies_send}
 use Rattle.farm_rows.proofs.MemberCrossing.{members_send}
+use Rattle.farm_rows.proofs.PlaceCrossing.{places_send}
 use Rattle.farm_rows.proofs.QueueCrossing.{queues_send}
 
 held_send : IsSend held.the_row
@@ -41,5 +42,5 @@ index_send = declared_send indexes.the_type (
 pub tables_send : IsSend rows.the_row → IsSend the_row
 tables_send sent = view_send _ _ _ _ _ (declared_send inside_type (
   search (crosses, sendable) depth 40 fits 50000,
-  (search (crosses, sendable) depth 40 fits 50000, (search (crosses, sendable) depth 40 fits 50000, (index_send, tt))),
+  (search (crosses, sendable) depth 40 fits 50000, (search (crosses, sendable) depth 40 fits 50000, (index_send, (places_send, tt)))),
 ))

@@ -98,14 +98,14 @@ changed-from ids from (suc i) place (b ∷ before) (r ∷ rows) row at changed i
     (ap (λ (ts : List Task). task_at ids from b ∷ ts) (changed-from ids (from + 1) i place before rows row (omega arith) rest is)
     ∙ ap (λ (x : Row). task_at ids from x ∷ tasks_from ids (from + 1) rows) (sym first))
 
-later-ids : (before rows : List Row) → RowsLater before rows → length rows ≡ length before → ids_of rows ≡ ids_of before
+pub later-ids : (before rows : List Row) → RowsLater before rows → length rows ≡ length before → ids_of rows ≡ ids_of before
 later-ids [] [] stay long = refl
 later-ids [] (r ∷ rows) stay long = absurd (omega arith)
 later-ids (b ∷ before) [] stay long = absurd stay
 later-ids (b ∷ before) (r ∷ rows) stay long =
     ap (λ (id : List ℕ). id ∷ ids_of rows) stay.0.id ∙ ap (λ (ids : List (List ℕ)). b.id ∷ ids) (later-ids before rows stay.1 (omega arith))
 
-later-stand : (ids : List (List ℕ)) (before rows : List Row) → RowsLater before rows → length rows ≡ length before → list_all (depends_on_these ids) rows ≡ list_all (depends_on_these ids) before
+pub later-stand : (ids : List (List ℕ)) (before rows : List Row) → RowsLater before rows → length rows ≡ length before → list_all (depends_on_these ids) rows ≡ list_all (depends_on_these ids) before
 later-stand ids [] [] stay long = refl
 later-stand ids [] (r ∷ rows) stay long = absurd (omega arith)
 later-stand ids (b ∷ before) [] stay long = absurd stay

@@ -54,6 +54,17 @@ may-create contents at creation may =
     let few = (and_parts (may_join creation contents.rows) fewer well).1 in
     (told.0, none_is (row_with creation.id contents.rows) unknown.0, few)
 
+-- and it waits well
+pub may-wait : (contents : Contents) (at : ℕ) (creation : Creation) → may_apply contents (creating at creation) ≡ true → waits_well creation contents.rows ≡ true
+may-wait contents at creation may =
+    let later = (and_parts (nat_le contents.last at) (nat_le at LAST_TOLD_MOMENT && (not (is_due contents at) && may_create contents at creation)) may).1 in
+    let told = and_parts (nat_le at LAST_TOLD_MOMENT) (not (is_due contents at) && may_create contents at creation) later in
+    let idle = (and_parts (not (is_due contents at)) (may_create contents at creation) told.1).1 in
+    let fewer : Bool = nat_lt (length contents.rows) 1_000_000 in
+    let unknown = and_parts (is_none (row_with creation.id contents.rows)) (nat_lt at creation.definition.deadline && (waits_well creation contents.rows && (may_join creation contents.rows && fewer))) idle in
+    let early = (and_parts (nat_lt at creation.definition.deadline) (waits_well creation contents.rows && (may_join creation contents.rows && fewer)) unknown.1).1 in
+    (and_parts (waits_well creation contents.rows) (may_join creation contents.rows && fewer) early).0
+
 -- ---- what a creation leaves
 
 -- the last of a list is found, where none before has its id

@@ -31,6 +31,7 @@ pub mod ServedLemmas
 pub mod SummaryLemmas
 pub mod GraphCrossing
 pub mod MemberCrossing
+pub mod PlaceCrossing
 pub mod CrossingLemmas
 pub mod QueueNameLemmas
 pub mod QueueLemmas
@@ -45,3 +46,7 @@ pub mod DependencyLemmas
 pub mod FirstReadyLemmas
 pub mod BehindLemmas
 pub mod AddedLemmas
+pub mod PlaceListLemmas
+pub mod ComingLemmas
+pub mod GroupedLemmas
+pub mod SpareLemmas

@@ -78,7 +78,7 @@ pub member-last : (groups : List TaskGroup) (rows : List Row) (group : List ℕ)
 member-last groups rows group are =
     subst (λ (ps : List ℕ). ForSome (last_or None ps) (λ held. held < length rows)) (sym (are.places group)) (last-below (length rows) None (places_of (Group group) rows) (λ x is. cc) (places-within (Group group) rows))
 
-places-push : (test : Row → Bool) (from place : ℕ) (rows : List Row) (row : Row) → place ≡ from + length rows → places_from test from (rows ++ row ∷ []) ≡ places_from test from rows ++ cond (test row) (place ∷ []) []
+pub places-push : (test : Row → Bool) (from place : ℕ) (rows : List Row) (row : Row) → place ≡ from + length rows → places_from test from (rows ++ row ∷ []) ≡ places_from test from rows ++ cond (test row) (place ∷ []) []
 places-push test from place [] row at = let same : from ≡ place = omega arith in ap (λ n. cond (test row) (n ∷ []) []) same
 places-push test from place (r ∷ rows) row at = by (places-push test (from + 1) place rows row (omega arith)) (test r) refl where
   by : places_from test (from + 1) (rows ++ row ∷ []) ≡ places_from test (from + 1) rows ++ cond (test row) (place ∷ []) [] → (b : Bool) → test r ≡ b
@@ -86,7 +86,7 @@ places-push test from place (r ∷ rows) row at = by (places-push test (from + 1
   by rest true is = rw is (ap (λ (ps : List ℕ). from ∷ ps) rest)
   by rest false is = rw is rest
 
-append-none : (xs : List ℕ) → xs ++ [] ≡ xs
+pub append-none : (xs : List ℕ) → xs ++ [] ≡ xs
 append-none [] = refl
 append-none (x ∷ xs) = ap (λ (ys : List ℕ). x ∷ ys) (append-none xs)
 

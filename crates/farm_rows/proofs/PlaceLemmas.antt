@@ -64,7 +64,7 @@ place-lost test xs is = (no-place test (λ x. x) xs (far test xs is)).found
 
 -- ---- whether some item passes
 
-any-found : {A : Type 0} (test : A → Bool) (xs : List A) (x : A) → find test xs ≡ Some x → list_any test xs ≡ true
+pub any-found : {A : Type 0} (test : A → Bool) (xs : List A) (x : A) → find test xs ≡ Some x → list_any test xs ≡ true
 any-found test [] x is = cc
 any-found test (y ∷ ys) x is = by (any-found test ys x) (test y) refl where
   by : (find test ys ≡ Some x → list_any test ys ≡ true) → (b : Bool) → test y ≡ b → list_any test (y ∷ ys) ≡ true

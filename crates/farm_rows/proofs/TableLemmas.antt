@@ -1,6 +1,6 @@
 -- What the tables keep: a tick, and a task more.
 use Rattle.std.proofs.Common.{◌≡◌, ℕ, ◌≤◌, ◌<◌, ◌+◌, min, max, true, false, ◌&&◌, List, [], ◌∷◌, ◌++◌, length, Option, Some, None, refl, ap, sym, ◌∙◌, subst, arith, append-nil, take, get_or}
-use Rattle.std.specs.List.{reduce, list_any, list_all}
+use Rattle.std.specs.List.{reduce, list_any, list_all, AllZip}
 use Rattle.std.specs.Option.{option_to_list}
 use Rattle.std.proofs.lemmas.Bool.{ltb-true, leb-true}
 use Rattle.std.proofs.lemmas.List.Concat.{flat_map-append}
@@ -16,14 +16,16 @@ use Rattle.farm_rows.specs.Ready.{is_ready, settled_row}
 use Rattle.farm_rows.specs.Settling.{one_if}
 use Rattle.farm_rows.specs.Due.{all_due_moments, is_due, advance}
 use Rattle.farm_rows.specs.Changes.{creating, applied}
-use Rattle.farm_rows.specs.Plans.{room_for, IsPlanOn}
+use Rattle.farm_rows.specs.Plans.{Room, room_for, HasRoomOn, lists_of, IsPlanOn}
 use Rattle.farm_rows.specs.Deeds.{planned_of}
 use Rattle.farm_rows.specs.declared.plan.Deed.TheVariants.{Create}
 use Rattle.farm_rows.specs.Sweep.{numbered, all_turns, runs_made, fits, IsKept}
 use Rattle.farm_rows.proofs.AdvanceLemmas.{advance-is}
 use Rattle.farm_rows.proofs.CreateLemmas.{new-is, created-applied}
-use Rattle.farm_rows.proofs.IdLemmas.{may-create, created-stands, created-ids}
-use Rattle.farm_rows.proofs.RoomLemmas.{room-enough}
+use Rattle.farm_rows.specs.Dependencies.{ids_of, depends_on_these}
+use Rattle.farm_rows.proofs.ComingLemmas.{well-stand}
+use Rattle.farm_rows.proofs.IdLemmas.{may-create, may-wait, created-stands, created-ids}
+use Rattle.farm_rows.proofs.RoomLemmas.{room-enough, greater-room}
 use Rattle.farm_rows.proofs.TurnLemmas.{with_last, idle-first, all-idle, all-last, all-keeps}
 
 -- the contents of these parts
@@ -71,8 +73,8 @@ pub record Fits (rows : List Row) (at had brought : ℕ) : Type 0 where
   pub few : length rows < 1_000_000
   pub told : at ≤ LAST_TOLD_MOMENT
 
-pub plan-fits : (contents : Contents) (rows : List Row) (at had brought : ℕ) (row : Row) → IsPlanOn contents (planned_of at (Create row) [] brought) → rows ≡ contents.rows → room_for (length rows) ≤ had → Fits rows at had brought
-plan-fits contents rows at had brought row planned same keeps =
+pub plan-fits : (contents : Contents) (rows : List Row) (at had brought : ℕ) (room : Room) (row : Row) → IsPlanOn contents (planned_of at (Create row) [] room) → room.tasks ≤ brought → rows ≡ contents.rows → room_for (length rows) ≤ had → Fits rows at had brought
+plan-fits contents rows at had brought room row planned enough_ same keeps =
     let creation : Creation = record { id = row.id; definition = row.definition } in
     let may = may-create contents at creation planned.lawful in
     let told = leb-true at LAST_TOLD_MOMENT may.0 in
@@ -80,7 +82,7 @@ plan-fits contents rows at had brought row planned same keeps =
     let few : length contents.rows < 1_000_000 = ltb-true (length contents.rows) 1_000_000 may.2 in
     let few_rows : length rows < 1_000_000 = omega arith in
     let P : ℕ → Type 0 = λ n. room_for (n + 1) ≤ max (room_for n) brought in
-    let room : room_for (length rows + 1) ≤ max (room_for (length rows)) brought = subst P (sym len) planned.room in
+    let has : P (length rows) = subst P (sym len) (greater-room (length contents.rows) room.tasks brought planned.room.0 enough_) in
     let enough : length rows + 1 ≤ room_for (length rows + 1) = room-enough (length rows + 1) (omega arith) in
     record { room = omega arith; kept = omega arith; few = few_rows; told = told }
 
@@ -103,7 +105,7 @@ kept-more rows new row last at next had brought capacity kept fit_ is row_fits u
     }
 
 -- the task of a plan is the new one, as it stands once it has settled
-pub named : (contents : Contents) (rows : List Row) (last next at room : ℕ) (row : Row) → contents_of rows last next ≡ contents → list_any (is_ready rows) rows ≡ false → IsPlanOn contents (planned_of at (Create row) [] room)
+pub named : (contents : Contents) (rows : List Row) (last next at : ℕ) (room : Room) (row : Row) → contents_of rows last next ≡ contents → list_any (is_ready rows) rows ≡ false → IsPlanOn contents (planned_of at (Create row) [] room)
     → row ≡ settled_row (contents_of rows last next) at (new_row row.id row.definition)
 named contents rows last next at room row same none planned =
     let here : IsPlanOn (contents_of rows last next) (planned_of at (Create row) [] room) = rw same planned in
@@ -113,10 +115,24 @@ named contents rows last next at room row same none planned =
     cc
 
 -- no task has its id
-pub planned-unknown : (contents : Contents) (rows : List Row) (last next at room : ℕ) (row : Row) → contents_of rows last next ≡ contents → IsPlanOn contents (planned_of at (Create row) [] room) → row_with row.id rows ≡ None
+pub planned-unknown : (contents : Contents) (rows : List Row) (last next at : ℕ) (room : Room) (row : Row) → contents_of rows last next ≡ contents → IsPlanOn contents (planned_of at (Create row) [] room) → row_with row.id rows ≡ None
 planned-unknown contents rows last next at room row same planned =
     let here : IsPlanOn (contents_of rows last next) (planned_of at (Create row) [] room) = rw same planned in
     (may-create (contents_of rows last next) at (record { id = row.id; definition = row.definition }) here.lawful).1
+
+-- each task that it waits for stands, or is the task itself
+pub planned-stand : (contents : Contents) (rows : List Row) (last next at : ℕ) (room : Room) (row : Row) → contents_of rows last next ≡ contents → IsPlanOn contents (planned_of at (Create row) [] room) → depends_on_these (ids_of rows ++ row.id ∷ []) row ≡ true
+planned-stand contents rows last next at room row same planned =
+    let here : IsPlanOn (contents_of rows last next) (planned_of at (Create row) [] room) = rw same planned in
+    let creation : Creation = record { id = row.id; definition = row.definition } in
+    well-stand creation rows (may-wait (contents_of rows last next) at creation here.lawful)
+
+-- there is room on its lists
+pub planned-lists : (contents : Contents) (rows : List Row) (last next at : ℕ) (room : Room) (row : Row) → contents_of rows last next ≡ contents → IsPlanOn contents (planned_of at (Create row) [] room)
+    → AllZip (HasRoomOn rows) (lists_of (record { id = row.id; definition = row.definition })) room.lists
+planned-lists contents rows last next at room row same planned =
+    let here : IsPlanOn (contents_of rows last next) (planned_of at (Create row) [] room) = rw same planned in
+    here.room.1
 
 -- a task that was planned is created
 pub applied-made : (contents : Contents) (rows new : List Row) (last next at : ℕ) (row : Row) → contents_of rows last next ≡ contents → list_any (is_ready rows) rows ≡ false → new ≡ rows ++ row ∷ []

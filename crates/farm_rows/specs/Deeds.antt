@@ -9,7 +9,7 @@ use Rattle.farm_record.specs.declared.change.Kind.TheVariants as kinds
 use Rattle.farm_rows.specs.Contents.{row_with}
 use Rattle.farm_rows.specs.Due.{draws}
 use Rattle.farm_rows.specs.Changes.{change_row, reason_of, claim_of, all_claimed}
-use Rattle.farm_rows.specs.Plans.{Planned}
+use Rattle.farm_rows.specs.Plans.{Planned, Room}
 use Rattle.farm_rows.specs.declared.plan.Deed.{Deed}
 use Rattle.farm_rows.specs.declared.plan.Deed.TheVariants as deeds
 
@@ -37,7 +37,7 @@ abbrev pub shown_of : Deed → List Row → List Row
 shown_of (deeds.Create row) rows = row ∷ []
 shown_of _ rows = rows
 
-abbrev pub planned_of : ℕ → Deed → List Row → ℕ → Planned
+abbrev pub planned_of : ℕ → Deed → List Row → Room → Planned
 planned_of at deed rows room = record { change = change_of at deed; rows = shown_of deed rows; room = room }
 
 -- what becomes of the tasks that stand, where a new run has this number

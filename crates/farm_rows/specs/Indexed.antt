@@ -9,6 +9,7 @@ use Rattle.farm_rows.specs.Members.{MayBeMembers}
 use Rattle.farm_rows.specs.Dated.{MayBeDue}
 use Rattle.farm_rows.specs.Dependencies.{MayBeDependencies}
 use Rattle.farm_rows.specs.Queues.{MayBeQueues}
+use Rattle.farm_rows.specs.PlaceLists.{KeptPlaces, AreListed}
 
 -- all that is kept beside these tasks is right, as far as it is kept
 pub record IsIndexOf (index : Index) (rows : List Row) : Type 0 where
@@ -31,6 +32,7 @@ pub record IsIndexBut (place : ℕ) (index : Index) (rows : List Row) : Type 0 w
   pub later : IsLaterAt place before rows
 
 -- what tables keep, and what is kept beside
-pub record AreTables (rows : List Row) (last next : ℕ) (capacity : ℕ) (index : Index) : Type 0 where
+pub record AreTables (rows : List Row) (last next : ℕ) (capacity : ℕ) (index : Index) (lists : List KeptPlaces) : Type 0 where
   pub kept : IsKept rows last next capacity
   pub indexed : IsIndexOf index rows
+  pub listed : AreListed lists rows

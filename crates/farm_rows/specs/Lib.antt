@@ -18,4 +18,5 @@ pub mod Placed
 pub mod Queues
 pub mod Dated
 pub mod Dependencies
+pub mod PlaceLists
 pub mod Indexed

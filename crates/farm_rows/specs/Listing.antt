@@ -1,4 +1,4 @@
--- Where the tasks of a list stand. The contracts of private functions alone speak of these.
+-- Where the tasks of a list stand, counted from 0 in the order of their creation (own; the lists are those of the Taskcluster reference).
 use Rattle.std.specs.Prelude.{ℕ, ◌+◌, Bool, List, [], ◌∷◌, filter, nat_le, if◌then◌else◌}
 use Rattle.run_states.specs.Rows.{Row}
 use Rattle.farm_rows.specs.declared.lists.TaskList.{TaskList}
@@ -13,6 +13,6 @@ places_from test place (row ∷ rows) = if test row then place ∷ places_from t
 abbrev pub places_of : TaskList → List Row → List ℕ
 places_of list rows = places_from (is_listed list) 0 rows
 
--- the places from this one on
+-- the places from this one on (the contracts of private functions alone speak of it)
 abbrev pub starting_at : ℕ → List ℕ → List ℕ
 starting_at start places = filter (λ place. nat_le start place) places

@@ -1,12 +1,12 @@
 //! Which tasks wait for which, by their places. Only `note` takes memory.
 ghost use Rattle.std.specs.Prelude.{◌≡◌, ◌^◌, ◌≤◌, ◌<◌, ◌↔◌, ◌∷◌, [], ◌++◌, true, Some, IsTrue, OnOk, length, option_copied};
-ghost use Rattle.dep_graph.specs.Nodes.{no_graph, may_be_added, dependants_of};
+ghost use Rattle.dep_graph.specs.Nodes.{no_graph, may_be_added};
 ghost use Rattle.dep_graph.specs.Ready.{ready_row};
 ghost use Rattle.farm_rows.specs.Placed.{ArePlaced};
 ghost use Rattle.farm_rows.specs.Dependencies.{needs_of, progress_of, adding_of, AreDependencies, AreDependenciesBut};
 
 pub(crate) mod kept;
-mod noted;
+pub(crate) mod noted;
 
 use dep_graph::{Graph, Progress, Requires as Needs};
 use farm_record::Creation;
@@ -112,13 +112,6 @@ impl DependencyGraph {
             Some(row) => Some(row as usize),
             None => None,
         }
-    }
-
-    /// The places of the tasks that depend on the one at this place, in the order of their creation.
-    pub(crate) fn dependants(&self, place: u32) -> &[u32]
-        ensures { result.now ≡ dependants_of self.now.tasks place }
-    {
-        self.graph.dependants(place)
     }
 }
 

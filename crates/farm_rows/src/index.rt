@@ -2,7 +2,7 @@
 //! due first, which wait for which, and which wait in each queue.
 //!
 //! Each part of it may be given up, and then all tasks are walked over. Functions take the tasks beside it.
-ghost use Rattle.std.specs.Prelude.{◌≡◌, ◌≤◌, ◌<◌, ◌++◌, ◌∷◌, [], List, None, IfSome, IfOk, find, filter, min, nat_le, nat_lt, length, take, count_by, slice_get, option_copied};
+ghost use Rattle.std.specs.Prelude.{◌≡◌, ◌≤◌, ◌<◌, ◌++◌, ◌∷◌, [], List, None, IfSome, IfOk, find, filter, min, nat_le, length, count_by, slice_get, option_copied};
 ghost use Rattle.std.specs.List.{position, reduce};
 ghost use Rattle.run_states.specs.Rows.{Row, loses_claim};
 ghost use Rattle.farm_rows.specs.Contents.{row_with};
@@ -10,20 +10,21 @@ ghost use Rattle.farm_rows.specs.Changes.{has_id};
 ghost use Rattle.farm_rows.specs.Due.{all_due_moments, meets_deadline};
 ghost use Rattle.farm_rows.specs.Ready.{is_ready};
 ghost use Rattle.farm_rows.specs.Members.{in_group};
-ghost use Rattle.farm_rows.specs.Listing.{places_of, starting_at};
+ghost use Rattle.farm_rows.specs.declared.lists.TaskList.TheVariants.{Group, Dependants};
+ghost use Rattle.farm_rows.specs.Listing.{places_of};
+ghost use Rattle.farm_rows.specs.Dependencies.{ids_of, place_in};
+ghost use Rattle.farm_rows.specs.PlaceLists.{AreListed};
 ghost use Rattle.farm_rows.specs.Picks.{waits_under, picks, are_picks};
 ghost use Rattle.farm_rows.specs.Indexed.{IsIndexOf, IsIndexBut};
 
 use crate::dependencies::DependencyGraph;
-use crate::dependencies::kept::{
-    keep_added, keep_changed, known_dependants, known_ready, note_added,
-};
+use crate::dependencies::kept::{keep_added, keep_changed, known_ready, note_added};
+use crate::dependencies::noted::place_behind;
 use crate::dues::{Dues, keep_dues, known_deadline, known_lease, reserve};
-use crate::listing::{PlacePage, page_from};
-use crate::lists::TaskList;
 use crate::members::Members;
-use crate::members::kept::{first_of, keep_member, known_members, note_member};
+use crate::members::kept::{first_of, first_place, keep_member, note_member};
 use crate::picks::{are_picks, picks};
+use crate::place_lists::PlaceLists;
 use crate::places::{keep_noted, note_new, place_of, row_with};
 use crate::queues::Queues;
 use crate::queues::kept::{
@@ -106,6 +107,56 @@ impl Index {
         first_of(&self.members, rows, group)
     }
 
+    /// The place of the first task of a group.
+    pub(crate) fn first_place(&self, rows: &[TaskRow], group: SlugId) -> Option<usize>
+        requires { IsIndexOf self.now rows.now }
+        ensures { result ≡ position (in_group group) rows.now }
+    {
+        first_place(&self.members, rows, group)
+    }
+
+    /// The places of the tasks of a group.
+    pub(crate) fn members_of<'a>(
+        &self,
+        rows: &[TaskRow],
+        lists: &'a PlaceLists,
+        group: SlugId,
+    ) -> &'a [u32]
+        requires index { IsIndexOf self.now rows.now }
+        requires listed { AreListed lists.now rows.now }
+        ensures { result.now ≡ places_of (Group group) rows.now }
+    {
+        match self.first_place(rows, group) {
+            Some(place) => lists.members(place),
+            None => &[],
+        }
+    }
+
+    /// The places of the tasks that wait for the one with this id.
+    pub(crate) fn dependants_of<'a>(
+        &self,
+        rows: &[TaskRow],
+        lists: &'a PlaceLists,
+        id: SlugId,
+    ) -> &'a [u32]
+        requires index { IsIndexOf self.now rows.now }
+        requires listed { AreListed lists.now rows.now }
+        ensures { result.now ≡ places_of (Dependants id) rows.now }
+    {
+        match self.place_of(rows, id) {
+            Some(place) => lists.dependants(place),
+            None => &[],
+        }
+    }
+
+    /// The place of a named id among the tasks, with one more behind them that has an id; and behind that one, where none has the named id.
+    pub(crate) fn place_behind(&self, rows: &[TaskRow], id: SlugId, named: SlugId) -> usize
+        requires { IsIndexOf self.now rows.now }
+        ensures { result ≡ place_in (ids_of rows.now ++ id ∷ []) named }
+    {
+        place_behind(rows, self.places.as_ref(), id, named)
+    }
+
     /// The first moment at which something falls due, of those up to this one.
     pub(crate) fn first_due(&self, rows: &[TaskRow], moment: Moment) -> Option<Moment>
         requires { IsIndexOf self.now rows.now }
@@ -147,29 +198,6 @@ impl Index {
         match known_ready(&self.graph) {
             Some(place) => place,
             None => ready_place(&Rows::new(rows, self)),
-        }
-    }
-
-    /// The places of the tasks of a list, from one on, so many at most, where they can be told without a walk.
-    pub(crate) fn listed(
-        &self,
-        rows: &[TaskRow],
-        list: &TaskList,
-        start: usize,
-        limit: u16,
-    ) -> Option<PlacePage<'_>>
-        requires { IsIndexOf self.now rows.now }
-        ensures { IfSome result (λ page. (page.places.now ≡ take limit (starting_at start (places_of list.now rows.now)))
-            × (page.more ≡ nat_lt limit (length (starting_at start (places_of list.now rows.now))))) }
-    {
-        match list {
-            TaskList::Group(group) => known_members(&self.members, *group, start, limit),
-            TaskList::Dependants(id) => {
-                match known_dependants(&self.graph, rows, self.places.as_ref(), *id) {
-                    Some(places) => Some(page_from(places, start, usize::from(limit))),
-                    None => None,
-                }
-            }
         }
     }
 

@@ -16,6 +16,7 @@ mod lists;
 mod members;
 mod moves;
 mod picks;
+mod place_lists;
 mod places;
 mod plan;
 mod queues;
@@ -38,6 +39,7 @@ pub use laws::{
     settling_goes_one_by_one, settling_takes_nothing_away, tables_cross_threads,
     tasks_and_runs_stay, what_is_served_stays,
 };
+pub use listing::PlacePage;
 pub use lists::{Page, TaskList};
 pub use moves::reason_of;
 pub use plan::TaskPlan;

@@ -1,18 +1,42 @@
 //! Pages of tasks, by the places at which these stand.
-ghost use Rattle.std.specs.Prelude.{◌≡◌, ◌<◌, ◌≤◌, All, IfOk, Some, drop, length, map, nat_lt, slice_get, take};
+ghost use Rattle.std.specs.Prelude.{◌≡◌, ◌↔◌, ◌+◌, ◌<◌, ◌≤◌, [], All, IfOk, IfSome, IsNone, MatchOption, Some, drop, length, map, nat_lt, slice_get, take};
 ghost use Rattle.std.specs.List.{AllPairs};
+ghost use Rattle.task_groups.specs.Pages.{page_rows, has_more};
 ghost use Rattle.farm_rows.specs.Listing.{starting_at};
 
 use crate::lists::Page;
 use run_states::TaskRow;
 use std::alloc::{AllocError, Global};
 
-/// The places of some tasks of a list, in the order of their creation.
+/// The places of some tasks of a list, in the order of their creation. A place is counted from 0 in that order among all tasks.
 #[derive(Debug, Drop)]
-pub(crate) struct PlacePage<'a> {
-    pub(crate) places: &'a [u32],
+pub struct PlacePage<'a> {
+    pub places: &'a [u32],
     /// Whether the list has tasks behind these.
-    pub(crate) more: bool,
+    pub more: bool,
+}
+
+/// So many of some places at most, from behind one on, or from the first, where there is none; or none, where there are no places.
+pub(crate) fn page_behind(places: &[u32], after: Option<u32>, limit: u16) -> Option<PlacePage<'_>>
+    requires { AllPairs (λ x y. x < y) places.now }
+    ensures none { IsNone result ↔ (places.now ≡ []) }
+    ensures places { IfSome result (λ page. page.places.now ≡ page_rows after limit places.now) }
+    ensures more { IfSome result (λ page. page.more ≡ has_more after limit places.now) }
+{
+    if places.is_empty() {
+        return None;
+    }
+    Some(page_from(places, first_behind(after), usize::from(limit)))
+}
+
+/// The first place behind this one, or the first of all.
+fn first_behind(after: Option<u32>) -> usize
+    ensures { MatchOption after (result ≡ 0) (λ place. place + 1 ≡ result) }
+{
+    match after {
+        Some(place) => place as usize + 1,
+        None => 0,
+    }
 }
 
 /// So many of some places at most, from one on.

@@ -3,8 +3,10 @@ ghost use Rattle.std.specs.Prelude.{◌≡◌, ◌≤◌, map, take, drop, true,
 ghost use Rattle.std.specs.List.{list_any};
 ghost use Rattle.farm_rows.specs.Changes.{on_row};
 ghost use Rattle.farm_rows.specs.Lists.{is_listed, listed, names_listed, behind_id, behind, page_rows, has_more};
+ghost use Rattle.farm_rows.specs.PlaceLists.{AreListed};
 
-use crate::listing::page_at;
+use crate::listing::{page_at, page_from};
+use crate::place_lists::PlaceLists;
 use crate::rows::Rows;
 use farm_text::SlugId;
 use run_states::TaskRow;
@@ -60,16 +62,18 @@ fn is_among(ids: &[SlugId], id: SlugId) -> bool
 pub(crate) fn page_behind<'a>(
     alloc: Global,
     rows: &Rows<'a>,
+    lists: &PlaceLists,
     list: &TaskList,
     after: Option<SlugId>,
     limit: u16,
 ) -> Result<Option<Page<'a>>, AllocError>
+    requires { AreListed lists.now rows.now }
     ensures { IfOk result (λ page. MatchOption page (names_listed list.now after rows.now ≡ false)
         (λ p. (names_listed list.now after rows.now ≡ true) × (map (λ row. row.now) p.rows.items ≡ page_rows after limit (listed list.now rows.now))
         × (p.more ≡ has_more after limit (listed list.now rows.now)))) }
 {
     match start_of(rows, list, after) {
-        Some(start) => Ok(Some(page_starting_at(alloc, rows, list, start, limit)?)),
+        Some(start) => Ok(Some(page_starting_at(alloc, rows, lists, list, start, limit)?)),
         None => Ok(None),
     }
 }
@@ -108,45 +112,19 @@ fn start_behind(rows: &Rows<'_>, list: &TaskList, token: SlugId) -> Option<usize
 fn page_starting_at<'a>(
     alloc: Global,
     rows: &Rows<'a>,
+    lists: &PlaceLists,
     list: &TaskList,
     start: usize,
     limit: u16,
 ) -> Result<Page<'a>, AllocError>
-    requires { start ≤ length rows.now }
+    requires { AreListed lists.now rows.now }
     ensures { IfOk result (λ p. (map (λ row. row.now) p.rows.items ≡ take limit (listed list.now (drop start rows.now)))
         × (p.more ≡ nat_lt limit (length (listed list.now (drop start rows.now))))) }
 {
-    let all = rows.list();
-    match rows.listed(list, start, limit) {
-        Some(page) => page_at(alloc, all, page),
-        None => page_of(alloc, &all[start..], list, usize::from(limit)),
-    }
-}
-
-/// The first tasks of these that are on a list, so many at most.
-fn page_of<'a>(
-    alloc: Global,
-    rows: &'a [TaskRow],
-    list: &TaskList,
-    limit: usize,
-) -> Result<Page<'a>, AllocError>
-    ensures { IfOk result (λ p. (map (λ row. row.now) p.rows.items ≡ take limit (listed list.now rows.now))
-        × (p.more ≡ nat_lt limit (length (listed list.now rows.now)))) }
-{
-    let mut found = Vec::new(alloc);
-    for row in rows {
-        if is_listed(list, row) {
-            if found.len() == limit {
-                return Ok(Page {
-                    rows: found,
-                    more: true,
-                });
-            }
-            found.push(row)?;
-        }
-    }
-    Ok(Page {
-        rows: found,
-        more: false,
-    })
+    let places = rows.places_on(lists, list);
+    page_at(
+        alloc,
+        rows.list(),
+        page_from(places, start, usize::from(limit)),
+    )
 }

@@ -1,13 +1,11 @@
 //! The tasks of each group, by their places. Only `note` takes memory.
-ghost use Rattle.std.specs.Prelude.{◌≡◌, ◌+◌, ◌<◌, ◌^◌, ◌↔◌, ◌∷◌, [], ◌++◌, IfSome, IsTrue, MatchOption, OnOk, Some, length, nat_lt, slice_get, take};
+ghost use Rattle.std.specs.Prelude.{◌≡◌, ◌+◌, ◌<◌, ◌^◌, ◌↔◌, ◌∷◌, [], ◌++◌, IfSome, IsTrue, OnOk, Some, length, slice_get};
 ghost use Rattle.task_groups.specs.Members.{no_groups, rows_of, kept_scheduler};
-ghost use Rattle.farm_rows.specs.Listing.{starting_at};
 ghost use Rattle.farm_rows.specs.Members.{joining_of, AreMembers};
 
 pub(crate) mod kept;
 mod noted;
 
-use crate::listing::PlacePage;
 use farm_text::SlugId;
 use noted::Noted;
 use run_states::TaskRow;
@@ -98,28 +96,4 @@ impl Members {
             None => None,
         }
     }
-
-    /// The places of the tasks of a group, from one on, so many at most.
-    pub(crate) fn list(&self, group: SlugId, start: u32, limit: u16) -> PlacePage<'_>
-        ensures places { result.places.now ≡ take limit (starting_at start (rows_of group self.now.groups)) }
-        ensures more { result.more ≡ nat_lt limit (length (starting_at start (rows_of group self.now.groups))) }
-    {
-        match self.groups.list(group, place_before(start), limit) {
-            Some(page) => PlacePage {
-                places: page.rows,
-                more: page.more,
-            },
-            None => PlacePage {
-                places: &[],
-                more: false,
-            },
-        }
-    }
-}
-
-/// The place before this one, where there is one.
-fn place_before(start: u32) -> Option<u32>
-    ensures { MatchOption result (start ≡ 0) (λ place. place + 1 ≡ start) }
-{
-    start.checked_sub(1)
 }

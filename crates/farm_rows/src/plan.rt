@@ -1,6 +1,7 @@
 //! A change that may be made and has all its memory.
 ghost use Rattle.std.specs.Prelude.{◌≡◌};
 
+use crate::place_lists::room::Room;
 use farm_record::{Claim, Reclaim, Resolution};
 use farm_text::{Moment, SlugId};
 use run_states::{Claim as RunClaim, RunRoom, TaskRow};
@@ -27,8 +28,8 @@ pub struct TaskPlan {
     pub(crate) deed: Deed,
     /// The tasks that stand and that the change names, as they will be. Their definitions are shared with those that stand.
     pub(crate) rows: Vec<TaskRow>,
-    /// A longer list for the tasks, without any yet, where the tables are full and a task is created; else one without room.
-    pub(crate) grown: Vec<TaskRow>,
+    /// The room that it brings, where a task is created.
+    pub(crate) room: Room,
     /// A claim for each run that is taken.
     pub(crate) claims: Vec<RunClaim>,
     /// Room for the runs of the task, where one is run again.
@@ -36,7 +37,7 @@ pub struct TaskPlan {
 }
 
 impl Model for TaskPlan {
-    ghost use Rattle.std.specs.Prelude.{◌≡◌, [], vec_capacity};
+    ghost use Rattle.std.specs.Prelude.{◌≡◌};
     ghost use Rattle.std.specs.Coded.{codes};
     ghost use Rattle.task_defs.specs.Codes.{members_code};
     ghost use Rattle.farm_rows.specs.Plans.{Planned};
@@ -46,9 +47,9 @@ impl Model for TaskPlan {
 
     ghost coded = { Prim.hlevel (codes, members_code) };
 
-    ghost view = { λ p. planned_of p.at p.deed p.rows.items (vec_capacity p.grown) };
+    ghost view = { λ p. planned_of p.at p.deed p.rows.items p.room };
 
-    ghost invariant = { λ p. (p.grown.items ≡ []) × (p.claims.items ≡ claims_of p.at p.deed) × (p.run_room ≡ run_room_of p.deed) };
+    ghost invariant = { λ p. (p.claims.items ≡ claims_of p.at p.deed) × (p.run_room ≡ run_room_of p.deed) };
 }
 
 impl TaskPlan {

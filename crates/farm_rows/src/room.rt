@@ -1,20 +1,22 @@
-//! Room for the tasks, which is taken before it is needed: a list that is longer stands ready wherever the tables are full. And room for
-//! the runs of a task that is run again.
-ghost use Rattle.std.specs.Prelude.{◌≡◌, ◌+◌, ◌<◌, ◌≤◌, [], ◌∷◌, ◌++◌, max, vec_len, vec_capacity, IfOk};
-ghost use Rattle.farm_rows.specs.Plans.{room_for};
+//! Room that is taken before it is needed: a list that is longer stands ready wherever one is full. For how many a list has room at least is
+//! a function of how many it has, so a plan knows what is wanting from the tasks alone.
+ghost use Rattle.std.specs.Prelude.{◌≡◌, ◌+◌, ◌<◌, ◌≤◌, [], ◌∷◌, ◌++◌, max, length, vec_len, vec_capacity, IfOk};
+ghost use Rattle.farm_rows.specs.Plans.{room_for, HasRoom};
 ghost use Rattle.farm_rows.specs.Deeds.{run_room_of};
 
 use crate::plan::Deed;
-use run_states::{RunRoom, TaskRow};
+use run_states::RunRoom;
 use std::alloc::{AllocError, Global};
+use std::marker::Model;
 
-/// For how many tasks there is room at least where so many stand.
+/// For how many there is room at least where there are so many.
 fn room_for(stand: usize) -> usize
     ensures { result ≡ room_for stand }
 {
     match stand {
         0 => 0,
-        1..=64 => 64,
+        1..=8 => 8,
+        9..=64 => 64,
         65..=512 => 512,
         513..=4_096 => 4_096,
         4_097..=32_768 => 32_768,
@@ -23,10 +25,10 @@ fn room_for(stand: usize) -> usize
     }
 }
 
-/// A list without tasks that has room for one more than so many, where lists of so many have none.
-pub(crate) fn grown(alloc: Global, stand: usize) -> Result<Vec<TaskRow>, AllocError>
+/// An empty list that has room for one more than so many, where lists of so many have none.
+pub(crate) fn grown<T: Drop>(alloc: Global, stand: usize) -> Result<Vec<T>, AllocError>
     requires { stand ≤ 1_000_000 }
-    ensures { IfOk result (λ v. (v.items ≡ []) × (room_for (stand + 1) ≤ max (room_for stand) (vec_capacity v))) }
+    ensures { IfOk result (λ v. (v.items ≡ []) × HasRoom stand (vec_capacity v)) }
 {
     let room = room_for(stand + 1);
     if room > room_for(stand) {
@@ -36,31 +38,77 @@ pub(crate) fn grown(alloc: Global, stand: usize) -> Result<Vec<TaskRow>, AllocEr
     }
 }
 
-/// Adds a task to the tasks, which move into a list without tasks, where that has more room.
-pub(crate) fn add(rows: &mut Vec<TaskRow>, grown: Vec<TaskRow>, row: TaskRow)
+/// Adds an item to a list, which moves into an empty one, where that has more room.
+pub(crate) fn add<T: Drop>(list: &mut Vec<T>, grown: Vec<T>, item: T)
     requires empty { grown.items ≡ [] }
-    requires room { vec_len rows.old < max (vec_capacity rows.old) (vec_capacity grown) }
-    ensures items { rows.new.items ≡ rows.old.items ++ row ∷ [] }
-    ensures capacity { max (vec_capacity rows.old) (vec_capacity grown) ≤ vec_capacity rows.new }
+    requires room { vec_len list.old < max (vec_capacity list.old) (vec_capacity grown) }
+    ensures items { list.new.items ≡ list.old.items ++ item ∷ [] }
+    ensures capacity { max (vec_capacity list.old) (vec_capacity grown) ≤ vec_capacity list.new }
 {
-    make_room(rows, grown);
-    if rows.push(row).is_err() {
+    make_room(list, grown);
+    if list.push(item).is_err() {
         unreachable!();
     }
 }
 
-/// Moves the tasks into a list without tasks, where that has more room.
-fn make_room(rows: &mut Vec<TaskRow>, mut grown: Vec<TaskRow>)
+/// Moves a list into an empty one, where that has more room.
+fn make_room<T: Drop>(list: &mut Vec<T>, mut grown: Vec<T>)
     requires { grown.items ≡ [] }
-    ensures items { rows.new.items ≡ rows.old.items }
-    ensures len { vec_len rows.new ≡ vec_len rows.old }
-    ensures capacity { max (vec_capacity rows.old) (vec_capacity grown) ≤ vec_capacity rows.new }
+    ensures items { list.new.items ≡ list.old.items }
+    ensures len { vec_len list.new ≡ vec_len list.old }
+    ensures capacity { max (vec_capacity list.old) (vec_capacity grown) ≤ vec_capacity list.new }
 {
-    if grown.capacity() > rows.capacity() {
-        if grown.append(rows).is_err() {
+    if grown.capacity() > list.capacity() {
+        if grown.append(list).is_err() {
             unreachable!();
         }
-        *rows = grown;
+        *list = grown;
+    }
+}
+
+/// A list without places that a plan brings, where one is full; else one without room. It is seen as the number for which it has room.
+#[derive(Debug, Drop)]
+pub(crate) struct Spare {
+    places: Vec<u32>,
+}
+
+impl Model for Spare {
+    ghost use Rattle.std.specs.Prelude.{◌≡◌, ℕ, [], vec_capacity};
+
+    ghost Value = { ℕ };
+
+    ghost view = { λ s. vec_capacity s.places };
+
+    ghost invariant = { λ s. s.places.items ≡ [] };
+}
+
+impl Spare {
+    /// No room, which takes no memory.
+    pub(crate) fn none(alloc: Global) -> Spare {
+        Spare {
+            places: Vec::new(alloc),
+        }
+    }
+
+    /// Room for one more than so many, where lists of so many have none.
+    pub(crate) fn new(alloc: Global, stand: usize) -> Result<Spare, AllocError>
+        requires { stand ≤ 1_000_000 }
+        ensures { IfOk result (λ spare. HasRoom stand spare) }
+    {
+        Ok(Spare {
+            places: grown(alloc, stand)?,
+        })
+    }
+
+    /// Adds a place to a list, which moves into this one, where that has more room.
+    pub(crate) fn add(self, list: &mut Vec<u32>, place: u32)
+        requires few { length list.old.items ≤ 1_000_000 }
+        requires kept { room_for (length list.old.items) ≤ vec_capacity list.old }
+        requires room { HasRoom (length list.old.items) self }
+        ensures items { list.new.items ≡ list.old.items ++ place ∷ [] }
+        ensures kept { room_for (length list.new.items) ≤ vec_capacity list.new }
+    {
+        add(list, self.places, place);
     }
 }
 

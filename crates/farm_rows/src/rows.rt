@@ -1,16 +1,17 @@
 //! The tasks, with what is kept beside them.
-ghost use Rattle.std.specs.Prelude.{◌≡◌, ◌<◌, IfSome, find, length, nat_lt, slice_get, option_copied, take};
+ghost use Rattle.std.specs.Prelude.{◌≡◌, ◌<◌, IfSome, find, length, slice_get, option_copied};
 ghost use Rattle.std.specs.List.{position};
 ghost use Rattle.farm_rows.specs.Changes.{has_id};
 ghost use Rattle.farm_rows.specs.Contents.{row_with};
 ghost use Rattle.farm_rows.specs.Members.{in_group};
-ghost use Rattle.farm_rows.specs.Listing.{places_of, starting_at};
+ghost use Rattle.farm_rows.specs.Listing.{places_of};
 ghost use Rattle.farm_rows.specs.Picks.{are_picks};
 ghost use Rattle.farm_rows.specs.Indexed.{IsIndexOf};
+ghost use Rattle.farm_rows.specs.PlaceLists.{AreListed};
 
 use crate::index::Index;
-use crate::listing::PlacePage;
 use crate::lists::TaskList;
+use crate::place_lists::PlaceLists;
 use farm_record::RunName;
 use farm_text::SlugId;
 use run_states::TaskRow;
@@ -84,11 +85,14 @@ impl<'a> Rows<'a> {
         self.index.first_of(self.list, group)
     }
 
-    /// The places of the tasks of a list, from one on, so many at most, where they can be told without a walk.
-    pub(crate) fn listed(&self, list: &TaskList, start: usize, limit: u16) -> Option<PlacePage<'a>>
-        ensures { IfSome result (λ page. (page.places.now ≡ take limit (starting_at start (places_of list.now self.now)))
-            × (page.more ≡ nat_lt limit (length (starting_at start (places_of list.now self.now))))) }
+    /// The places of the tasks of a list.
+    pub(crate) fn places_on<'b>(&self, lists: &'b PlaceLists, list: &TaskList) -> &'b [u32]
+        requires { AreListed lists.now self.now }
+        ensures { result.now ≡ places_of list.now self.now }
     {
-        self.index.listed(self.list, list, start, limit)
+        match list {
+            TaskList::Group(group) => self.index.members_of(self.list, lists, *group),
+            TaskList::Dependants(id) => self.index.dependants_of(self.list, lists, *id),
+        }
     }
 }

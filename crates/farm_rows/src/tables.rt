@@ -1,11 +1,13 @@
 //! The tables of a farm's tasks.
-ghost use Rattle.std.specs.Prelude.{◌≡◌, ◌<◌, ◌≤◌, [], true, true, false, map, Some, None, length, vec_capacity, slice_get, count_by, option_copied, IfOk, MatchOption};
+ghost use Rattle.std.specs.Prelude.{◌≡◌, ◌↔◌, ◌<◌, ◌≤◌, [], true, true, false, map, Some, None, length, slice_get, count_by, option_copied, IfOk, IfSome, IsNone, MatchOption};
 ghost use Rattle.farm_text.specs.declared.moment.TheConstants.{LAST_TOLD_MOMENT};
 ghost use Rattle.farm_rows.specs.Contents.{no_contents, row_with, counts_of, HaveOwnIds};
 ghost use Rattle.farm_rows.specs.Due.{is_due, advance};
 ghost use Rattle.farm_rows.specs.Picks.{waits_under, picks};
 ghost use Rattle.farm_rows.specs.Changes.{on_row, kept_scheduler, may_create, may_be, may_apply, applied};
 ghost use Rattle.farm_rows.specs.Waits.{missing_dependency, early_dependency};
+ghost use Rattle.task_groups.specs.Pages.{page_rows as page_places, has_more as has_more_places};
+ghost use Rattle.farm_rows.specs.Listing.{places_of};
 ghost use Rattle.farm_rows.specs.Lists.{is_listed, listed, names_listed, page_rows, has_more};
 ghost use Rattle.farm_rows.specs.Plans.{IsPlanOn};
 ghost use Rattle.farm_rows.specs.Deeds.{change_of, row_of, planned_of, claims_of, run_room_of};
@@ -19,8 +21,12 @@ use crate::checks::{
 };
 use crate::counts::RowCounts;
 use crate::index::Index;
+use crate::listing::{PlacePage, page_behind as place_page};
 use crate::lists::{Page, TaskList, lists, page_behind};
 use crate::picks::may_claim;
+use crate::place_lists::PlaceLists;
+use crate::place_lists::coming::keep_listed;
+use crate::place_lists::room::Room;
 use crate::plan::{Deed, TaskPlan};
 use crate::room::add;
 use crate::rows::Rows;
@@ -47,6 +53,8 @@ pub struct TaskTables {
     next: u64,
     /// What is kept beside the tasks.
     index: Index,
+    /// The places of the tasks on each list.
+    lists: PlaceLists,
 }
 
 impl Model for TaskTables {
@@ -62,7 +70,7 @@ impl Model for TaskTables {
 
     ghost view = { λ t. record { rows = t.rows.items; last = t.last; next = t.next } };
 
-    ghost invariant = { λ t. AreTables t.rows.items t.last t.next (vec_capacity t.rows) t.index };
+    ghost invariant = { λ t. AreTables t.rows.items t.last t.next (vec_capacity t.rows) t.index t.lists };
 }
 
 impl TaskTables {
@@ -75,6 +83,7 @@ impl TaskTables {
             last: Moment::FIRST,
             next: 0,
             index: Index::new(alloc),
+            lists: PlaceLists::new(alloc),
         }
     }
 
@@ -147,6 +156,28 @@ impl TaskTables {
         self.index.pending(&self.rows, queue) as u32
     }
 
+    /// The places of the tasks of a group behind the one at a place, or of the first ones where there is none, so many at most, in the order of
+    /// their creation; or none, where no task is of the group. It takes no memory.
+    pub fn list(&self, group: SlugId, after: Option<u32>, limit: u16) -> Option<PlacePage<'_>>
+        ensures none { IsNone result ↔ (places_of (TaskList.Group group) self.now.rows ≡ []) }
+        ensures places { IfSome result (λ page. page.places.now ≡ page_places after limit (places_of (TaskList.Group group) self.now.rows)) }
+        ensures more { IfSome result (λ page. page.more ≡ has_more_places after limit (places_of (TaskList.Group group) self.now.rows)) }
+    {
+        place_page(
+            self.index.members_of(&self.rows, &self.lists, group),
+            after,
+            limit,
+        )
+    }
+
+    /// The places of the tasks that wait for the one with this id, in the order of their creation; none, where no task has it. It takes no
+    /// memory.
+    pub fn dependants(&self, id: SlugId) -> &[u32]
+        ensures { result.now ≡ places_of (TaskList.Dependants id) self.now.rows }
+    {
+        self.index.dependants_of(&self.rows, &self.lists, id)
+    }
+
     /// How the tasks stand, counted.
     pub fn summary(&self) -> Summary
         ensures { result ≡ summary_of self.now.rows }
@@ -210,7 +241,7 @@ impl TaskTables {
             × (map (λ row. row.now) p.rows.items ≡ page_rows after limit (listed list.now self.now.rows))
             × (p.more ≡ has_more after limit (listed list.now self.now.rows)))) }
     {
-        page_behind(alloc, &self.by_ids(), list, after, limit)
+        page_behind(alloc, &self.by_ids(), &self.lists, list, after, limit)
     }
 
     /// The plan of a change, with all the memory that it takes, or none where the change may not be made. The tables stay as they were,
@@ -275,23 +306,37 @@ impl TaskTables {
             at,
             deed,
             rows: _,
-            grown,
+            room,
             claims,
             run_room,
         } = plan;
         match deed {
-            Deed::Create(row) => self.create(at, row, grown),
+            Deed::Create(row) => self.create(at, row, room),
             deed => self.change(at, &deed, claims, run_room),
         }
     }
 
     /// Adds a task that is created.
-    fn create(&mut self, at: Moment, row: TaskRow, grown: Vec<TaskRow>)
-        requires empty { grown.items ≡ [] }
-        requires plan { IsPlanOn self.old (planned_of at (Deed.Create row) [] (vec_capacity grown)) }
+    fn create(&mut self, at: Moment, row: TaskRow, room: Room)
+        requires { IsPlanOn self.old (planned_of at (Deed.Create row) [] room) }
         ensures { self.new ≡ applied self.old (change_of at (Deed.Create row)) }
     {
         let drawn = row.runs().len() as u64;
+        let Room {
+            rows: grown,
+            lists,
+            member,
+            waited,
+        } = room;
+        keep_listed(
+            &mut self.lists,
+            &self.rows,
+            &self.index,
+            &row,
+            lists,
+            member,
+            waited,
+        );
         self.index.added(&self.rows, &row);
         add(&mut self.rows, grown, row);
         self.next += drawn;

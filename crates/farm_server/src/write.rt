@@ -12,7 +12,7 @@ use farm_machine::reply::Reply;
 use http_wire::{Link, write_all};
 
 /// Up to how many bytes a head and a body are put together for one write.
-const PIECE: usize = 1_024;
+const PIECE: usize = 4_096;
 
 /// Writes a reply, which says whether it closes the connection: in one write, where it is short.
 pub(crate) fn write_reply<L: Link>(link: &mut L, reply: &Reply, closes: bool) -> Result<(), Failed>

@@ -5,13 +5,9 @@ ghost use Rattle.run_states.specs.Rows.{Row};
 ghost use Rattle.farm_rows.specs.Ready.{is_ready};
 ghost use Rattle.farm_rows.specs.Placed.{ArePlaced};
 ghost use Rattle.farm_rows.specs.Dependencies.{MayBeDependencies, MayBeDependenciesBut};
-ghost use Rattle.farm_rows.specs.Listing.{places_of};
 
 use crate::dependencies::DependencyGraph;
-use crate::lists::TaskList;
-use crate::places::place_of;
 use farm_record::Creation;
-use farm_text::SlugId;
 use run_states::TaskRow;
 use slug_places::places::Places;
 use std::alloc::{AllocError, Global};
@@ -23,27 +19,6 @@ pub(crate) fn known_ready(graph: &Option<DependencyGraph>) -> Option<Option<usiz
     match graph {
         Some(graph) => Some(graph.ready()),
         None => None,
-    }
-}
-
-/// The places of the tasks that wait for the one with this id, where they can be told without a walk.
-pub(crate) fn known_dependants<'a>(
-    graph: &'a Option<DependencyGraph>,
-    rows: &[TaskRow],
-    places: Option<&Places>,
-    id: SlugId,
-) -> Option<&'a [u32]>
-    requires placed { ArePlaced (option_copied places) rows.now }
-    requires all { MayBeDependencies graph.now rows.now }
-    ensures { IfSome result (λ found. found.now ≡ places_of (TaskList.Dependants id) rows.now) }
-{
-    let Some(graph) = graph else {
-        return None;
-    };
-    match place_of(rows, places, id) {
-        Some(place) if place <= u32::MAX as usize => Some(graph.dependants(place as u32)),
-        Some(_) => None,
-        None => Some(&[]),
     }
 }
 

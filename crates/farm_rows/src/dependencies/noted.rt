@@ -97,7 +97,12 @@ fn are_places(
 }
 
 /// The place of a named id among the tasks, with one more behind them that has an id; and behind that one, where none has the named id.
-fn place_behind(rows: &[TaskRow], places: Option<&Places>, id: SlugId, named: SlugId) -> usize
+pub(crate) fn place_behind(
+    rows: &[TaskRow],
+    places: Option<&Places>,
+    id: SlugId,
+    named: SlugId,
+) -> usize
     requires { ArePlaced (option_copied places) rows.now }
     ensures place { result ≡ place_in (ids_of rows.now ++ id ∷ []) named }
     ensures few { result ≤ length rows.now + 1 }

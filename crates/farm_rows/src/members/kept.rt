@@ -1,11 +1,9 @@
 //! The tasks of each group, where they are kept: a task for which there is no room makes them be given up.
-ghost use Rattle.std.specs.Prelude.{◌≡◌, ◌∷◌, [], ◌++◌, IfSome, List, find, length, nat_lt, option_copied, slice_get, take};
+ghost use Rattle.std.specs.Prelude.{◌≡◌, ◌∷◌, [], ◌++◌, List, find, option_copied, slice_get};
+ghost use Rattle.std.specs.List.{position};
 ghost use Rattle.run_states.specs.Rows.{Row};
-ghost use Rattle.farm_rows.specs.Listing.{places_of, starting_at};
 ghost use Rattle.farm_rows.specs.Members.{in_group, AreMembers, MayBeMembers};
 
-use crate::listing::PlacePage;
-use crate::lists::TaskList;
 use crate::members::Members;
 use farm_record::Creation;
 use farm_text::SlugId;
@@ -53,23 +51,37 @@ fn sought_first(rows: &[TaskRow], group: SlugId) -> Option<&TaskRow>
         .find(|row| row.definition().task_group_id == group)
 }
 
-/// The places of the tasks of a group, from one on, so many at most, where they can be told without a walk.
-pub(crate) fn known_members(
+/// The place of the first task of a group.
+pub(crate) fn first_place(
     members: &Option<Members>,
+    rows: &[TaskRow],
     group: SlugId,
-    start: usize,
-    limit: u16,
-) -> Option<PlacePage<'_>>
-    ensures { (rows : List Row) → MayBeMembers members.now rows
-        → IfSome result (λ page. (page.places.now ≡ take limit (starting_at start (places_of (TaskList.Group group) rows)))
-        × (page.more ≡ nat_lt limit (length (starting_at start (places_of (TaskList.Group group) rows))))) }
+) -> Option<usize>
+    requires { MayBeMembers members.now rows.now }
+    ensures { result ≡ position (in_group group) rows.now }
 {
     match members {
-        Some(members) if start <= u32::MAX as usize => {
-            Some(members.list(group, start as u32, limit))
-        }
-        _ => None,
+        Some(members) => kept_first(members, group),
+        None => sought_place(rows, group),
     }
+}
+
+/// The place that is kept as the first of a group.
+fn kept_first(members: &Members, group: SlugId) -> Option<usize>
+    ensures { (rows : List Row) → AreMembers members.now.groups rows → result ≡ position (in_group group) rows }
+{
+    match members.first(group) {
+        Some(place) => Some(place as usize),
+        None => None,
+    }
+}
+
+/// The place of the first task of a group, which is looked for among all.
+fn sought_place(rows: &[TaskRow], group: SlugId) -> Option<usize>
+    ensures { result ≡ position (in_group group) rows.now }
+{
+    rows.iter()
+        .position(|row| row.definition().task_group_id == group)
 }
 
 /// Takes the memory for a task that is to come. Where memory is wanting, all tasks stay.

@@ -1,14 +1,16 @@
 //! The plans of changes of the tables.
 ghost use Rattle.std.specs.Prelude.{◌≡◌, true, false, None, IfOk, OnOk, MatchOption};
 ghost use Rattle.farm_rows.specs.Contents.{row_with, HaveOwnIds};
-ghost use Rattle.farm_rows.specs.Ready.{settled_row};
+ghost use Rattle.farm_rows.specs.Ready.{has_ready, settled_row};
 ghost use Rattle.farm_rows.specs.Changes.{creating, may_apply};
-ghost use Rattle.farm_rows.specs.Plans.{named_rows, IsPlanOn};
+ghost use Rattle.farm_record.specs.declared.change.Kind.TheVariants.{Create};
+ghost use Rattle.farm_rows.specs.Plans.{named_rows, FindsRoom, IsPlanOn};
 ghost use Rattle.farm_rows.specs.Deeds.{kind_of, change_of, row_of, claims_of, rows_after};
 
 use crate::copies::claims;
+use crate::place_lists::room::Room;
 use crate::plan::{Deed, TaskPlan};
-use crate::room::{grown, run_room};
+use crate::room::run_room;
 use crate::settle::settle_new;
 use crate::shown::shown;
 use crate::tables::TaskTables;
@@ -77,17 +79,25 @@ impl TaskTables {
         ensures change { IfOk result (λ p. p.change ≡ creating at creation) }
         ensures plan { IfOk result (λ p. IsPlanOn self.now p) }
     {
-        let grown = grown(alloc, self.rows.len())?;
+        let room = self.room_for(alloc, &creation)?;
         let mut row = TaskRow::make(alloc, creation.id, creation.definition)?;
         self.settle_in(&mut row, at);
         Ok(TaskPlan {
             at,
             deed: Deed::Create(row),
             rows: Vec::new(alloc),
-            grown,
+            room,
             claims: Vec::new(alloc),
             run_room: None,
         })
+    }
+
+    /// The room for a task that is to be created.
+    fn room_for(&self, alloc: Global, creation: &Creation) -> Result<Room, AllocError>
+        ensures room { IfOk result (λ room. FindsRoom self.now.rows room (Create creation.now)) }
+        ensures none { has_ready self.now ≡ false }
+    {
+        Room::new(alloc, &self.rows, &self.index, &self.lists, creation)
     }
 
     /// Makes a new task pending, where it is ready among those that stand.
@@ -110,7 +120,7 @@ impl TaskTables {
             at,
             deed,
             rows,
-            grown: Vec::new(alloc),
+            room: Room::none(alloc),
             claims,
             run_room,
         })

@@ -111,6 +111,7 @@ pub(super) fn list(alloc: Global, tables: &TaskTables, parts: &str) -> Option<bo
     };
     match word {
         "lists" => Some(tables.lists(&list, id_of(parts)?)),
+        "places" => Some(are_on(tables, &list, parts)),
         _ => page(alloc, tables, &list, parts),
     }
 }
@@ -140,6 +141,34 @@ fn page(alloc: Global, tables: &TaskTables, list: &TaskList, parts: &str) -> Opt
         Ok(None) => Some(wanted == "off"),
         Err(_) => None,
     }
+}
+
+/// Whether the first two places of a list behind one, which is none for all, are these, and there are more.
+fn are_on(tables: &TaskTables, list: &TaskList, parts: &str) -> bool {
+    let (after, wanted) = next(parts);
+    match list {
+        TaskList::Group(group) => match tables.list(*group, after.parse::<u32>().ok(), 2) {
+            Some(page) => are_places(page.places, page.more, wanted),
+            None => wanted == "off",
+        },
+        TaskList::Dependants(id) => {
+            let places = tables.dependants(*id);
+            match places.get(..2) {
+                Some(first) => are_places(first, places.len() > 2, wanted),
+                None => are_places(places, false, wanted),
+            }
+        }
+    }
+}
+
+fn are_places(places: &[u32], more: bool, wanted: &str) -> bool {
+    let (numbers, end) = next(wanted);
+    let digits = numbers.as_bytes();
+    let mut all = more == (end == "more") && places.len() == digits.len();
+    for (place, digit) in places.iter().zip(digits) {
+        all &= *place == u32::from(digit.wrapping_sub(b'0'));
+    }
+    all
 }
 
 fn is_page(page: &Page<'_>, wanted: &str) -> bool {

@@ -104,7 +104,8 @@ refused cancel 2024-01-01T00:00:10.000Z 1";
 
 /// Tasks that wait, and lists: a diamond, in which two tasks wait for the first and one for both; a chain of a hundred; a task that waits for
 /// itself; a tick in which a task becomes pending at noon and its own deadline comes; tasks that wait for one that is missing or expires
-/// early; and a group with its scheduler and its pages, of two tasks each, and the dependants of a task.
+/// early; and a group with its scheduler and its pages, of two tasks each, and the dependants of a task, also by their places, and past the room
+/// of their first lists.
 const WAITING: &str = "made create 2024-01-01T00:00:00.000Z 1 plain
 made create 2024-01-01T00:00:00.000Z 2 after-first
 made create 2024-01-01T00:00:00.000Z 3 after-first
@@ -135,6 +136,7 @@ yes is row 1 unscheduled 0 5
 made schedule 2024-01-01T00:00:10.000Z 1
 yes is only 1 scheduled 2024-01-01T00:00:10.000Z 0 -
 refused schedule 2024-01-01T00:00:10.000Z 1
+yes list places dependants 1 - 0 last
 
 made create 2024-01-01T00:00:00.000Z 1 due-at-noon
 made create 2024-01-01T00:00:00.000Z 2 once-resolved
@@ -166,7 +168,19 @@ yes list page group 1 3  last
 yes list page group 1 4 off
 yes list page dependants 1 - 23 last
 no list lists dependants 1 1
-yes list page dependants 1 1 off";
+yes list page dependants 1 1 off
+yes list places group 1 - 01 more
+yes list places group 1 1 2 last
+yes list places group 1 2  last
+yes list places group 2 - off
+yes list places dependants 1 - 12 last
+yes list places dependants 3 -  last
+yes list places dependants 4 -  last
+each 4 80 made create 2024-01-01T00:00:00.000Z # after-first
+yes list places group 1 - 01 more
+yes list places group 1 5 67 more
+yes list places dependants 1 - 12 more
+yes list page group 1 3 45 more";
 
 #[test]
 fn tasks_are_created_and_fall_due(rt: HostRuntime) {

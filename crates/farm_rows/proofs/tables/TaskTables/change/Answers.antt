@@ -3,8 +3,15 @@ use Rattle.std.proofs.lemmas.List.{with_items_is}
 use Rattle.std.specs.Vec.{with_items}
 use Rattle.run_states.specs.Rows.{Row}
 use Rattle.farm_rows.specs.Ready.{settled}
-use Rattle.farm_rows.specs.Deeds.{rows_after, drawn_by}
+use Rattle.farm_rows.specs.Deeds.{change_of, rows_after, drawn_by}
+use Rattle.run_states.specs.Later.{RowsLater}
+use Rattle.farm_record.specs.declared.change.Change.{Change}
+use Rattle.farm_rows.specs.Contents.{Contents}
+use Rattle.farm_rows.specs.Changes.{applied}
 use Rattle.farm_rows.specs.Indexed.{IsIndexOf}
+use Rattle.farm_rows.proofs.GroupedLemmas.{listed-later}
+use Rattle.farm_rows.proofs.IdLemmas.{applied-stays}
+use Rattle.farm_rows.proofs.TableLemmas.{contents_of}
 use Rattle.farm_rows.specs.Sweep.{numbered}
 use Rattle.farm_rows.proofs.FitLemmas.{made-few}
 use Rattle.farm_rows.proofs.ChangeLemmas.{kept-after, changed-applied}
@@ -37,11 +44,18 @@ invariant_of-self c =
     sym (ap (λ (rs : List Row). settled (numbered (rows_after at next deed rs) (next + drawn_by deed rs)) at) c.deref_mut.ensures.value)
     ∙ (c.change-drawn.ensures.settled ∙ sym (ap (λ (rs : List Row). numbered rs (next + c.change-drawn.result)) (with_items_is rows new len))) in
     let items = with_items_is rows new len in
+    let change : Change = change_of at deed in
+    let after : contents_of (with_items rows new).items at (next + c.change-drawn.result) ≡ applied c.args.self.now change =
+    changed-applied c.args.self.now rows.items (with_items rows new).items c.self.inside.last at next c.change-drawn.result deed c.self.view_is c.requires.stands made in
+    let stay : RowsLater rows.items (with_items rows new).items =
+    subst (λ (k : Contents). RowsLater k.rows (with_items rows new).items) (sym c.self.view_is) (subst (λ (k : Contents). RowsLater c.args.self.now.rows k.rows) (sym after) (applied-stays c.args.self.now change)) in
+    let long : length (with_items rows new).items ≡ length rows.items = (let same : length (with_items rows new).items ≡ length new = ap length items in let all : rows.len ≡ length rows.items = search rules in same ∙ (len ∙ all)) in
     record {
       kept =
           kept-after c.args.self.now rows.items (with_items rows new).items c.self.inside.last at next c.change-drawn.result deed (vec_capacity rows) (vec_capacity rows)
           c.self.view_is c.requires.lawful c.self.invariant.kept made (omega arith);
       indexed = subst (λ (rs : List Row). IsIndexOf c.change-drawn.new.index rs) (sym items) c.change-drawn.ensures.index;
+      listed = listed-later c.self.inside.lists rows.items (with_items rows new).items stay long c.self.invariant.listed;
     }
 
 pub returns : goal.returns

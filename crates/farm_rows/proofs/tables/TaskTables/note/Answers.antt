@@ -12,4 +12,5 @@ pub invariant_of-self : goal.invariant_of-self
 invariant_of-self c = record {
   kept = c.self.invariant.kept;
   indexed = subst (λ (rs : List Row). IsIndexOf c.note.new.self rs) c.deref.ensures.value c.note.ensures;
+  listed = c.self.invariant.listed;
 }

@@ -1,7 +1,6 @@
-use Rattle.std.proofs.Common.{vec_capacity}
 use Rattle.farm_rows.proofs.PlanLemmas.{IsPlanOn-shown}
 use Rattle.farm_rows.proofs.tables.TaskTables.plan_of.Goals as goal
 
 pub returns-clause-plan : goal.returns-clause-plan
 returns-clause-plan c =
-    IsPlanOn-shown c.args.self.now c.args.at (vec_capacity c.new.result) c.args.deed c.in_ok-claims.rows.items c.requires.stands c.in_ok-claims.ensures.own c.requires.lawful c.in_ok-claims.ensures.rows
+    IsPlanOn-shown c.args.self.now c.args.at c.none.result c.args.deed c.in_ok-claims.rows.items c.requires.stands c.in_ok-claims.ensures.own c.requires.lawful c.in_ok-claims.ensures.rows

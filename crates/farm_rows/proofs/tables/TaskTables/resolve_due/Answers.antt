@@ -7,7 +7,11 @@ use Rattle.farm_rows.specs.Contents.{Contents, HaveOwnIds}
 use Rattle.farm_rows.specs.Ready.{is_ready}
 use Rattle.farm_rows.specs.Due.{is_due}
 use Rattle.farm_rows.specs.Sweep.{numbered, all_turns}
+use Rattle.run_states.specs.Later.{RowsLater}
 use Rattle.farm_rows.specs.Indexed.{IsIndexOf}
+use Rattle.farm_rows.specs.PlaceLists.{AreListed}
+use Rattle.farm_rows.proofs.GroupedLemmas.{listed-later}
+use Rattle.farm_rows.proofs.TurnLemmas.{all-stay}
 use Rattle.farm_rows.proofs.SharedLemmas.{all-own, all-unready}
 use Rattle.farm_rows.proofs.TableLemmas.{turns-idle, turns-numbered}
 use Rattle.farm_rows.proofs.tables.TaskTables.resolve_due.Goals as goal
@@ -40,7 +44,10 @@ invariant_of-self c =
     ap (λ (rs : List Row). all_turns (numbered rs c.self.inside.next) c.args.moment) (sym c.deref_mut.ensures.value) ∙ c.resolve_due-self-inside.ensures.turns in
     let own : HaveOwnIds new = all-own before after c.args.moment turns c.self.invariant.kept.own in
     let none : list_any (is_ready new) new ≡ false = all-unready before after c.args.moment turns c.self.invariant.kept.none in
+    let stay : RowsLater rows.items new = subst (λ (k : Contents). RowsLater rows.items k.rows) turns (all-stay before c.args.moment) in
+    let long : length new ≡ length rows.items = (let all : rows.len ≡ length rows.items = search rules in len ∙ all) in
     record {
       kept = first_of (search rules, grind (arith, common_steps));
       indexed = subst (λ (rs : List Row). IsIndexOf c.resolve_due-self-inside.new.index rs) (sym (with_items_is rows new len)) c.resolve_due-self-inside.ensures.index;
+      listed = subst (λ (rs : List Row). AreListed c.self.inside.lists rs) (sym (with_items_is rows new len)) (listed-later c.self.inside.lists rows.items new stay long c.self.invariant.listed);
     }
