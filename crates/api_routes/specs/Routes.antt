@@ -1,4 +1,4 @@
--- Which call a message makes, and who sends it (the queue service's routes of the Taskcluster reference).
+-- Which call a message makes, and who sends it (the routes of the queue and hooks services in the Taskcluster reference).
 use Rattle.std.specs.Prelude.{◌≡◌, ◌⊎◌, ℕ, List, ◌==◌, map, Option, Some, None}
 use Rattle.std.specs.List.{before_first, after_first}
 use Rattle.percent_encoding.specs.Percent.{percent_decode}

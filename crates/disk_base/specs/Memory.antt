@@ -1,5 +1,5 @@
 -- What a disk in memory tells.
-use Rattle.std.specs.Prelude.{◌≡◌, ℕ, ◌+◌, ◌-◌, ◌^◌, min, List, ◌⊎◌, ◌<◌, Contains, reverse, vec_len, vec_capacity, Result, OnErr}
+use Rattle.std.specs.Prelude.{◌≡◌, ℕ, ◌+◌, ◌-◌, ◌^◌, min, List, ◌⊎◌, ◌<◌, ◌≤◌, Contains, reverse, vec_len, vec_capacity, Result, OnErr}
 use Rattle.disk_base.specs.declared.memory.MemoryDisk.{MemoryDisk}
 use Rattle.disk_base.specs.Contents.{Contents}
 use Rattle.disk_base.specs.History.{Call}
@@ -51,3 +51,9 @@ pub record CountsCall {T E : Type 0} (old new : MemoryDisk) (result : Result T E
   pub failing : failing_calls new ≡ failing_calls old
   pub number : call_number new ≡ next_number (call_number old)
   pub count : OnErr result (memory_faults new ≡ next_number (memory_faults old))
+
+-- a call takes at most so many calls and bytes of the room
+pub record TakesRoom (old new : MemoryDisk) (count size : ℕ) : Type 0 where
+  pub calls : calls_left old ≤ calls_left new + count
+  pub bytes : bytes_left old ≤ bytes_left new + size
+  pub greatest : greatest_length old ≤ greatest_length new

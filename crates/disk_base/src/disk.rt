@@ -37,8 +37,12 @@ pub trait Disk {
         ensures cuts { tells → Cuts size (contents self.old) (contents self.new) result }
         ensures cause { HasCause (faults self.old) (faults self.new) result };
 
-    /// After it a stop leaves what a read gives.
+    /// After it a stop leaves what a read gives, where it succeeds.
     fn sync(&mut self) -> Result<(), Failed>
         ensures syncs { tells → Syncs (contents self.old) (contents self.new) result }
         ensures cause { HasCause (faults self.old) (faults self.new) result };
+
+    /// How many bytes whoever writes a record behind the last byte may write ahead of it, so that later records lie where bytes are, and a sync
+    /// has no new length to keep. It is a hint: of what a disk holds it says nothing.
+    fn ahead(&self) -> usize;
 }

@@ -10,6 +10,10 @@ use std::io::ErrorKind;
 use std::os::unix::fs::FileExt;
 use std::{fs, io};
 
+/// How many bytes may be written ahead of a record: those of some three hundred records. A new length is a change of the file's own
+/// record, which costs a sync about as much again as the bytes.
+const AHEAD: usize = 65_536;
+
 /// The place past which no write ends, 2^63.
 const LAST_PLACE: u64 = 1 << 63;
 
@@ -23,7 +27,7 @@ pub struct FileDisk {
     file: File,
     // The folder, until it has been synced.
     folder: Option<File>,
-    // The greatest length that it may have.
+    // The length that it has: one that a write that failed may have given it is not in it.
     length: u64,
     // Whether the length may have changed since the last sync.
     has_new_length: bool,
@@ -57,6 +61,7 @@ impl FileDisk {
         if size < self.file.metadata()?.len() {
             self.has_new_length = true;
             self.file.set_len(size)?;
+            self.length = size;
         }
         Ok(())
     }
@@ -124,11 +129,14 @@ impl Disk for FileDisk {
             self.faults.raise();
             return Err(Failed);
         }
-        if at + size > self.length {
+        let is_longer = at + size > self.length;
+        if is_longer {
             self.has_new_length = true;
-            self.length = at + size;
         }
         let outcome = self.file.write_all_at(bytes, at);
+        if is_longer && outcome.is_ok() {
+            self.length = at + size;
+        }
         self.count(outcome)
     }
 
@@ -140,5 +148,9 @@ impl Disk for FileDisk {
     fn sync(&mut self) -> Result<(), Failed> {
         let outcome = self.sync_file();
         self.count(outcome)
+    }
+
+    fn ahead(&self) -> usize {
+        AHEAD
     }
 }

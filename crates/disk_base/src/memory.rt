@@ -26,6 +26,7 @@ pub struct MemoryDisk {
     failing: Vec<u64>,
     calls: u64,
     faults: FaultCount,
+    ahead: usize,
     ghost reads: { bytes.items ≡ read_after first.items (calls_of arena.items (reverse steps.items)) },
 }
 
@@ -51,6 +52,28 @@ impl MemoryDisk {
         ensures room { IfOk result (λ disk. bytes_left disk ≡ room) }
         ensures greatest { IfOk result (λ disk. length first.now + room ≤ greatest_length disk) }
     {
+        MemoryDisk::with_ahead(alloc, first, room, calls, failing, 0)
+    }
+
+    /// The same, which tells that so many bytes may be written ahead of a record.
+    pub fn with_ahead(
+        alloc: Global,
+        first: &[u8],
+        room: usize,
+        calls: usize,
+        failing: Vec<u64>,
+        ahead: usize,
+    ) -> Result<Self, AllocError>
+        requires { length first.now + room < 2 ^ 63 }
+        ensures bytes { IfOk result (λ disk. (memory_contents disk).bytes ≡ first.now) }
+        ensures settled { IfOk result (λ disk. IsSettled (memory_contents disk)) }
+        ensures faults { IfOk result (λ disk. memory_faults disk ≡ 0) }
+        ensures failing { IfOk result (λ disk. failing_calls disk ≡ failing.items) }
+        ensures number { IfOk result (λ disk. call_number disk ≡ 0) }
+        ensures calls { IfOk result (λ disk. calls_left disk ≡ calls) }
+        ensures room { IfOk result (λ disk. bytes_left disk ≡ room) }
+        ensures greatest { IfOk result (λ disk. length first.now + room ≤ greatest_length disk) }
+    {
         let mut bytes = Vec::with_capacity(alloc, first.len() + room)?;
         bytes.extend_from_slice(first)?;
         Ok(MemoryDisk {
@@ -61,6 +84,7 @@ impl MemoryDisk {
             failing,
             calls: 0,
             faults: FaultCount::new(),
+            ahead,
         })
     }
 
@@ -72,7 +96,7 @@ impl MemoryDisk {
     }
 
     /// Files that a stop now may leave, some of them more than once. Of those with bytes that may be any, it lists the ones
-    /// whose bytes there are what is there without a stop, or one of `choices`.
+    /// whose bytes there are what was there before the call, or one of `choices`. What a read gives is one of all, and may not be listed.
     pub fn images(&self, alloc: Global, choices: &[u8]) -> Result<Vec<Vec<u8>>, AllocError>
         ensures { IfOk result (λ images. All (λ image. LeftNow (memory_contents self.now) image.items) images.items) }
     {
@@ -128,6 +152,9 @@ fn put(file: &mut [u8], at: usize, piece: &[u8])
 fn keep_write(arena: &mut Vec<u8>, steps: &mut Vec<Step>, at: u64, piece: &[u8], done: bool)
     requires bytes { vec_len arena.old + length piece.now ≤ vec_capacity arena.old }
     requires steps { vec_len steps.old < vec_capacity steps.old }
+    ensures count { vec_len steps.new ≡ vec_len steps.old + 1 }
+    ensures size { vec_len arena.new ≡ vec_len arena.old + length piece.now }
+    ensures capacities { (vec_capacity steps.old ≤ vec_capacity steps.new) × (vec_capacity arena.old ≤ vec_capacity arena.new) }
     ensures calls { calls_of arena.new.items (reverse steps.new.items) ≡ wrote at piece.now done ∷ calls_of arena.old.items (reverse steps.old.items) }
 {
     let _ = arena.extend_from_slice(piece);
@@ -141,7 +168,9 @@ fn keep_write(arena: &mut Vec<u8>, steps: &mut Vec<Step>, at: u64, piece: &[u8],
 // Keeps the step of a cut.
 fn keep_cut(arena: &Vec<u8>, steps: &mut Vec<Step>, size: u64, done: bool)
     requires { vec_len steps.old < vec_capacity steps.old }
-    ensures { calls_of arena.now.items (reverse steps.new.items) ≡ cut size done ∷ calls_of arena.now.items (reverse steps.old.items) }
+    ensures count { vec_len steps.new ≡ vec_len steps.old + 1 }
+    ensures capacity { vec_capacity steps.old ≤ vec_capacity steps.new }
+    ensures calls { calls_of arena.now.items (reverse steps.new.items) ≡ cut size done ∷ calls_of arena.now.items (reverse steps.old.items) }
 {
     let _arena = arena.len();
     let _ = steps.push(Step::Cut { size, done });
@@ -150,7 +179,9 @@ fn keep_cut(arena: &Vec<u8>, steps: &mut Vec<Step>, size: u64, done: bool)
 // Keeps the step of a sync.
 fn keep_sync(arena: &Vec<u8>, steps: &mut Vec<Step>)
     requires { vec_len steps.old < vec_capacity steps.old }
-    ensures { calls_of arena.now.items (reverse steps.new.items) ≡ synced ∷ calls_of arena.now.items (reverse steps.old.items) }
+    ensures count { vec_len steps.new ≡ vec_len steps.old + 1 }
+    ensures capacity { vec_capacity steps.old ≤ vec_capacity steps.new }
+    ensures calls { calls_of arena.now.items (reverse steps.new.items) ≡ synced ∷ calls_of arena.now.items (reverse steps.old.items) }
 {
     let _arena = arena.len();
     let _ = steps.push(Step::Synced);
@@ -171,7 +202,7 @@ impl MemoryDisk {
 }
 
 impl Disk for MemoryDisk {
-    ghost use Rattle.disk_base.specs.Memory.{memory_contents, memory_faults, failing_calls, call_number, calls_left, bytes_left, greatest_length, IsChosen, HasNoRoom, CountsCall};
+    ghost use Rattle.disk_base.specs.Memory.{memory_contents, memory_faults, failing_calls, call_number, calls_left, bytes_left, greatest_length, IsChosen, HasNoRoom, CountsCall, TakesRoom};
 
     ghost tells = { Unit {0} };
 
@@ -187,6 +218,7 @@ impl Disk for MemoryDisk {
         // It fails just where it was chosen.
         ensures fails { IsErr result ↔ IsChosen self.old }
         ensures counted { CountsCall self.old self.new result }
+        ensures room { TakesRoom self.old self.new 0 0 }
     {
         let call = self.calls;
         self.calls = call.saturating_add(1);
@@ -209,6 +241,7 @@ impl Disk for MemoryDisk {
         ensures torn { ¬ HasNoRoom self.old at (length bytes.now) → (image : List ℕ)
             → After (Torn at (length bytes.now)) (memory_contents self.old) image → LeftNow (memory_contents self.new) image }
         ensures counted { CountsCall self.old self.new result }
+        ensures room { TakesRoom self.old self.new 1 (length bytes.now) }
     {
         let call = self.calls;
         self.calls = call.saturating_add(1);
@@ -237,6 +270,7 @@ impl Disk for MemoryDisk {
         ensures short { ¬ (calls_left self.old ≡ 0) → (image : List ℕ)
             → After (Shortened size) (memory_contents self.old) image → LeftNow (memory_contents self.new) image }
         ensures counted { CountsCall self.old self.new result }
+        ensures room { TakesRoom self.old self.new 1 0 }
     {
         let call = self.calls;
         self.calls = call.saturating_add(1);
@@ -261,6 +295,7 @@ impl Disk for MemoryDisk {
         // It fails just where it was chosen or finds no room to be kept.
         ensures fails { IsErr result ↔ (IsChosen self.old ⊎ (calls_left self.old ≡ 0)) }
         ensures counted { CountsCall self.old self.new result }
+        ensures room { TakesRoom self.old self.new 1 0 }
     {
         let call = self.calls;
         self.calls = call.saturating_add(1);
@@ -270,5 +305,9 @@ impl Disk for MemoryDisk {
         }
         keep_sync(&self.arena, &mut self.steps);
         Ok(())
+    }
+
+    fn ahead(&self) -> usize {
+        self.ahead
     }
 }

@@ -33,6 +33,21 @@ module _ (head : List ℕ) (bodies : List (List ℕ)) (body : List ℕ) (end : �
       let is = torn_behind (head ++ records bodies) 0 ready.rest end here (length text) image (subst (λ (l : List ℕ). Torn (end + 1) (length text) l image) ready.file torn) in
       inl (ready.sizes, inl (is.0, is.1))) puts.stops
 
+  -- bytes there that count for nothing
+  pub room_stops : {T E : Type 0} (new : Contents) (text : List ℕ) (result : Result T E) → Puts (end + 1) text old new result → StopsLeave old new (IsWithin head bodies [])
+  room_stops new text result puts = StopsLeave-weaker old new _ _ (λ image torn.
+      let is = torn_behind (head ++ records bodies) 0 ready.rest end here (length text) image (subst (λ (l : List ℕ). Torn (end + 1) (length text) l image) ready.file torn) in
+      (ready.sizes, inl (is.0, is.1))) puts.stops
+
+  pub room_done : (new : Contents) (text : List ℕ) → 0 < length text → IsSettled new → new.bytes ≡ written (end + 1) text old.bytes → IsReady head new end bodies
+  room_done new text some settled done = record {
+    settled = settled;
+    rest = text ++ drop (end + 1 + length text) (head ++ records bodies ++ 0 ∷ ready.rest);
+    file = done ∙ ap (written (end + 1) text) ready.file ∙ written_some (head ++ records bodies) 0 ready.rest end here text some;
+    place = ready.place;
+    sizes = ready.sizes;
+  }
+
   pub first_done : (mid : Contents) (text : List ℕ) → text ≡ sized body ++ 0 ∷ [] → mid.bytes ≡ written (end + 1) text old.bytes → (more : List ℕ) × (mid.bytes ≡ head ++ records bodies ++ 0 ∷ (sized body ++ 0 ∷ more))
   first_done mid text is done =
       let more = drop (end + 1 + length text) (head ++ records bodies ++ 0 ∷ ready.rest) in
@@ -77,5 +92,15 @@ kept_keeps head old new old_end new_end body stops done = record {
   ready = λ none bodies ready. done bodies ready;
   images = λ bodies ready image left. let now = done bodies ready in
       subst (IsImage head (bodies ++ body ∷ []) None) (sym (now.settled image left)) (ready_image head new new_end (bodies ++ body ∷ []) now);
+  stops = stops;
+}
+
+-- bytes behind the gate that count for nothing
+pub room_keeps : (head : List ℕ) (old new : Contents) (end : ℕ) → ((bodies : List (List ℕ)) → IsReady head old end bodies → StopsLeave old new (IsWithin head bodies []))
+    → ((bodies : List (List ℕ)) → IsReady head old end bodies → IsReady head new end bodies) → Keeps head old end new end [] []
+room_keeps head old new end stops done = record {
+  ready = λ none bodies ready. subst (IsReady head new end) (sym (append-nil bodies)) (done bodies ready);
+  images = λ bodies ready image left. let now = done bodies ready in
+      subst (λ (l : List (List ℕ)). IsImage head l None image) (sym (append-nil bodies)) (subst (IsImage head bodies None) (sym (now.settled image left)) (ready_image head new end bodies now));
   stops = stops;
 }

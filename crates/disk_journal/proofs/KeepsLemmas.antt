@@ -1,5 +1,5 @@
 -- What appends did, one after the other.
-use Rattle.std.proofs.Common.{◌≡◌, ℕ, ◌+◌, ◌≤◌, inl, inr, List, [], ◌∷◌, ◌++◌, length, None, refl, sym, ap, ◌∙◌, subst, arith, append_assoc}
+use Rattle.std.proofs.Common.{◌≡◌, ℕ, ◌+◌, ◌≤◌, inl, inr, List, [], ◌∷◌, ◌++◌, length, None, Result, Ok, Err, OnOk, OnErr, refl, sym, subst, arith, append_assoc}
 use Rattle.std.proofs.lemmas.List.{append-nil}
 use Rattle.std.proofs.Math.ListN.{length-append}
 use Rattle.disk_base.specs.Contents.{Contents, StopsLeave}
@@ -8,7 +8,6 @@ use Rattle.disk_journal.specs.Records.{sized, records}
 use Rattle.disk_journal.specs.Images.{IsImage, IsWithin}
 use Rattle.disk_journal.specs.Keeping.{IsReady, Keeps}
 use Rattle.disk_journal.proofs.AppendLemmas.{ready_image}
-use Rattle.disk_journal.proofs.RecordLemmas.{length-sized}
 
 -- what has a front of some bodies has one of more
 pub within-more : (head : List ℕ) (bodies kept more : List (List ℕ)) (image : List ℕ) → IsWithin head bodies kept image → IsWithin head bodies (kept ++ more) image
@@ -61,3 +60,14 @@ few-records (body ∷ bodies) =
     let rest : length bodies ≤ length (records bodies) = few-records bodies in
     let whole : length (sized body ++ records bodies) ≡ length (sized body) + length (records bodies) = length-append (sized body) (records bodies) in
     omega arith
+
+-- nothing, and then one append, as its result tells
+pub Keeps-then-Ok : {T E : Type 0} (result : Result T E) (a b c : Contents) (a_end b_end c_end : ℕ) (kept : List (List ℕ)) → Keeps [] a a_end b b_end [] []
+    → OnOk result (Keeps [] b b_end c c_end kept []) → OnOk result (Keeps [] a a_end c c_end kept [])
+Keeps-then-Ok (Ok x) a b c a_end b_end c_end kept p q = Keeps-then [] a a_end b b_end c c_end [] kept [] p q
+Keeps-then-Ok (Err e) a b c a_end b_end c_end kept p q = q
+
+pub Keeps-then-Err : {T E : Type 0} (result : Result T E) (a b c : Contents) (a_end b_end c_end : ℕ) (failed : List (List ℕ)) → Keeps [] a a_end b b_end [] []
+    → OnErr result (Keeps [] b b_end c c_end [] failed) → OnErr result (Keeps [] a a_end c c_end [] failed)
+Keeps-then-Err (Ok x) a b c a_end b_end c_end failed p q = q
+Keeps-then-Err (Err e) a b c a_end b_end c_end failed p q = Keeps-then [] a a_end b b_end c c_end [] [] failed p q

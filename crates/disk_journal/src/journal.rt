@@ -1,5 +1,5 @@
 //! A journal on a disk, and an append to it.
-ghost use Rattle.std.specs.Prelude.{◌≡◌, ◌≢◌, ◌<◌, ◌≤◌, ◌^◌, ℕ, List, [], ◌∷◌, Option, option_to_list, OnOk, OnErr, IfOk, IfErr};
+ghost use Rattle.std.specs.Prelude.{◌≡◌, ◌≢◌, ◌<◌, ◌≤◌, ◌^◌, ℕ, List, [], ◌∷◌, Option, option_to_list, length, OnOk, OnErr, IfOk, IfErr};
 ghost use Rattle.causes.specs.Causes.{HasCause, Rose};
 ghost use Rattle.disk_base.specs.Contents.{StopsLeave};
 ghost use Rattle.disk_journal.specs.declared.fault.OpenFault.TheVariants.{Disk, Damaged};
@@ -18,6 +18,9 @@ use causes::Failed;
 use disk_base::Disk;
 use std::alloc::Global;
 
+/// The most bytes that are written ahead of a record.
+const MOST_AHEAD: usize = 65_536;
+
 /// An open gate's byte.
 pub(crate) const OPEN: u8 = 0xa5;
 
@@ -27,6 +30,8 @@ pub struct Journal<D: Disk> {
     pub(crate) disk: D,
     // The place of the closed gate behind the bodies.
     pub(crate) end: u64,
+    // Up to where bytes are known to be.
+    room: u64,
     ghost within: { end < 2 ^ 63 },
 }
 
@@ -36,7 +41,8 @@ impl<D: Disk> Journal<D> {
     /// Opens the journal on a disk: syncs, reads all bytes once, follows the open records, and closes the gate behind them where it
     /// is not. An `Err` hands the disk back, and a damaged one as it was.
     ///
-    /// A stop in it leaves what a stop at its start might have left, or the same bodies, or these and the one pending behind them.
+    /// Over a file that a stop of an earlier journal left, a stop in it leaves what a stop at its start might have left, or the same bodies, or
+    /// these and the one pending behind them.
     pub fn open(alloc: Global, disk: D) -> Result<(Self, Bodies), (OpenFault, D)>
         ensures bodies { D.tells → IfOk result (λ o. Opens [] (D.contents disk).bytes (opened_bodies o.1)) }
         ensures places { IfOk result (λ o. opened_places o.1 ≡ placed 0 (opened_bodies o.1)) }
@@ -52,7 +58,10 @@ impl<D: Disk> Journal<D> {
     {
         let mut disk = disk;
         match open_disk(alloc, &mut disk) {
-            Ok((end, bodies)) => Ok((Journal { disk, end }, bodies)),
+            Ok((end, bodies)) => {
+                let room = bodies.file.len() as u64;
+                Ok((Journal { disk, end, room }, bodies))
+            }
             Err(fault) => Err((fault, disk)),
         }
     }
@@ -91,5 +100,50 @@ impl<D: Disk> Journal<D> {
         }
         self.end += text.len() as u64;
         Ok(())
+    }
+
+    /// Adds a body as `append` does, behind which the disk has bytes where it asks for some ahead: then one in many of these calls first writes
+    /// zeros, and syncs.
+    pub fn keep<F: Frame>(&mut self, frame: &F) -> Result<(), DiskFault>
+        requires ready { D.tells → (bodies : List (List ℕ)) × IsReady [] (D.contents self.old.disk) self.old.end bodies }
+        ensures kept { D.tells → OnOk result (Keeps [] (D.contents self.old.disk) self.old.end (D.contents self.new.disk) self.new.end (F.body frame.now ∷ []) []) }
+        ensures failed { D.tells → OnErr result (Keeps [] (D.contents self.old.disk) self.old.end (D.contents self.new.disk) self.new.end [] (F.body frame.now ∷ [])) }
+        ensures cause { HasCause (D.faults self.old.disk) (D.faults self.new.disk) result }
+    {
+        match self.make_room(frame.text().len()) {
+            Ok(()) => self.append(frame),
+            Err(DiskFault) => Err(DiskFault),
+        }
+    }
+
+    /// Writes zeros behind the closed gate where fewer than `size` bytes are there, as many as the disk asks for, if those are enough.
+    fn make_room(&mut self, size: usize) -> Result<(), DiskFault>
+        ensures kept { D.tells → OnOk result (Keeps [] (D.contents self.old.disk) self.old.end (D.contents self.new.disk) self.new.end [] []) }
+        ensures failed { D.tells → (body : List ℕ) → OnErr result (Keeps [] (D.contents self.old.disk) self.old.end (D.contents self.new.disk) self.new.end [] (body ∷ [])) }
+        ensures cause { HasCause (D.faults self.old.disk) (D.faults self.new.disk) result }
+    {
+        let count = self.disk.ahead().min(MOST_AHEAD);
+        if self.room.saturating_sub(self.end + 1) >= size as u64 || count < size.max(1) {
+            return Ok(());
+        }
+        let zeros = [0; MOST_AHEAD];
+        self.write_ahead(&zeros[..count])
+    }
+
+    /// Writes bytes that count for nothing behind the closed gate.
+    fn write_ahead(&mut self, zeros: &[u8]) -> Result<(), DiskFault>
+        requires some { 0 < length zeros.now }
+        requires few { length zeros.now ≤ MOST_AHEAD }
+        ensures kept { D.tells → OnOk result (Keeps [] (D.contents self.old.disk) self.old.end (D.contents self.new.disk) self.new.end [] []) }
+        ensures failed { D.tells → (body : List ℕ) → OnErr result (Keeps [] (D.contents self.old.disk) self.old.end (D.contents self.new.disk) self.new.end [] (body ∷ [])) }
+        ensures cause { HasCause (D.faults self.old.disk) (D.faults self.new.disk) result }
+    {
+        match put(&mut self.disk, self.end + 1, zeros) {
+            Ok(()) => {
+                self.room = self.end + 1 + zeros.len() as u64;
+                Ok(())
+            }
+            Err(Failed) => Err(DiskFault),
+        }
     }
 }

@@ -144,11 +144,6 @@ left_of (shut room at) = None
 left_of (ajar room doors) = Some doors
 left_of silent = None
 
--- a door was opened at this address, and these came back, in order: itself first, and then its twins
-pub record WasListening {D : Type 0} (old new : Doors D) (address : List ℕ) (door : D) (back : List D) : Type 0 where
-  pub could : CanListen old address (Ok door)
-  pub returned : new ≡ all_left (after_listened old) back
-
 -- all that a house lends: farm files, disks, console, notes, clock, draws and doors
 pub record Lendings (F S C N T I D : Type 0) : Type 0 where
   pub file : Files F

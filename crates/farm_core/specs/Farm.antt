@@ -26,7 +26,7 @@ AreFailedBy old asking answer entry failed =
     ⊎ ((change : Change) × (entry ≡ call asking disk_failed) × IsToKeep (end_state farm_rules old (ticks_before old asking answer)) asking change
     × (failed ≡ change ∷ []))
 
--- One ask of a farm at work over a disk that tells what it holds: it is one step, or a tick and one; and the records of its entries, in
+-- One ask of a farm at work: it is one step, or a tick and one; and, over a disk that tells what it holds, the records of its entries, in
 -- their order, are kept on the disk, but for the one record in which the disk failed. Then the farm has halted, and only then.
 pub record AsksDisk (tells : Type 0) (old : State) (old_disk : Disk) (old_end : ℕ) (asking : Asking) (answer : Asked) (new : State) (new_disk : Disk) (new_end : ℕ) : Type 0 where
   pub call : Entry

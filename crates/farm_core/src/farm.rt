@@ -72,7 +72,8 @@ impl<D: Disk> Farm<D> {
     /// Opens the farm that a disk has the records of: its tables are their replay. An `Err` hands the disk back, and a damaged one with all
     /// that it had: as it was, or with the gate behind its bodies closed.
     ///
-    /// A stop in it leaves what a stop at its start might have left, or the same records, or these and the one pending behind them.
+    /// Over what a stop of an earlier farm left, a stop in it leaves what a stop at its start might have left, or the same records, or these
+    /// and the one pending behind them.
     pub fn open(alloc: Global, disk: D, config: Config) -> Result<Self, (OpenFault, D)>
         ensures opened { IfOk result (λ farm. HasOpened D.tells (D.contents disk).bytes (D.contents farm.records.disk) farm.records.end farm.records.count farm.tables) }
         ensures state { IfOk result (λ farm. (farm.config ≡ config) × (farm.records.halted ≡ false)) }

@@ -71,7 +71,7 @@ impl<D: Disk> Records<D> {
         ensures halts { OnErr result (self.new.halted ≡ true) }
         ensures cause { HasCause (D.faults self.old.disk) (D.faults self.new.disk) result }
     {
-        match self.journal.append(frame) {
+        match self.journal.keep(frame) {
             Ok(()) => {
                 self.count = self.count.saturating_add(1);
                 Ok(())

@@ -66,7 +66,7 @@ template_fault fault path =
 abbrev pub too_costly : Answer
 too_costly = input_error ((codes "rule", whole (pos 19)) ∷ [])
 
--- a task is to end before it begins
+-- the deadline of a task that is to be made has come
 abbrev pub too_late : Answer
 too_late = input_error ((codes "rule", whole (pos 15)) ∷ [])
 

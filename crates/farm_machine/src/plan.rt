@@ -1,3 +1,4 @@
+//! A call that is judged, with the reply and all the memory that its change takes.
 ghost use Rattle.std.specs.Prelude.{◌≡◌, Some, None, MatchOption};
 ghost use Rattle.farm_record.specs.declared.change.Change.{Change};
 ghost use Rattle.farm_record.specs.Records.{IsRecord};

@@ -1,3 +1,4 @@
+//! Questions that a farm is asked: who calls, what for, and when.
 ghost use Rattle.std.specs.Prelude.{◌≡◌, ◌≤◌};
 ghost use Rattle.farm_text.specs.declared.moment.TheConstants.{LAST_TOLD_MOMENT};
 ghost use Rattle.farm_machine.specs.Written.{IsSaidCall};

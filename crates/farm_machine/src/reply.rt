@@ -1,3 +1,4 @@
+//! What a farm answers.
 ghost use Rattle.std.specs.Prelude.{◌≡◌};
 
 use farm_text::Text;

@@ -7,7 +7,7 @@ use Rattle.farm_record.specs.declared.change.Creation.{Creation}
 use Rattle.farm_rows.specs.Contents.{Contents}
 use Rattle.farm_rows.specs.Ready.{is_ready, has_ready, settled_row, settled}
 use Rattle.farm_rows.specs.Changes.{creating, applied}
-use Rattle.farm_rows.specs.Settling.{one_if}
+use Rattle.farm_rows.proofs.Settling.{one_if}
 use Rattle.farm_rows.specs.Sweep.{fits}
 use Rattle.farm_rows.proofs.FitLemmas.{fits-of}
 use Rattle.farm_rows.proofs.ReadyLemmas.{ready-more, count-same, count-none, settled-more}

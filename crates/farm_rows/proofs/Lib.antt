@@ -50,3 +50,4 @@ pub mod PlaceListLemmas
 pub mod ComingLemmas
 pub mod GroupedLemmas
 pub mod SpareLemmas
+pub mod Settling

@@ -12,7 +12,7 @@ use Rattle.run_states.proofs.ServeLemmas.{serves-scheduled, unscheduled-serves}
 use Rattle.farm_rows.specs.Contents.{Contents}
 use Rattle.farm_rows.specs.Due.{all_due_moments, change_first}
 use Rattle.farm_rows.specs.Ready.{id_serves, is_ready, has_ready, started, settled_row, settled}
-use Rattle.farm_rows.specs.Settling.{one_if}
+use Rattle.farm_rows.proofs.Settling.{one_if}
 use Rattle.farm_rows.proofs.DueLemmas.{any_none}
 
 -- ---- a task that is scheduled

@@ -9,7 +9,7 @@ use Rattle.run_states.specs.Rows.{Row, is_unscheduled, loses_claim, exceeded, fi
 use Rattle.run_states.specs.Moves.{closed, expired}
 use Rattle.farm_rows.specs.Contents.{Contents}
 use Rattle.farm_rows.specs.Ready.{is_ready, started, settled}
-use Rattle.farm_rows.specs.Settling.{one_if}
+use Rattle.farm_rows.proofs.Settling.{one_if}
 use Rattle.farm_rows.specs.Due.{meets_deadline, change_first, draws, resolved_at}
 use Rattle.farm_rows.specs.Sweep.{numbered, runs_made, fits}
 use Rattle.farm_rows.proofs.DueLemmas.{any_none}

@@ -13,7 +13,7 @@ use Rattle.run_states.specs.Rows.{Row, new_row, due_moments}
 use Rattle.farm_record.specs.declared.change.Creation.{Creation}
 use Rattle.farm_rows.specs.Contents.{Contents, row_with, HaveOwnIds}
 use Rattle.farm_rows.specs.Ready.{is_ready, settled_row}
-use Rattle.farm_rows.specs.Settling.{one_if}
+use Rattle.farm_rows.proofs.Settling.{one_if}
 use Rattle.farm_rows.specs.Due.{all_due_moments, is_due, advance}
 use Rattle.farm_rows.specs.Changes.{creating, applied}
 use Rattle.farm_rows.specs.Plans.{Room, room_for, HasRoomOn, lists_of, IsPlanOn}

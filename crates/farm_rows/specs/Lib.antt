@@ -13,7 +13,6 @@ pub mod Starts
 pub mod Plans
 pub mod Deeds
 pub mod Sweep
-pub mod Settling
 pub mod Placed
 pub mod Queues
 pub mod Dated

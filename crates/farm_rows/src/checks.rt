@@ -1,6 +1,5 @@
 //! Which changes may be made of one task.
 ghost use Rattle.std.specs.Prelude.{◌≡◌, not, false, option_copied};
-ghost use Rattle.std.specs.Option.{option_map_or};
 ghost use Rattle.run_states.specs.Rows.{is_unscheduled, is_resolved, is_running_at};
 ghost use Rattle.run_states.specs.Moves.{may_rerun};
 ghost use Rattle.farm_rows.specs.Changes.{on_row, may_keep, kept_scheduler, may_join};

@@ -24,6 +24,7 @@ pub enum TaskList {
 /// Some tasks of a list, in the order of their creation.
 #[derive(Debug, Drop)]
 pub struct Page<'a> {
+    /// The tasks.
     pub rows: Vec<&'a TaskRow>,
     /// Whether the list has tasks behind these.
     pub more: bool,

@@ -7,11 +7,17 @@ use run_states::{RunState, TaskRow};
 /// How many tasks there are, how many of them stand in each of these states, and how many runs they have, all together.
 #[derive(Clone, Copy, Debug, PartialEq, Eq)]
 pub struct Summary {
+    /// All tasks.
     pub tasks: u32,
+    /// Those whose last run completed.
     pub completed: u32,
+    /// Those whose last run failed.
     pub failed: u32,
+    /// Those whose last run ended as an exception.
     pub exception: u32,
+    /// Those without a run.
     pub unscheduled: u32,
+    /// The runs of all tasks.
     pub runs: u32,
 }
 

@@ -1,5 +1,6 @@
 //! The tables of a farm's tasks.
-ghost use Rattle.std.specs.Prelude.{◌≡◌, ◌↔◌, ◌<◌, ◌≤◌, [], true, true, false, map, Some, None, length, slice_get, count_by, option_copied, IfOk, IfSome, IsNone, MatchOption};
+ghost use Rattle.std.specs.Prelude.{◌≡◌, ◌↔◌, ◌<◌, ◌≤◌, [], true, false, map, Some, None, length, slice_get, count_by, option_copied, IfOk, IfSome, IsNone, MatchOption};
+ghost use Rattle.std.specs.List.{AllPairs};
 ghost use Rattle.farm_text.specs.declared.moment.TheConstants.{LAST_TOLD_MOMENT};
 ghost use Rattle.farm_rows.specs.Contents.{no_contents, row_with, counts_of, HaveOwnIds};
 ghost use Rattle.farm_rows.specs.Due.{is_due, advance};
@@ -162,6 +163,7 @@ impl TaskTables {
         ensures none { IsNone result ↔ (places_of (TaskList.Group group) self.now.rows ≡ []) }
         ensures places { IfSome result (λ page. page.places.now ≡ page_places after limit (places_of (TaskList.Group group) self.now.rows)) }
         ensures more { IfSome result (λ page. page.more ≡ has_more_places after limit (places_of (TaskList.Group group) self.now.rows)) }
+        ensures rising { AllPairs (λ x y. x < y) (places_of (TaskList.Group group) self.now.rows) }
     {
         place_page(
             self.index.members_of(&self.rows, &self.lists, group),
@@ -173,7 +175,8 @@ impl TaskTables {
     /// The places of the tasks that wait for the one with this id, in the order of their creation; none, where no task has it. It takes no
     /// memory.
     pub fn dependants(&self, id: SlugId) -> &[u32]
-        ensures { result.now ≡ places_of (TaskList.Dependants id) self.now.rows }
+        ensures places { result.now ≡ places_of (TaskList.Dependants id) self.now.rows }
+        ensures none { row_with id self.now.rows ≡ None → result.now ≡ [] }
     {
         self.index.dependants_of(&self.rows, &self.lists, id)
     }

@@ -11,4 +11,7 @@ mod laws;
 pub use book::HookBook;
 pub use fault::FireFault;
 pub use firing::{Hook, fire};
-pub use laws::{hooks_cross_threads, late_moments_are_not_read, the_firing_is_one};
+pub use laws::{
+    each_document_says_or_breaks, each_firing_has_an_answer, hooks_cross_threads,
+    late_moments_are_not_read, the_firing_is_one,
+};

@@ -2,6 +2,7 @@ pub mod EmptyLines
 pub mod HeadLemmas
 pub mod HeldLemmas
 pub mod KnownLemmas
+pub mod MoveLemmas
 pub mod StreamLemmas
 pub mod StreamLaws
 pub mod Taken

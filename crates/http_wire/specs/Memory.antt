@@ -16,7 +16,7 @@ source_left s = Some (drop (cursor_position s.bytes) (cursor_inner s.bytes).item
 abbrev pub read_faults : MemorySource → ℕ
 read_faults s = s.faults
 
--- the numbers of the reads that fail, and the number of the next read
+-- the numbers of the reads that fail
 abbrev pub failing_reads : MemorySource → List ℕ
 failing_reads s = s.failing.items
 
@@ -28,7 +28,7 @@ read_number s = s.calls
 abbrev pub read_piece : MemorySource → ℕ
 read_piece s = max s.piece 1
 
--- the numbers of the writes that fail, and the number of the next write
+-- the numbers of the writes that fail
 abbrev pub failing_writes : MemorySink → List ℕ
 failing_writes s = s.failing.items
 

@@ -10,11 +10,6 @@ use Rattle.http_wire.specs.declared.message.Wire.TheVariants.{End, EndedInside, 
 abbrev pub Loses : Option (List ℕ) → Option (List ℕ) → Type 0
 Loses before now = (gone : List ℕ) × Consumes before now gone
 
--- the count of failed reads is as it was, unless this says that a read failed
-abbrev pub KeepsUnlessFailed : ℕ → ℕ → Wire → Type 0
-KeepsUnlessFailed before now ReadFault = Unit {0}
-KeepsUnlessFailed before now wire = now ≡ before
-
 -- a piece did not come: a read failed, or memory ran out
 abbrev pub IsFillStop : ℕ → ℕ → Wire → Type 0
 IsFillStop before now ReadFault = Rose before now
@@ -42,7 +37,7 @@ is_ending wire = false
 abbrev pub Ends : Option (List ℕ) → Wire → Type 0
 Ends left wire = MatchBool (is_ending wire) (IsAtEnd left) (Unit {0})
 
--- the reasons that may come when part of a body has been read
+-- the reasons that come before any part of a body has been read
 abbrev pub keeps_all : Wire → Bool
 keeps_all EndedInside = false
 keeps_all ReadFault = false

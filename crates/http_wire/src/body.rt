@@ -1,9 +1,9 @@
 //! Bytes from a link: one more piece of a head, and a body.
-ghost use Rattle.std.specs.Prelude.{◌≡◌, ℕ, ◌+◌, ◌<◌, ◌≤◌, List, ◌++◌, length, drop, vec_len, IfOk, IfErr, OnOk, OnErr, MatchResult};
+ghost use Rattle.std.specs.Prelude.{◌≡◌, ℕ, ◌+◌, ◌<◌, ◌≤◌, List, ◌++◌, ◌-◌, length, take, drop, vec_len, IfOk, IfErr, OnOk, OnErr, MatchResult};
 ghost use Rattle.std.specs.Io.KnownBytes.{prepend_known, Keeps, Consumes, IsAtEnd};
 ghost use Rattle.causes.specs.Causes.{Rose};
 ghost use Rattle.http_wire.specs.Calls.{state_of, OnlyReads};
-ghost use Rattle.http_wire.specs.Reading.{IsFillStop, IsReadStop, IsBodyStop, KeepsUnlessFailed, Ends, Leaves, Loses};
+ghost use Rattle.http_wire.specs.Reading.{IsFillStop, IsReadStop, IsBodyStop, Ends, Leaves, Loses};
 
 use crate::link::Link;
 use crate::message::Wire;
@@ -61,14 +61,42 @@ fn read_into<L: Link>(buf: &mut [u8], link: &mut L) -> Result<(), Wire>
     Ok(())
 }
 
+/// Puts the `size` bytes that stand `by` behind a place there.
+fn move_piece(bytes: &mut [u8], at: usize, by: usize, size: usize)
+    requires apart { size ≤ by }
+    requires within { at + by + size ≤ length bytes.old }
+    ensures { bytes.new ≡ take at bytes.old ++ (take size (drop (at + by) bytes.old) ++ drop (at + size) bytes.old) }
+{
+    let (front, back) = bytes.split_at_mut(at + by);
+    front[at..at + size].copy_from_slice(&back[..size]);
+}
+
+/// Moves all that stands from `by` on to the front, in pieces that do not lie over each other: each is one copy.
+fn move_to_front(bytes: &mut [u8], by: usize)
+    requires some { 0 < by }
+    requires within { by ≤ length bytes.old }
+    ensures size { length bytes.new ≡ length bytes.old }
+    ensures moved { take (length bytes.old - by) bytes.new ≡ drop by bytes.old }
+{
+    let rest = bytes.len() - by;
+    let mut at = 0;
+    while at < rest {
+        let size = by.min(rest - at);
+        move_piece(bytes, at, by, size);
+        at += size;
+    }
+}
+
 /// Drops the first `count` bytes.
 fn drop_front(bytes: &mut Vec<u8>, count: usize)
     requires { count ≤ vec_len bytes.old }
     ensures { bytes.new.items ≡ drop count bytes.old.items }
 {
-    let rest = bytes.len() - count;
-    bytes.rotate_left(count);
-    bytes.truncate(rest);
+    if count > 0 {
+        let rest = bytes.len() - count;
+        move_to_front(bytes.as_mut_slice(), count);
+        bytes.truncate(rest);
+    }
 }
 
 /// Takes the body of `size` bytes that begins at `start` of those held, and drops all up to its end. Its room is taken

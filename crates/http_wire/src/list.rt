@@ -3,7 +3,6 @@ ghost use Rattle.std.specs.Prelude.{◌≡◌, ◌≤◌, IfOk, IfErr, IfSome, M
 ghost use Rattle.causes.specs.Causes.{Rose};
 ghost use Rattle.http_wire.specs.List.{ending_of};
 ghost use Rattle.http_wire.specs.Calls.{state_of, OnlyReads};
-ghost use Rattle.http_wire.specs.Reading.{KeepsUnlessFailed};
 ghost use Rattle.http_wire.specs.Stream.{Messages, is_of_stream};
 
 use crate::link::Link;

@@ -55,7 +55,8 @@ impl From<Vec<u8>> for Bytes {
     }
 }
 
-/// A request with its body. Of several fields with one name the first value counts.
+/// A request with its body. Of several Authorization or Content-Type fields the first value counts; of several Connection fields all do; two
+/// Content-Length fields are refused.
 #[derive(Debug, Drop)]
 pub struct Message {
     pub method: Bytes,
@@ -86,6 +87,7 @@ pub enum Wire {
     EndedInside,
     /// A read failed.
     ReadFault,
+    /// Memory ran out.
     NoMemory,
 }
 

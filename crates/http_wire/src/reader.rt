@@ -7,7 +7,7 @@ ghost use Rattle.httparse.specs.Grammar.{RequestHead};
 ghost use Rattle.http_wire.specs.Head.{HasHead, IsOpen};
 ghost use Rattle.http_wire.specs.Front.{IsHeadAt};
 ghost use Rattle.http_wire.specs.Calls.{state_of, OnlyReads};
-ghost use Rattle.http_wire.specs.Reading.{Ends, IsFillStop, KeepsUnlessFailed, Leaves};
+ghost use Rattle.http_wire.specs.Reading.{Ends, IsFillStop, Leaves};
 ghost use Rattle.http_wire.specs.Stream.{Gives, whole, TakesOne, Stops};
 
 use crate::body::{fill, take_body};

@@ -92,7 +92,7 @@ impl Table {
     }
 }
 
-/// Adds the paths of the queue service but those of runs.
+/// Adds the paths of ping, of tasks and of claims.
 fn insert_queue(router: &mut Router<PathForm>) -> Result<(), AllocError>
     requires { Holds 0 router.old }
     ensures { OnOk result (Holds 8 router.new) }
@@ -107,7 +107,7 @@ fn insert_queue(router: &mut Router<PathForm>) -> Result<(), AllocError>
     insert(router, PathForm::ClaimInTwo)
 }
 
-/// Adds the paths of runs, lists and hooks.
+/// Adds the paths of runs, lists, pending counts and hooks.
 fn insert_runs(router: &mut Router<PathForm>) -> Result<(), AllocError>
     requires { Holds 8 router.old }
     ensures { OnOk result (Holds 17 router.new) }

@@ -41,6 +41,27 @@ fn memory(alloc: Global, file: &[u8], failing: Option<u64>) -> Result<MemoryDisk
     MemoryDisk::new(alloc, file, 64, 64, calls)
 }
 
+/// A disk of these bytes that asks for twenty bytes ahead, on which one call fails.
+fn asking(alloc: Global, file: &[u8], failing: u64) -> Result<MemoryDisk, AllocError> {
+    let mut calls = Vec::new(alloc);
+    calls.push(failing)?;
+    if file.len() > 64 {
+        return Err(AllocError);
+    }
+    MemoryDisk::with_ahead(alloc, file, 64, 64, calls, 20)
+}
+
+/// Opens a disk and keeps a body on it.
+fn keep<D: Disk, F: Frame>(alloc: Global, disk: D, frame: &F) -> (Option<DiskFault>, D) {
+    match Journal::open(alloc, disk) {
+        Ok((mut journal, _)) => {
+            let fault = journal.keep(frame).err();
+            (fault, journal.into_disk())
+        }
+        Err((_, disk)) => (None, disk),
+    }
+}
+
 /// What a file opens to.
 fn reopen(alloc: Global, file: &[u8]) -> Result<Outcome, AllocError> {
     Ok(open(alloc, memory(alloc, file, None)?).0)
@@ -146,5 +167,38 @@ fn openings_are_stopped_in_each_call(rt: HostRuntime) -> Result<(), Fail> {
             assert_eq!(rt; (none, one), wanted);
         }
     }
+    Ok(())
+}
+
+/// The record of the tick, and zeros up to the room that was made.
+const AMPLE: [u8; 21] = [
+    0xa5, 0, 0, 0, 9, 1, 0, 0, 1, 0x8c, 0xc2, 0x51, 0xf4, 0, 0, 0, 0, 0, 0, 0, 0,
+];
+
+// Zeros, the body and its gate are a write and a sync each. Where there is room already, no zeros are written.
+#[test]
+fn a_body_lies_in_room_that_was_made(rt: HostRuntime) -> Result<(), Fail> {
+    let alloc = rt.alloc();
+    let all = every_byte(alloc)?;
+    let tick = frame_tick(TICK);
+    for call in 3..5 {
+        let (fault, stopped) = keep(alloc, asking(alloc, &[0], call)?, &tick);
+        assert_eq!(rt; fault, Some(DiskFault));
+        let images = stopped.images(alloc, &[0xa5])?;
+        assert_eq!(rt; counts(alloc, &images)?, (21, 0));
+    }
+    for call in 5..9 {
+        let (fault, stopped) = keep(alloc, asking(alloc, &[0], call)?, &tick);
+        assert_eq!(rt; fault, Some(DiskFault));
+        if call > 6 {
+            assert_eq!(rt; counts(alloc, &stopped.images(alloc, &all)?)?, (255, 1));
+        }
+    }
+    let (fault, done) = keep(alloc, asking(alloc, &[0], 9)?, &tick);
+    assert_eq!(rt; fault, None);
+    assert_eq!(rt; done.bytes(), AMPLE.as_slice());
+    let (fault, again) = keep(alloc, asking(alloc, &[0; 21], 7)?, &tick);
+    assert_eq!(rt; fault, None);
+    assert_eq!(rt; again.bytes(), AMPLE.as_slice());
     Ok(())
 }

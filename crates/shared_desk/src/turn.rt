@@ -19,7 +19,7 @@ const SPINNING: u32 = 7;
 const YIELDING: u32 = 12;
 
 /// The rounds that spin or yield the processor, of the one who is next.
-const YIELDING_NEXT: u32 = 64;
+const YIELDING_NEXT: u32 = 512;
 
 /// The tickets before a caller's own from which on it is woken as each is served. So a raise wakes few.
 const NEAR: u64 = 3;

@@ -1,8 +1,8 @@
 -- What a task that joins a group leaves of it, and of the others.
-use Rattle.std.proofs.Common.{◌≡◌, ◌≢◌, ℕ, Bool, true, false, List, [], ◌∷◌, ◌++◌, refl, sym, ◌∙◌, ap, bytes_eq}
+use Rattle.std.proofs.Common.{◌≡◌, ◌≢◌, ℕ, Bool, true, false, List, [], ◌∷◌, ◌++◌, Option, Some, None, refl, sym, ◌∙◌, bytes_eq}
 use Rattle.std.specs.List.{list_any}
 use Rattle.std.proofs.lemmas.Slice.Eq.{bytes_eq-Decides}
-use Rattle.task_groups.specs.Members.{TaskGroup, is_group, group_with, rows_of, with_row, change_first, joined}
+use Rattle.task_groups.specs.Members.{TaskGroup, is_group, group_with, rows_of, kept_scheduler, with_row, change_first, joined}
 
 bytes_eq-refl : (bs : List ℕ) → bytes_eq bs bs ≡ true
 bytes_eq-refl bs = (bytes_eq-Decides bs bs).1 refl
@@ -30,8 +30,45 @@ rows-joined id scheduler row groups = by (list_any (is_group id) groups) refl wh
   by true is = rw is (rows-change id row groups is)
   by false is = rw is (rows-push id scheduler row groups is)
 
-pub rows-joined_first : (id scheduler : List ℕ) (row : ℕ) (groups : List TaskGroup) → rows_of id groups ≡ [] → rows_of id (joined id scheduler row groups) ≡ row ∷ []
-rows-joined_first id scheduler row groups none = rows-joined id scheduler row groups ∙ ap (λ (l : List ℕ). l ++ row ∷ []) none
+scheduler-change : (id : List ℕ) (row : ℕ) (groups : List TaskGroup) → kept_scheduler id (change_first (is_group id) (with_row row) groups) ≡ kept_scheduler id groups
+scheduler-change id row [] = refl
+scheduler-change id row (g ∷ gs) = by (scheduler-change id row gs) (is_group id g) refl where
+  by : kept_scheduler id (change_first (is_group id) (with_row row) gs) ≡ kept_scheduler id gs → (b : Bool) → is_group id g ≡ b → kept_scheduler id (change_first (is_group id) (with_row row) (g ∷ gs)) ≡ kept_scheduler id (g ∷ gs)
+  by rest true is = rw is (rw is refl)
+  by rest false is = rw is (rw is rest)
+
+scheduler-push : (id scheduler : List ℕ) (row : ℕ) (groups : List TaskGroup) → list_any (is_group id) groups ≡ false → kept_scheduler id (groups ++ first_of_group id scheduler row ∷ []) ≡ Some scheduler
+scheduler-push id scheduler row [] any = rw (bytes_eq-refl id) refl
+scheduler-push id scheduler row (g ∷ gs) any = by (scheduler-push id scheduler row gs) (is_group id g) refl where
+  by : (list_any (is_group id) gs ≡ false → kept_scheduler id (gs ++ first_of_group id scheduler row ∷ []) ≡ Some scheduler) → (b : Bool) → is_group id g ≡ b → kept_scheduler id ((g ∷ gs) ++ first_of_group id scheduler row ∷ []) ≡ Some scheduler
+  by rest true is = absurd (let e : true ≡ false = rw is at any in cc)
+  by rest false is = let none : list_any (is_group id) gs ≡ false = rw is at any in rw is (rest none)
+
+no-scheduler : (id : List ℕ) (groups : List TaskGroup) → list_any (is_group id) groups ≡ false → kept_scheduler id groups ≡ None
+no-scheduler id [] any = refl
+no-scheduler id (g ∷ gs) any = by (no-scheduler id gs) (is_group id g) refl where
+  by : (list_any (is_group id) gs ≡ false → kept_scheduler id gs ≡ None) → (b : Bool) → is_group id g ≡ b → kept_scheduler id (g ∷ gs) ≡ None
+  by rest true is = absurd (let e : true ≡ false = rw is at any in cc)
+  by rest false is = let none : list_any (is_group id) gs ≡ false = rw is at any in rw is (rest none)
+
+some-scheduler : (id : List ℕ) (groups : List TaskGroup) → list_any (is_group id) groups ≡ true → kept_scheduler id groups ≡ None → ⊥
+some-scheduler id [] any none = let e : false ≡ true = any in cc
+some-scheduler id (g ∷ gs) any none = by (some-scheduler id gs) (is_group id g) refl where
+  by : (list_any (is_group id) gs ≡ true → kept_scheduler id gs ≡ None → ⊥) → (b : Bool) → is_group id g ≡ b → ⊥
+  by rest true is = let e : Some g.scheduler ≡ None = rw is at none in cc
+  by rest false is = let some : list_any (is_group id) gs ≡ true = rw is at any in let no_ : kept_scheduler id gs ≡ None = rw is at none in rest some no_
+
+pub scheduler-stays : (id scheduler : List ℕ) (row : ℕ) (groups : List TaskGroup) (kept : List ℕ) → kept_scheduler id groups ≡ Some kept → kept_scheduler id (joined id scheduler row groups) ≡ Some kept
+scheduler-stays id scheduler row groups kept has = by (list_any (is_group id) groups) refl where
+  by : (b : Bool) → list_any (is_group id) groups ≡ b → kept_scheduler id (joined id scheduler row groups) ≡ Some kept
+  by true is = rw is (scheduler-change id row groups ∙ has)
+  by false is = absurd (let e : None ≡ Some kept = sym (no-scheduler id groups is) ∙ has in cc)
+
+pub scheduler-first : (id scheduler : List ℕ) (row : ℕ) (groups : List TaskGroup) → kept_scheduler id groups ≡ None → kept_scheduler id (joined id scheduler row groups) ≡ Some scheduler
+scheduler-first id scheduler row groups none = by (list_any (is_group id) groups) refl where
+  by : (b : Bool) → list_any (is_group id) groups ≡ b → kept_scheduler id (joined id scheduler row groups) ≡ Some scheduler
+  by true is = absurd (some-scheduler id groups is none)
+  by false is = rw is (scheduler-push id scheduler row groups is)
 
 -- a group of one id has no other
 one-id : (group id other : List ℕ) → other ≢ id → bytes_eq group id ≡ true → bytes_eq group other ≡ false

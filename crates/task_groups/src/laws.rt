@@ -1,5 +1,5 @@
 //! What follows from the definitions. The functions do nothing: their contracts are laws.
-ghost use Rattle.std.specs.Prelude.{◌≡◌, ◌≢◌, ◌<◌, ◌≤◌, ℕ, List, [], ◌∷◌, ◌++◌, Option, Some, length};
+ghost use Rattle.std.specs.Prelude.{◌≡◌, ◌≢◌, ◌<◌, ◌≤◌, ℕ, List, [], ◌∷◌, ◌++◌, Option, Some, None, length};
 ghost use Rattle.std.specs.List.{AllPairs};
 ghost use Rattle.task_groups.specs.Members.{TaskGroup, group_with, rows_of, kept_scheduler, joined};
 ghost use Rattle.task_groups.specs.Pages.{rows_after, page_rows, next_token, pages};
@@ -18,8 +18,10 @@ pub fn pages_are_the_whole_list()
 pub fn a_task_joins_its_group()
     ensures last { (id scheduler : List ℕ) (row : ℕ) (groups : List TaskGroup)
         → rows_of id (joined id scheduler row groups) ≡ rows_of id groups ++ row ∷ [] }
-    ensures first { (id scheduler : List ℕ) (row : ℕ) (groups : List TaskGroup) → rows_of id groups ≡ []
-        → rows_of id (joined id scheduler row groups) ≡ row ∷ [] }
+    ensures scheduler { (id scheduler : List ℕ) (row : ℕ) (groups : List TaskGroup) (kept : List ℕ) → kept_scheduler id groups ≡ Some kept
+        → kept_scheduler id (joined id scheduler row groups) ≡ Some kept }
+    ensures first { (id scheduler : List ℕ) (row : ℕ) (groups : List TaskGroup) → kept_scheduler id groups ≡ None
+        → kept_scheduler id (joined id scheduler row groups) ≡ Some scheduler }
     ensures others { (id other scheduler : List ℕ) (row : ℕ) (groups : List TaskGroup) → other ≢ id
         → group_with other (joined id scheduler row groups) ≡ group_with other groups }
 {}

@@ -1,11 +1,11 @@
 //! A task that comes behind the others, onto its lists. It takes no memory.
-ghost use Rattle.std.specs.Prelude.{◌≡◌, ◌≤◌, ◌<◌, [], ◌∷◌, ◌++◌, true, None, length, map, vec_capacity};
+ghost use Rattle.std.specs.Prelude.{◌≡◌, ◌<◌, [], ◌∷◌, ◌++◌, true, None, length, map, vec_capacity};
 ghost use Rattle.std.specs.List.{AllZip};
 ghost use Rattle.farm_rows.specs.Contents.{row_with, HaveOwnIds};
 ghost use Rattle.farm_rows.specs.declared.lists.TaskList.TheVariants.{Group, Dependants};
 ghost use Rattle.farm_rows.specs.Plans.{HasRoom, HasRoomOn};
 ghost use Rattle.farm_rows.specs.Dependencies.{ids_of, depends_on_these};
-ghost use Rattle.farm_rows.specs.PlaceLists.{IsFirst, AreListed, AreWaited, AreWaitedSoFar, AreGrouped};
+ghost use Rattle.farm_rows.specs.PlaceLists.{IsFirst, AreListed, AreWaitedSoFar, AreGrouped};
 ghost use Rattle.farm_rows.specs.Indexed.{IsIndexOf};
 
 use crate::index::Index;

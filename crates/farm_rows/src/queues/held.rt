@@ -1,6 +1,6 @@
 //! How a task waits, which is held by its place.
-ghost use Rattle.std.specs.Prelude.{◌≡◌, ◌↔◌, ℕ, ◌≤◌, ◌<◌, List, Some, None, IsTrue, length, slice_get};
-ghost use Rattle.claim_queue.specs.Waits.{Waits, spare_in};
+ghost use Rattle.std.specs.Prelude.{◌≡◌, ◌↔◌, ◌≤◌, ◌<◌, Some, None, IsTrue, length, slice_get};
+ghost use Rattle.claim_queue.specs.Waits.{spare_in};
 ghost use Rattle.farm_rows.specs.Queues.{name_of, held_of, with_row};
 
 use crate::picks::number_of;

@@ -1,5 +1,5 @@
 //! The names of queues.
-ghost use Rattle.std.specs.Prelude.{◌≡◌, ◌↔◌, ◌++◌, ◌∷◌, IsTrue, IfOk, string_bytes};
+ghost use Rattle.std.specs.Prelude.{◌≡◌, ◌↔◌, IsTrue, IfOk, string_bytes};
 ghost use Rattle.task_defs.specs.Forms.{queue_name};
 ghost use Rattle.farm_rows.specs.Queues.{name_of, HasOneSlash};
 

@@ -8,4 +8,4 @@ returns-then-len-capacity-clause-fails c =
     elim c.then-len-capacity.branch [ then-len-capacity-via-then-len-capacity w ↦ (λ _. inr (omega arith), λ _. refl) | then-len-capacity-via-else-len-capacity+then-contains w ↦ (λ _. inl (search rules), λ _. refl) ]
 
 pub returns-clause-syncs : goal.returns-clause-syncs
-returns-clause-syncs c tells = sync_done tt (record {}) _ _ _ c.keep_sync.ensures
+returns-clause-syncs c tells = sync_done tt (record {}) _ _ _ c.keep_sync.ensures.calls

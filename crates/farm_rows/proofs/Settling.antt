@@ -1,4 +1,4 @@
--- How many numbers a task draws that settles. The contracts of private functions alone speak of these.
+-- How many numbers a task draws that settles.
 use Rattle.std.specs.Prelude.{ℕ, Bool, if◌then◌else◌}
 
 -- one, where a test passes
