@@ -4,7 +4,7 @@ use Rattle.std.proofs.lemmas.List.{drop-drop, drop_at, length-take-le, take_at}
 use Rattle.std.proofs.Math.Seq.{take-add}
 
 module _ (at by size : ℕ) (old bytes new : List ℕ) (long : length bytes ≡ length old) (within : at + by + size ≤ length old) (apart : size ≤ by)
-  (moved : take at bytes ≡ take at (drop by old)) (behind : drop at bytes ≡ drop at old) (is : new ≡ take at bytes ++ (take size (drop (at + by) bytes) ++ drop (at + size) bytes)) where
+    (moved : take at bytes ≡ take at (drop by old)) (behind : drop at bytes ≡ drop at old) (is : new ≡ take at bytes ++ (take size (drop (at + by) bytes) ++ drop (at + size) bytes)) where
   abbrev front : List ℕ
   front = take at bytes
 

@@ -1,5 +1,5 @@
 -- Why a step of the reader stopped, and what a call leaves of a stream.
-use Rattle.std.specs.Prelude.{◌≡◌, ℕ, ◌<◌, Bool, true, false, List, length, Option, IfSome}
+use Rattle.std.specs.Prelude.{ℕ, ◌<◌, Bool, true, false, List, length, Option, IfSome}
 use Rattle.std.specs.Bool.{MatchBool}
 use Rattle.std.specs.Io.KnownBytes.{Keeps, Consumes, IsAtEnd}
 use Rattle.causes.specs.Causes.{Rose}

@@ -1,4 +1,4 @@
-use Rattle.std.proofs.Common.{◌≡◌, ◌+◌, ◌-◌, ◌≤◌, length, refl, arith}
+use Rattle.std.proofs.Common.{◌+◌, ◌-◌, ◌≤◌, length, refl, arith}
 use Rattle.http_wire.proofs.MoveLemmas.{size_stays, more_moved, behind_stays}
 use Rattle.http_wire.proofs.body.move_to_front.Goals as goal
 
