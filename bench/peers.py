@@ -31,6 +31,17 @@ expires = "2099-01-01T00:00:00Z"
 """ % (CLIENT, TOKEN)
 
 
+def records(path):
+    """How many open records the file of a disk begins with, and how many bytes they have."""
+    with open(path, "rb") as file:
+        bytes_ = file.read()
+    count = at = 0
+    while at + 5 <= len(bytes_) and bytes_[at] == 0xA5:
+        at += 5 + int.from_bytes(bytes_[at + 1:at + 5], "big")
+        count += 1
+    return count, at
+
+
 class Ended(Exception):
     """The connection ended before a reply, or inside it."""
 
@@ -182,7 +193,7 @@ def signed_ping(number):
 
 def task_id(number):
     """A slugid whose first digits count."""
-    return "A%06dAQACAAAAAAAAAAA" % number
+    return "%08dQACAAAAAAAAAAA" % number
 
 
 def definition(queue="prov/wt"):

@@ -8,9 +8,12 @@ for so many seconds (else 3): pings and signed pings on one connection and on fo
 which is on the disk before it is answered, from one client and from four. A connection serves 1,000 requests, and is then made anew.
 Below them stand what the clients here reach with a loop in the server's place that reads and writes as many bytes, how often a record of the size
 that a change had can be written and synced, and its gate too, as the program does it, and what the clients reach with both, one after the other: a loop
-that writes and syncs so before it replies. A farm that took no time of its own would come to that, also where all requests are sent ahead. Changes that are sent ahead, a thousand on a connection, wait for no client: they
+that writes and syncs so before it replies. A loop that took no time of its own would come to that, also where all requests are sent ahead. Changes that are sent ahead, a thousand on a connection, wait for no client: they
 show what the farm itself comes to. Each client is a process; a client in Python takes some
 twenty microseconds a call, so pings tell no more than that the program is not slower.
+
+A disk that others use, too, is now fast and now slow, so all rows with a disk are measured in turn, in five rounds, and the table has each row's median round; the last column is the median, over the rounds, of what a row came to beside the disk
+alone in the same round.
 """
 import json
 import multiprocessing
@@ -26,6 +29,7 @@ import peers
 PROGRAM = os.path.abspath(sys.argv[1])
 SECONDS = float(sys.argv[2]) if len(sys.argv) > 2 else 3.0
 CYCLES = 333
+ROUNDS = 5
 PLAIN_REPLY = b"HTTP/1.1 200 OK\r\nContent-Length: 14\r\nContent-Type: application/json\r\n\r\n{\"alive\":true}"
 
 
@@ -140,10 +144,18 @@ def measure(client, address, clients):
     return sorted(times)
 
 
-def row(what, clients, times):
-    """What a client does between two calls, as signing, is not counted."""
+def rate(clients, times):
+    """Calls a second of so many clients. What a client does between two calls, as signing, is not counted."""
+    return clients * len(times) / sum(times)
+
+
+def row(what, clients, rounds, beside=None):
+    """A line of the table, for the round in the middle of these."""
+    times = sorted(rounds, key=lambda it: rate(clients, it))[len(rounds) // 2]
     shown = ["%.0f us" % (1e6 * times[min(len(times) - 1, int(len(times) * part))]) for part in (0.5, 0.99)]
-    print("| %s | %d | %.0f | %s | %s |" % (what, clients, clients * len(times) / sum(times), shown[0], shown[1]), flush=True)
+    quotients = sorted(rate(clients, it) / rate(1, disk) for it, disk in zip(rounds, beside)) if beside else []
+    last = "%.2f" % quotients[len(quotients) // 2] if beside else ""
+    print("| %s | %d | %.0f | %s | %s | %s |" % (what, clients, rate(clients, times), *shown, last), flush=True)
 
 
 def keep(handle, place, record):
@@ -193,7 +205,7 @@ def plain_loop(clients, client, *kept):
 
 
 def disk_alone(folder, size):
-    """Keeps a record of this size, again and again."""
+    """Keeps a record of this size, again and again, each behind the last one."""
     handle = os.open(os.path.join(folder, "alone.disk"), os.O_RDWR | os.O_CREAT)
     place, record, times, until = 0, b"\0" * size, [], time.perf_counter() + SECONDS
     while time.perf_counter() < until:
@@ -213,31 +225,44 @@ def disk_and_loop(folder, size, clients, client):
     return times
 
 
+def pings_rows(farm):
+    for clients in (1, 4):
+        row("ping", clients, [measure(pings, farm.address, clients)])
+        row("ping to the plain loop", clients, [plain_loop(clients, pings)])
+    for clients in (1, 4):
+        row("signed ping", clients, [measure(signed_pings, farm.address, clients)])
+
+
+def changes_rows(farm, folder):
+    """The rows with a disk, in rounds. The size of a record is that of the first changes."""
+    found = {}
+    measure(changes_sent_ahead(100000), farm.address, 1)
+    count, size = peers.records(os.path.join(folder, "farm.disk"))
+    size //= count
+    for turn in range(ROUNDS):
+        first = 1000000 * (turn + 1)
+        found.setdefault("disk", []).append(disk_alone(folder, size))
+        for clients in (1, 4):
+            made = measure(changes(first + clients * 10000), farm.address, clients)
+            found.setdefault(("create, claim, complete: a change each", clients), []).append(made)
+            made = measure(changes_sent_ahead(first + 500000 + clients * 10000), farm.address, clients)
+            found.setdefault(("the same, a thousand requests sent ahead", clients), []).append(made)
+            made = disk_and_loop(folder, size, clients, pings)
+            found.setdefault(("the plain loop, with such a record before each reply", clients), []).append(made)
+            made = disk_and_loop(folder, size, clients, pings_sent_ahead)
+            found.setdefault(("the plain loop, a thousand requests sent ahead", clients), []).append(made)
+    alone = found.pop("disk")
+    row("a record of %d bytes and its gate on the disk alone" % size, 1, alone)
+    for (what, clients), rounds in found.items():
+        row(what, clients, rounds, alone)
+
+
 def main():
     with tempfile.TemporaryDirectory() as folder:
-        print("| what | clients | calls a second | median | 99 of 100 |\n|---|---|---|---|---|")
+        print("| what | clients | calls a second | median | 99 of 100 | beside the disk alone |\n|---|---|---|---|---|---|")
         with peers.Farm(PROGRAM, folder) as farm:
-            for clients in (1, 4):
-                row("ping", clients, measure(pings, farm.address, clients))
-                row("ping to the plain loop", clients, plain_loop(clients, pings))
-            for clients in (1, 4):
-                row("signed ping", clients, measure(signed_pings, farm.address, clients))
-            disk = os.path.join(folder, "farm.disk")
-            made, before = 0, os.path.getsize(disk)
-            for clients in (1, 4):
-                times = measure(changes(clients * 10000), farm.address, clients)
-                made += len(times)
-                row("create, claim, complete: a change each", clients, times)
-            for clients in (1, 4):
-                times = measure(changes_sent_ahead(500000 + clients * 10000), farm.address, clients)
-                made += len(times)
-                row("the same, a thousand requests sent ahead", clients, times)
-            size = max(2, (os.path.getsize(disk) - before) // made)
-        row("a record of %d bytes and its gate on the disk alone" % size, 1, disk_alone(folder, size))
-        for clients in (1, 4):
-            row("the plain loop, with such a record before each reply", clients, disk_and_loop(folder, size, clients, pings))
-        for clients in (1, 4):
-            row("the same, a thousand requests sent ahead", clients, disk_and_loop(folder, size, clients, pings_sent_ahead))
+            pings_rows(farm)
+            changes_rows(farm, folder)
 
 
 if __name__ == "__main__":

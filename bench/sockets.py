@@ -211,7 +211,7 @@ def change(address, place, first, told):
                     told.put((number, CREATED))
                     work = asks(peers.claim(queue))["tasks"]
                     if work:
-                        claimed = int(work[0]["status"]["taskId"][1:7])
+                        claimed = int(work[0]["status"]["taskId"][:8])
                         told.put((claimed, CLAIMED))
                         asks(peers.completion(peers.task_id(claimed), work[0]["runId"]))
                         told.put((claimed, COMPLETED))
