@@ -1,7 +1,7 @@
 //! What each call of the farm asks of its caller's scopes.
 //!
 //! `specs/Policy.antt` is the table, a line a call. The scope names are this project's profile, formed after those of the queue
-//! service in the Taskcluster reference.
+//! and hooks services in the Taskcluster reference.
 #![tactic(auto)]
 
 mod calls;

@@ -1,4 +1,4 @@
--- What is written of a document has the grammar's value of its data, and each number in it is whole; for private clauses.
+-- What is written of a document has the grammar's value of its data, and each number in it is whole.
 use Rattle.std.specs.Prelude.{◌≡◌, ℕ, [], Some}
 use Rattle.serde_json.specs.Data as json
 use Rattle.serde_json.specs.Read.{of_json, of_items, of_members}

@@ -13,6 +13,7 @@ pub trait Clock: Sized {
     /// The moments told so far, where the clock keeps them.
     ghost told: { Self → Option (List ℕ) };
 
+    /// The moment that it tells now. No order is promised.
     fn now(&mut self) -> Moment
         ensures told { LogGrows (told self.old) (told self.new) (result ∷ []) }
         ensures within { result ≤ LAST_TOLD_MOMENT };

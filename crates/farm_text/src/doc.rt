@@ -53,7 +53,7 @@ impl Doc {
         write_value(self, out)
     }
 
-    /// The document as JSON without spaces. `read` gives it back, and never says that a number in it is not whole.
+    /// The document as JSON without spaces. `read` gives it back where it nests at most 127 deep, and never says that a number in it is not whole.
     pub fn write(&self, alloc: Global) -> Result<Text, AllocError>
         ensures text { IfOk result (λ t. t ≡ document_text (document self.now)) }
         ensures reads_back { IfOk result (λ t. depth (data_of (document self.now)) ≤ 127

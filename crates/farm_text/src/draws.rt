@@ -21,6 +21,7 @@ pub trait Draws: Sized {
     /// The ids drawn so far, each as its sixteen bytes, where they are kept.
     ghost told: { Self → Option (List (List ℕ)) };
 
+    /// The next id.
     fn draw(&mut self) -> SlugId
         ensures told { LogGrows (told self.old) (told self.new) (result ∷ []) };
 

@@ -1,4 +1,4 @@
--- Evaluating node by node, over the values and the lists that are not whole yet, the last one first; for private clauses.
+-- Evaluating node by node, over the values and the lists that are not whole yet, the last one first.
 use Rattle.std.specs.Prelude.{◌≡◌, ℕ, zero, suc, pos, Bool, true, false, List, [], ◌∷◌, ◌++◌, map, reverse, Option, Some, None, Result, Ok, Err}
 use Rattle.std.specs.Bool.{MatchBool}
 use Rattle.farm_text.specs.Document.{Document, null, boolean, array, items_of}

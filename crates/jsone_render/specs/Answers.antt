@@ -1,4 +1,4 @@
--- What functions of this crate answer; for private clauses.
+-- What functions of this crate answer.
 use denote.Ref.{Bor}
 use Rattle.std.specs.Prelude.{◌≡◌, ℕ, ◌<◌, length, take, slice_index, Bool, List, [], ◌∷◌, ◌++◌, Option, Some, None, map, option_map, Result, Ok, Err}
 use Rattle.std.specs.declared.alloc.Global.{Global}

@@ -31,7 +31,7 @@ pub(crate) struct Renderer<'a> {
     pub readings: Readings,
 }
 
-/// What a list, or a removed or other value costs.
+/// What is paid for what a function or an expression found: a value, or one that is removed.
 fn price_of(found: &Option<Doc>) -> u64
     ensures { result ≡ min (price_of (found_in found.now)) 18446744073709551615 }
 {

@@ -2,13 +2,14 @@
 ghost use Rattle.std.specs.Prelude.{◌≡◌};
 ghost use Rattle.jsone_values.specs.Faults.{rule_of};
 
+/// Why there is no value.
 #[derive(Clone, Copy, Debug, PartialEq, Eq)]
 pub enum Fault {
     /// The text is no expression.
     Syntax,
     /// Nothing is bound to the name.
     UnknownName,
-    /// A value of another kind than the operator takes, or another number of arguments.
+    /// A value of another kind than the operator takes, a text that is no number or no moment, or another number of arguments.
     WrongKind,
     /// A number past 64 bits with a sign, a step of 0, or a moment past its range.
     OutOfRange,
@@ -26,7 +27,7 @@ pub enum Fault {
     TooDeep,
     /// The text is no span of time.
     BadSpan,
-    /// A key of the context is no name.
+    /// The context is no map, or a key of it is no name.
     BadContext,
 }
 

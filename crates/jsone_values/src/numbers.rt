@@ -8,6 +8,7 @@ ghost use Rattle.jsone_values.specs.Numbers.{IsInRange, IsQuotient, IsPower, IsN
 
 use crate::faults::Fault;
 
+/// The sum, where it has 64 bits with a sign.
 pub fn plus(left: i64, right: i64) -> Result<i64, Fault>
     ensures { IsInRange (left +ℤ right) result }
 {
@@ -17,6 +18,7 @@ pub fn plus(left: i64, right: i64) -> Result<i64, Fault>
     }
 }
 
+/// The difference, likewise.
 pub fn minus(left: i64, right: i64) -> Result<i64, Fault>
     ensures { IsInRange (left -ℤ right) result }
 {
@@ -26,6 +28,7 @@ pub fn minus(left: i64, right: i64) -> Result<i64, Fault>
     }
 }
 
+/// The product, likewise.
 pub fn times(left: i64, right: i64) -> Result<i64, Fault>
     ensures { IsInRange (left *ℤ right) result }
 {
@@ -35,6 +38,7 @@ pub fn times(left: i64, right: i64) -> Result<i64, Fault>
     }
 }
 
+/// The negative of a number, likewise.
 pub fn negated(number: i64) -> Result<i64, Fault>
     ensures { IsInRange (neg_ℤ number) result }
 {

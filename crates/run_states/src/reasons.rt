@@ -5,7 +5,7 @@ ghost use Rattle.run_states.specs.Reasons.{created_name, resolved_name, state_na
 /// Why a run was made.
 #[derive(Clone, Copy, Debug, PartialEq, Eq)]
 pub enum ReasonCreated {
-    /// The task was made, or what it waits for came.
+    /// The task was made, what it waits for came, or it was scheduled by a call.
     Scheduled,
     /// The run before lost its worker.
     Retry,

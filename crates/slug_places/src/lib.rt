@@ -1,4 +1,4 @@
-//! Where tasks stand, by their ids.
+//! Where tasks and groups stand, by their ids.
 #![tactic(auto)]
 
 pub mod places;

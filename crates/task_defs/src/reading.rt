@@ -148,7 +148,7 @@ fn read_terms(alloc: Global, doc: &Doc, id: SlugId) -> Result<Terms, DefError>
     }
 }
 
-/// When the task was made, and how long it is worked on and remembered.
+/// When the task was made, until when it is worked on, and when it expires.
 #[derive(Drop)]
 struct Span {
     created: Moment,

@@ -16,7 +16,7 @@ pub struct TaskDef {
     pub deadline: Moment,
     /// The tasks that it waits for, as `requires_` says.
     pub dependencies: Dependencies,
-    /// The task is forgotten at this moment.
+    /// Told in its status, and no dependant may have a later deadline. Nothing forgets a task yet.
     pub expires: Moment,
     pub extra: Object,
     pub metadata: Metadata,

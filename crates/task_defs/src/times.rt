@@ -17,7 +17,7 @@ use std::alloc::Global;
 /// Five days, in milliseconds: the longest time from the creation of a task to its deadline.
 const LONGEST_TASK: u64 = 432_000_000;
 
-/// 365 days, in milliseconds: how long a task is remembered after its deadline, if nothing is said.
+/// 365 days, in milliseconds: how long after its deadline a task expires, if nothing is said.
 const REMEMBERED: u64 = 31_536_000_000;
 
 /// What the three keys say.
@@ -77,7 +77,7 @@ pub(crate) fn check_deadline(
     }
 }
 
-/// When the task is forgotten, as is said, or by default.
+/// When the task expires, as is said, or by default.
 pub(crate) fn expires(
     alloc: Global,
     doc: &Doc,
