@@ -1,5 +1,5 @@
 -- Whose places are whose: from what one worker did, and from two rows of workers to both.
-use Rattle.std.proofs.Common.{◌≡◌, ℕ, Bool, true, suc, zero, ◌+◌, ◌*◌, ◌-◌, ◌^◌, ◌<◌, ◌≤◌, List, [], ◌∷◌, ◌++◌, length, length-append, map, take, drop, Some, Option, refl, sym, ◌∙◌, ap, subst, append_assoc, append-nil, slice_index_or, slice_set, arith}
+use Rattle.std.proofs.Common.{◌≡◌, ◌≢◌, ℕ, Bool, true, suc, zero, ◌+◌, ◌*◌, ◌-◌, ◌^◌, ◌<◌, ◌≤◌, List, [], ◌∷◌, ◌++◌, length, length-append, map, take, drop, Some, Option, refl, sym, ◌∙◌, ap, subst, append_assoc, append-nil, slice_index_or, slice_set, All, AllPairs, arith}
 use mathlib.Core.List.{IsPrefix}
 use Rattle.std.specs.Bool.{◌==◌}
 use Rattle.std.specs.List.{flat_map}
@@ -7,6 +7,7 @@ use Rattle.std.proofs.lemmas.Bool.Decides.{nat_tests}
 use Rattle.std.proofs.lemmas.List.{map-append, length-map, nil_from_length, take-append-drop}
 use Rattle.std.proofs.lemmas.List.Concat.{flat_map-append}
 use Rattle.std.proofs.lemmas.List.Elements.{All-nil, All-cons, All-append}
+use Rattle.std.proofs.lemmas.List.Kept.{AllPairs-cons}
 use Rattle.history.specs.Histories.{IsLegal, asked_at, reply_at}
 use Rattle.history.specs.Asks.{IsRisingWithin}
 use Rattle.history.proofs.HistoriesLemmas.{asked_at-each_stays, reply_at-each_stays}
@@ -108,6 +109,32 @@ AreShares-both opening seen first (part ∷ ps) qs shares more are others = (
   AreShares-both opening seen first ps qs are.1 more are.5 others,
 )
 
+-- no place stands twice
+abbrev AreOnce : List ℕ → Type 0
+AreOnce places = AllPairs (λ place another. place ≢ another) places
+
+AreOnce-none : AreOnce []
+AreOnce-none = λ i j d before within. absurd (omega arith)
+
+-- places that rise from above a place are others
+others_above : (place first end : ℕ) (places : List ℕ) → place < first → IsRisingWithin first end places → All (λ another. place ≢ another) places
+others_above place first end [] above rise = All-nil (λ another. place ≢ another)
+others_above place first end (next ∷ places) above rise =
+    let other : place ≢ next = λ same. absurd (omega (arith, above, rise.0, same)) in
+    All-cons (λ another. place ≢ another) next places other (others_above place (next + 1) end places (omega (arith, above, rise.0)) rise.1)
+
+-- places that rise stand once each
+AreOnce-rising : (first end : ℕ) (places : List ℕ) → IsRisingWithin first end places → AreOnce places
+AreOnce-rising first end [] rise = AreOnce-none
+AreOnce-rising first end (place ∷ places) rise =
+    AllPairs-cons (λ place another. place ≢ another) place places (others_above place (place + 1) end places (omega arith) rise.1) (AreOnce-rising (place + 1) end places rise.1)
+
+-- what stands once in all stands once in the second part of it
+AreOnce-second : (xs ys : List ℕ) → AreOnce (xs ++ ys) → AreOnce ys
+AreOnce-second [] ys once = once
+AreOnce-second (x ∷ xs) ys once =
+    AreOnce-second xs ys (λ i j d before within. once (suc i) (suc j) d (omega arith) (omega arith))
+
 -- an opening that begins in this state
 abbrev opening_in : State → Opening
 opening_in state = record { state = state; records = []; faults = 0 }
@@ -129,6 +156,7 @@ gains_one accepts old new before after ended works opening is legal =
       legal = subst (IsLegal farm_rules opening) now.0 now.3;
       shares = gains.gained ∷ [];
       mine = sym now.1 ∙ ap (λ (places : List ℕ). old.mine ++ places) (sym (append-nil gains.gained));
+      once = subst AreOnce (sym (append-nil gains.gained)) (AreOnce-rising (length old.seen) (length new.seen) gains.gained rising);
       are = (gains.gained, [], refl, rising, ArePortions-all opening new.seen before.company after.company works.connections gains.gained works.worked.turns asked replied, refl);
     }
 
@@ -159,13 +187,16 @@ prefix_trans xs ys zs first second =
 
 -- what a desk gained by two rows of parts, each over a pass of its own, where the second pass was cut off the first and joined to it
 gains_both : (opening : State) (old low high new : Standing State Entry) (asks : ℕ) (ps qs : List Part) → AreJoined low high new → IsLegal farm_rules opening new.seen → HasGained opening (gave old asks) low ps → HasGained opening (given old asks) high qs → HasGained opening old new (ps ++ qs)
-gains_both opening old low high new asks ps qs joined legal front back = record {
-  begins = prefix_trans old.seen low.seen new.seen front.begins joined.seen;
-  legal = legal;
-  shares = front.shares ++ back.shares;
-  mine = joined.mine ∙ (ap (λ (places : List ℕ). places ++ high.mine) front.mine ∙ (ap (λ (places : List ℕ). (old.mine ++ flat_map (λ share. share) front.shares) ++ places) back.mine ∙ (append_assoc old.mine (flat_map (λ share. share) front.shares) (flat_map (λ share. share) back.shares) ∙ ap (λ (places : List ℕ). old.mine ++ places) (sym (flat_map-append (λ (share : List ℕ). share) front.shares back.shares)))));
-  are = AreShares-both opening new.seen (length old.seen) ps qs front.shares back.shares (AreShares-within opening low.seen new.seen (length old.seen) ps front.shares joined.seen front.are) (AreShares-within opening high.seen new.seen (length old.seen) qs back.shares joined.told back.are);
-}
+gains_both opening old low high new asks ps qs joined legal front back =
+    let mine : new.mine ≡ old.mine ++ flat_map (λ (share : List ℕ). share) (front.shares ++ back.shares) = joined.mine ∙ (ap (λ (places : List ℕ). places ++ high.mine) front.mine ∙ (ap (λ (places : List ℕ). (old.mine ++ flat_map (λ share. share) front.shares) ++ places) back.mine ∙ (append_assoc old.mine (flat_map (λ share. share) front.shares) (flat_map (λ share. share) back.shares) ∙ ap (λ (places : List ℕ). old.mine ++ places) (sym (flat_map-append (λ (share : List ℕ). share) front.shares back.shares))))) in
+    record {
+      begins = prefix_trans old.seen low.seen new.seen front.begins joined.seen;
+      legal = legal;
+      shares = front.shares ++ back.shares;
+      mine = mine;
+      once = AreOnce-second old.mine (flat_map (λ (share : List ℕ). share) (front.shares ++ back.shares)) (subst AreOnce mine joined.once);
+      are = AreShares-both opening new.seen (length old.seen) ps qs front.shares back.shares (AreShares-within opening low.seen new.seen (length old.seen) ps front.shares joined.seen front.are) (AreShares-within opening high.seen new.seen (length old.seen) qs back.shares joined.told back.are);
+    }
 
 -- the parts of two rows of workers
 parts_both : (accepts : ℕ) (old low high new : Standing State Entry) (asks : ℕ) (lows_before lows_after highs_before highs_after : List Station) (first second : Ended) (ps qs : List Part) → asks ≤ old.left → AreJoined low high new → AreParts accepts (gave old asks) low lows_before lows_after first ps → AreParts accepts (given old asks) high highs_before highs_after second qs → AreParts accepts old new (lows_before ++ highs_before) (lows_after ++ highs_after) (both first second) (ps ++ qs)
@@ -242,6 +273,7 @@ ServesLegal-none accepts at befores afters ended none none_after nothing = (
     legal = legal;
     shares = [];
     mine = sym (append-nil at.mine);
+    once = AreOnce-none;
     are = refl;
   },
 )

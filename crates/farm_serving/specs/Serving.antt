@@ -1,5 +1,5 @@
 -- What workers did at one desk: which places of its history are whose.
-use Rattle.std.specs.Prelude.{◌≡◌, ℕ, ◌+◌, List, [], ◌∷◌, ◌++◌, length, map, flat_map, All, Some}
+use Rattle.std.specs.Prelude.{◌≡◌, ◌≢◌, ℕ, ◌+◌, List, [], ◌∷◌, ◌++◌, length, map, flat_map, All, AllPairs, Some}
 use mathlib.Core.List.{IsPrefix}
 use Rattle.history.specs.Histories.{IsLegal, asked_at, reply_at}
 use Rattle.history.specs.Asks.{AsksInTurn, IsRisingWithin}
@@ -42,12 +42,14 @@ AreShares opening seen first (part ∷ parts) shares =
     (share : List ℕ) × (others : List (List ℕ)) × (shares ≡ share ∷ others) × IsRisingWithin first (length seen) share
     × ArePortions opening seen part.connections share × AreShares opening seen first parts others
 
--- What a desk that began in this state gained by these parts: the history that it had seen goes on, and its own places gain a share for each part.
+-- What a desk that began in this state gained by these parts: the history that it had seen goes on, and its own places gain a share for each part,
+-- in all of which no place stands twice.
 pub record HasGained (opening : State) (old new : Standing State Entry) (parts : List Part) : Type 0 where
   pub begins : IsPrefix old.seen new.seen
   pub legal : IsLegal farm_rules opening new.seen
   pub shares : List (List ℕ)
   pub mine : new.mine ≡ old.mine ++ flat_map (λ share. share) shares
+  pub once : AllPairs (λ place another. place ≢ another) (flat_map (λ share. share) shares)
   pub are : AreShares opening new.seen (length old.seen) parts shares
 
 -- Workers that told this before and that after did these parts, each with so many accepts. These are the numbers of it, and the desk has so many asks less.
