@@ -1,3 +1,4 @@
+pub mod LeftLemmas
 pub mod OneMoreLemmas
 pub mod ServesLemmas
 pub mod WriteLemmas

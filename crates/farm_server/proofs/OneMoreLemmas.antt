@@ -12,13 +12,14 @@ use Rattle.farm_machine.specs.Law.{opened}
 use Rattle.farm_machine.specs.Step.{farm_rules}
 use Rattle.api_routes.specs.ReplyText.{reply_text, wire_text}
 use Rattle.api_routes.specs.Routes.{question_of}
-use Rattle.farm_server.specs.Served.{Outside, Ask, messages_of, questions_of, reply_texts, IsFront, IsOpenFront, EndsAs, told_of, but_last, WritesAndTells, BreaksReply, BreaksOwnReply, Writes, IsCaused, IsCount, Standing, ServesWithin}
+use Rattle.farm_server.specs.Served.{Outside, Ask, messages_of, questions_of, reply_texts, IsFront, IsOpenFront, EndsAs, LeavesAtEnd, told_of, but_last, WritesAndTells, BreaksReply, BreaksOwnReply, Writes, IsCaused, IsCount, Standing, ServesWithin}
 use Rattle.farm_server.specs.Turn.{Telling, Goes}
 use Rattle.farm_server.specs.declared.gate.When.{When}
 use Rattle.farm_server.specs.declared.gate.When.TheVariants.{Asked, Answered}
 use Rattle.farm_server.specs.declared.served.Served.{Served}
 use Rattle.farm_server.specs.declared.served.Served.TheVariants.{Closed, EndedInside, WireFault, ReadFault, WriteFault, Full, NoMemory}
 use Rattle.farm_server.specs.declared.served.TheConstants.{REQUESTS}
+use Rattle.farm_server.proofs.LeftLemmas.{Loses-then, Loses-message}
 
 -- without room there is no message
 Messages-no_room : (bytes : List ℕ) (ms : List Message) (e : Ending) → Messages 0 bytes ms e → (ms ≡ []) × (e ≡ full)
@@ -100,6 +101,24 @@ refused-more room None next m ms reason some takes goes_on others = tt
 refused-more room (Some bytes) None m ms reason some takes goes_on others = absurd takes
 refused-more room (Some bytes) (Some rest) m ms reason some takes goes_on others =
     Messages-more room bytes rest m ms (stopped reason) m.closes some refl takes goes_on others
+
+-- what is left at the end of the messages after one is left at the end of all
+LeavesAtEnd-more : (room : ℕ) (bytes rest : List ℕ) (m : Message) (ms : List Message) (now : Option (List ℕ)) (served : Served) → 0 < room → Gives bytes (whole m rest) → (m.closes ≡ false) ⊎ (room ≡ 1) → LeavesAtEnd (room - 1) rest ms now served → LeavesAtEnd room bytes (m ∷ ms) now served
+LeavesAtEnd-more room bytes rest m ms now Closed some gives goes_on (inl others) =
+    inl (Messages-more room bytes rest m ms closed m.closes some refl gives goes_on others)
+LeavesAtEnd-more room bytes rest m ms now Closed some gives goes_on (inr at_end) = inr at_end
+LeavesAtEnd-more room bytes rest m ms now EndedInside some gives goes_on at_end = at_end
+LeavesAtEnd-more room bytes rest m ms now Full some gives goes_on others = tt
+LeavesAtEnd-more room bytes rest m ms now (WireFault reason) some gives goes_on others = tt
+LeavesAtEnd-more room bytes rest m ms now ReadFault some gives goes_on others = tt
+LeavesAtEnd-more room bytes rest m ms now WriteFault some gives goes_on others = tt
+LeavesAtEnd-more room bytes rest m ms now NoMemory some gives goes_on others = tt
+
+ended-more : (room : ℕ) (left next now : Option (List ℕ)) (m : Message) (ms : List Message) (served : Served) → 0 < room → TakesOne left m next → (m.closes ≡ false) ⊎ (room ≡ 1) → IfSome next (λ bytes. LeavesAtEnd (room - 1) bytes ms now served) → IfSome left (λ bytes. LeavesAtEnd room bytes (m ∷ ms) now served)
+ended-more room None next now m ms served some takes goes_on others = tt
+ended-more room (Some bytes) None now m ms served some takes goes_on others = absurd takes
+ended-more room (Some bytes) (Some rest) now m ms served some takes goes_on others =
+    LeavesAtEnd-more room bytes rest m ms now served some takes goes_on others
 
 IsCount-more : (room count : ℕ) (served : Served) → 0 < room → IsCount (room - 1) count served → IsCount room (suc count) served
 IsCount-more room count Closed some counted = omega arith
@@ -200,6 +219,8 @@ ServesWithin-more room old middle new before between after left served some goes
         routed = (goes.routed, others.routed);
         each = ap suc others.each;
         taken = taken-more room before.left left m (messages_of rest.asks) served some goes.taken goes.goes_on others.taken;
+        left = Loses-then before.left left after.left (Loses-message before.left left m goes.taken) others.left;
+        ended = ended-more room before.left left after.left m (messages_of rest.asks) served some goes.taken goes.goes_on others.ended;
         moments = LogGrows-then before.moments between.moments after.moments (goes.once.moment ∷ []) (map (λ (ask : Ask). ask.moment) rest.asks) goes.once.moments others.moments;
         ids = LogGrows-then before.ids between.ids after.ids (goes.once.id ∷ []) (map (λ (ask : Ask). ask.id) rest.asks) goes.once.ids others.ids;
         written = Writes-more room before from after ask goes.reply rest.asks rest.replies served some goes.taken goes.goes_on (record { written = goes.written; gate = goes.gate }) others.written;

@@ -1,7 +1,7 @@
 -- What one connection did: which messages were asked, with which moments and ids, what was written, what the gate was told, and why it ended.
 use Rattle.std.specs.Prelude.{◌≡◌, ◌≢◌, ℕ, ◌+◌, ◌-◌, ◌<◌, ◌≤◌, ◌⊎◌, List, [], ◌∷◌, ◌++◌, length, map, Bool, true, false, ◌||◌, ◌==◌, Option, IfSome}
 use Rattle.std.specs.Bool.{MatchBool}
-use Rattle.std.specs.Io.KnownBytes.{Appends}
+use Rattle.std.specs.Io.KnownBytes.{Appends, IsAtEnd}
 use Rattle.causes.specs.Causes.{Rose}
 use Rattle.causes.specs.Logs.{LogGrows}
 use Rattle.history.specs.Asks.{AsksInTurn}
@@ -11,6 +11,7 @@ use Rattle.http_wire.specs.declared.link.Link as links
 use Rattle.http_wire.specs.declared.message.Message.{Message}
 use Rattle.http_wire.specs.declared.message.Wire.{Wire}
 use Rattle.http_wire.specs.declared.message.Wire.TheVariants as wire
+use Rattle.http_wire.specs.Reading.{Loses}
 use Rattle.http_wire.specs.Stream.{whole, Gives, Messages, stopped, closed, full}
 use Rattle.http_wire.specs.Whole.{IsProperFrontOf}
 use Rattle.farm_machine.specs.declared.question.Call.{Call}
@@ -107,6 +108,12 @@ EndsAs room bytes messages ReadFault = IsOpenFront room bytes messages
 EndsAs room bytes messages WriteFault = IsFront room bytes messages
 EndsAs room bytes messages NoMemory = IsOpenFront room bytes messages
 
+-- What is left to read where a connection ended so: nothing where the stream ended, before a message or inside one. Behind a last message that closes may be any bytes.
+abbrev pub LeavesAtEnd : ℕ → List ℕ → List Message → Option (List ℕ) → Served → Type 0
+LeavesAtEnd room bytes messages left Closed = Messages room bytes messages closed ⊎ IsAtEnd left
+LeavesAtEnd room bytes messages left EndedInside = IsAtEnd left
+LeavesAtEnd room bytes messages left served = Unit {0}
+
 -- What a gate is told of asks, with room for so many messages: of each in turn that it is asked, and then that it is answered. The place of one is how many a connection had before it.
 abbrev pub told_of : ℕ → List Ask → List When
 told_of room [] = []
@@ -166,6 +173,8 @@ pub record SpokeWithin (room : ℕ) (before after : Outside) (asks : List Ask) (
   pub routed : AreRouted asks
   pub each : length replies ≡ length asks
   pub taken : IfSome before.left (λ bytes. EndsAs room bytes (messages_of asks) served)
+  pub left : Loses before.left after.left
+  pub ended : IfSome before.left (λ bytes. LeavesAtEnd room bytes (messages_of asks) after.left served)
   pub moments : LogGrows before.moments after.moments (map (λ ask. ask.moment) asks)
   pub ids : LogGrows before.ids after.ids (map (λ ask. ask.id) asks)
   pub written : Writes room before after asks replies served

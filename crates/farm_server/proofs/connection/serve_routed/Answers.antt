@@ -1,6 +1,7 @@
 use Rattle.std.proofs.Common.{◌≡◌, ◌+◌, ◌-◌, ◌<◌, ◌∙◌, arith}
 use Rattle.farm_server.specs.declared.served.Served.TheVariants.{Full}
 use Rattle.farm_server.specs.declared.served.TheConstants.{REQUESTS}
+use Rattle.farm_server.proofs.LeftLemmas.{Loses-held}
 use Rattle.farm_server.proofs.ServesLemmas.{ServesWithin-next, ServesWithin-full, ServesWithin-no_memory}
 use Rattle.farm_server.proofs.connection.serve_routed.Goals as goal
 
@@ -22,4 +23,4 @@ requests-preserved g c =
 pub returns-clause-serves : goal.returns-clause-serves
 returns-clause-serves g c =
     let none : REQUESTS - c.requests.place ≡ 0 = omega (arith, c.requests-test.false) in
-    c.requests.invariant.2 c.requests.desk _ Full (ServesWithin-full (REQUESTS - c.requests.place) _ _ _ _ _ none)
+    c.requests.invariant.2 c.requests.desk _ Full (ServesWithin-full (REQUESTS - c.requests.place) _ _ _ _ _ none (Loses-held c.requests.reader (g.L.Link.left c.requests.link)))
