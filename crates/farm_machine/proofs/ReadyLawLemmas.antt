@@ -1,19 +1,19 @@
 -- No task is left ready, and none is scheduled twice.
-use Rattle.std.proofs.Common.{◌≡◌, ℕ, ◌+◌, true, false, List, [], ◌∷◌, Option, Some, None, refl, ap, ◌∙◌}
+use Rattle.std.proofs.Common.{◌≡◌, ℕ, true, false, List, [], ◌∷◌, map, Option, Some, None, refl, ap, ◌∙◌}
 use Rattle.history.specs.Histories.{end_state}
 use Rattle.farm_record.specs.declared.change.Change.{Change}
 use Rattle.farm_record.specs.declared.change.Kind.{Kind}
 use Rattle.farm_record.specs.declared.change.Kind.TheVariants.{Tick, Create, Schedule, Rerun, Cancel, Claim as TakesRuns, Reclaim, Resolve}
 use Rattle.farm_rows.specs.Changes.{after_kind, after_change, applied}
-use Rattle.farm_rows.specs.Contents.{Contents}
+use Rattle.farm_rows.specs.Contents.{Contents, HaveOwnIds}
 use Rattle.farm_rows.specs.Ready.{has_ready, settled}
-use Rattle.farm_rows.specs.Starts.{all_starts, starts_once, may_start}
+use Rattle.farm_rows.specs.Starts.{starts, starts_once, may_start}
 use Rattle.farm_rows.proofs.AdvanceLemmas.{advance-ready}
 use Rattle.farm_rows.proofs.ReadyLemmas.{settled-none}
-use Rattle.farm_rows.proofs.StartLemmas.{starts-kind, starts-settled, once-advance, once-applied}
+use Rattle.farm_rows.proofs.StartLemmas.{starts-kind, starts-schedule, starts-settled, once-advance, once-applied}
 use Rattle.farm_machine.specs.Changes.{changed, moment_of}
 use Rattle.farm_machine.specs.Entry.{Entry, tick, call, finished, out_of_memory, disk_failed, was_halted}
-use Rattle.farm_machine.specs.ReadyLaws.{made_ready}
+use Rattle.farm_machine.specs.ReadyLaws.{StartsEach}
 use Rattle.farm_machine.specs.State.{State}
 use Rattle.farm_machine.specs.Step.{after, farm_rules}
 
@@ -67,7 +67,7 @@ unfolding farm_rules
 entries-once state [] once = once
 entries-once state (entry ∷ rest) once = entries-once (after state entry) rest (entry-once state entry once)
 
--- ---- where they are ready
+-- ---- where they are ready, and where a change schedules them
 
 -- a change that may not start a task settles what it leaves
 after-settles : (contents : Contents) (at : ℕ) (kind : Kind) → may_start kind ≡ false → after_change contents at kind ≡ settled (after_kind contents at kind) at
@@ -80,9 +80,18 @@ after-settles contents at (TakesRuns claim) none = refl
 after-settles contents at (Reclaim r) none = refl
 after-settles contents at (Resolve r) none = refl
 
-pub starts-ready : (contents : Contents) (moment : ℕ) (change : Change) → may_start change.kind ≡ false → all_starts (changed contents moment (Some change)).rows ≡ all_starts contents.rows + made_ready contents change
+pub starts-ready : (contents : Contents) (moment : ℕ) (change : Change) → may_start change.kind ≡ false → StartsEach contents moment change
 unfolding applied
-starts-ready contents moment change none =
-    ap (λ (c : Contents). all_starts c.rows) (after-settles contents change.at change.kind none)
-    ∙ (starts-settled (after_kind contents change.at change.kind) change.at
-    ∙ ap (λ n. n + made_ready contents change) (starts-kind contents change.at change.kind none))
+starts-ready contents moment change none = record {
+  by_itself = starts-kind contents change.at change.kind none;
+  where_ready =
+      ap (λ (c : Contents). map starts c.rows) (after-settles contents change.at change.kind none)
+      ∙ starts-settled (after_kind contents change.at change.kind) change.at;
+}
+
+pub starts-scheduled : (contents : Contents) (moment at : ℕ) (id : List ℕ) → HaveOwnIds contents.rows → StartsEach contents moment (record { at = at; kind = Schedule id })
+unfolding applied
+starts-scheduled contents moment at id own = record {
+  by_itself = starts-schedule contents at id own;
+  where_ready = starts-settled (after_kind contents at (Schedule id)) at;
+}

@@ -1,12 +1,13 @@
 -- What holds of tasks that wait for others in every history of a farm: none is left ready, and none is scheduled twice.
-use Rattle.std.specs.Prelude.{◌≡◌, ℕ, ◌+◌, true, false, List, ◌++◌, count_by, Some}
+use Rattle.std.specs.Prelude.{◌≡◌, ℕ, true, false, List, ◌++◌, map, Some}
 use Rattle.history.specs.Histories.{end_state}
 use Rattle.farm_record.specs.declared.change.Change.{Change}
+use Rattle.farm_record.specs.declared.change.Kind.TheVariants.{Schedule}
 use Rattle.run_states.specs.Rows.{Row}
 use Rattle.farm_rows.specs.Changes.{after_kind}
-use Rattle.farm_rows.specs.Contents.{Contents}
+use Rattle.farm_rows.specs.Contents.{Contents, HaveOwnIds}
 use Rattle.farm_rows.specs.Ready.{is_ready, id_serves, has_ready}
-use Rattle.farm_rows.specs.Starts.{all_starts, starts_once, may_start}
+use Rattle.farm_rows.specs.Starts.{starts, more_starts, starts_once, may_start, starts_by}
 use Rattle.task_defs.specs.declared.choices.Requires.{Requires}
 use Rattle.farm_machine.specs.Changes.{changed}
 use Rattle.farm_machine.specs.Entry.{Entry}
@@ -26,19 +27,27 @@ IsScheduledOnce =
     (opening : State) (history : List Entry) → starts_once opening.contents.rows ≡ true
     → starts_once (end_state farm_rules opening history).contents.rows ≡ true
 
--- how many of these tasks are ready
-abbrev pub ready_count : List Row → ℕ
-ready_count rows = count_by (is_ready rows) rows
+-- the tasks as a change itself leaves them, before they settle
+abbrev pub rows_by : Contents → Change → List Row
+rows_by contents change = (after_kind contents change.at change.kind).rows
 
--- how many are, by a change, before they settle
-abbrev pub made_ready : Contents → Change → ℕ
-made_ready contents change = ready_count (after_kind contents change.at change.kind).rows
+-- How many first runs each task has by a change, task by task: by the change itself those that it had, one more where the change schedules the
+-- task, and none where it creates it; and as the tasks settle one more for each that is ready by that, and no more for any other.
+pub record StartsEach (contents : Contents) (moment : ℕ) (change : Change) : Type 0 where
+  pub by_itself : map starts (rows_by contents change) ≡ starts_by change.kind contents.rows
+  pub where_ready : map starts (changed contents moment (Some change)).rows ≡ more_starts (is_ready (rows_by contents change)) (rows_by contents change)
 
--- Ready: a change that schedules no task by itself makes as many first runs as there are tasks that are ready by it.
+-- Ready: a change that schedules no task by itself makes a first run of each task that is ready by it, and of no other.
 abbrev pub StartsWhereReady : Type 0
 StartsWhereReady =
-    (contents : Contents) (moment : ℕ) (change : Change) → may_start change.kind ≡ false
-    → all_starts (changed contents moment (Some change)).rows ≡ all_starts contents.rows + made_ready contents change
+    (contents : Contents) (moment : ℕ) (change : Change) → may_start change.kind ≡ false → StartsEach contents moment change
+
+-- Scheduled: a change that schedules a task makes one of that task, where it had no run, and of each that is ready by that, and of no other,
+-- where the tasks have ids of their own (a farm's always have).
+abbrev pub StartsWhatItSchedules : Type 0
+StartsWhatItSchedules =
+    (contents : Contents) (moment at : ℕ) (id : List ℕ) → HaveOwnIds contents.rows
+    → StartsEach contents moment (record { at = at; kind = Schedule id })
 
 -- For good: in a farm that began from records (an empty one from none), a task that serves those that wait for it does so whatever comes: a
 -- rerun of it takes nothing back.

@@ -9,7 +9,7 @@ ghost use Rattle.farm_machine.specs.State.{State};
 ghost use Rattle.farm_machine.specs.Judgement.{Judgement};
 ghost use Rattle.farm_machine.specs.HookLaws.{CallersAreExact, HooksAreExact, StarMayTrigger, StarMayCreate};
 ghost use Rattle.farm_machine.specs.Laws.{FiringEnds, AccessIsExact, StarIsNotDenied, IsCreatedOnce, CreatedStands, RecordedStands, AnswersAgain};
-ghost use Rattle.farm_machine.specs.ReadyLaws.{LeavesNoneReady, IsScheduledOnce, StartsWhereReady, IsServedForGood};
+ghost use Rattle.farm_machine.specs.ReadyLaws.{LeavesNoneReady, IsScheduledOnce, StartsWhereReady, StartsWhatItSchedules, IsServedForGood};
 ghost use Rattle.farm_machine.specs.Replay.{ReplaysAreSound, RecordsRestore, KeptMayFollow, FrontsReplay};
 ghost use Rattle.farm_machine.specs.RunLaws.{IsClaimedOnce, IsClaimedOnceWithRecords, EndsOnce, ReportsInTime};
 ghost use Rattle.farm_machine.specs.Step.{farm_rules};
@@ -171,10 +171,11 @@ pub fn no_task_is_left_ready()
     ensures { LeavesNoneReady }
 {}
 
-/// Each task is scheduled at most once, by a call or by what it waits for.
+/// Each task is scheduled at most once, by a call that schedules it or where it is ready, and then each that is, and no other.
 pub fn a_task_is_scheduled_once()
     ensures once { IsScheduledOnce }
     ensures ready { StartsWhereReady }
+    ensures scheduled { StartsWhatItSchedules }
 {}
 
 /// What a task serves those that wait for it, it serves whatever comes, in a farm that began empty or from records: a rerun of it takes

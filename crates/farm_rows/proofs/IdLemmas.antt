@@ -30,7 +30,7 @@ bytes_eq-refl : (bs : List ℕ) → bytes_eq bs bs ≡ true
 bytes_eq-refl bs = (bytes_eq-Decides bs bs).1 refl
 
 -- equality of bytes goes both ways
-bytes_eq-other : (a b : List ℕ) → bytes_eq a b ≡ false → bytes_eq b a ≡ false
+pub bytes_eq-other : (a b : List ℕ) → bytes_eq a b ≡ false → bytes_eq b a ≡ false
 bytes_eq-other a b no_ = by (bytes_eq b a) refl where
   by : (t : Bool) → bytes_eq b a ≡ t → bytes_eq b a ≡ false
   by true is = let same : b ≡ a = (bytes_eq-Decides b a).0 is in let both : bytes_eq a b ≡ true = (bytes_eq-Decides a b).1 (sym same) in cc

@@ -1,9 +1,12 @@
 -- Runs that are made as their tasks are scheduled: where a task is ready, or by the change that schedules it.
-use Rattle.std.proofs.Common.{◌≡◌, ℕ, zero, suc, ◌+◌, ◌-◌, min, Bool, true, false, cond, List, [], ◌∷◌, ◌++◌, length, count_by, is_none, Option, Some, None, refl, ap, sym, ◌∙◌, arith, nat_le, nat_lt, ◌&&◌}
-use Rattle.std.specs.List.{list_any, last_or}
+use Rattle.std.proofs.Common.{◌≡◌, ℕ, zero, suc, ◌+◌, ◌-◌, min, Bool, true, false, cond, List, [], ◌∷◌, ◌++◌, map, length, count_by, is_none, bytes_eq, Option, Some, None, refl, ap, sym, ◌∙◌, subst, arith, nat_le, nat_lt, ◌&&◌}
+use Rattle.std.specs.List.{AllByRecursion, list_any, last_or}
 use Rattle.std.proofs.lemmas.Bool.{and_parts, and_from}
+use Rattle.std.proofs.lemmas.List.{map_push}
 use Rattle.std.proofs.lemmas.List.Folds.{list_all-append}
 use Rattle.std.proofs.lemmas.List.Sums.{sum_by-cons, sum_by_push}
+use Rattle.std.proofs.lemmas.Map.Keys.{IsDistinct-head, IsDistinct-tail}
+use Rattle.std.proofs.lemmas.Slice.Eq.{bytes_eq-Decides}
 use Rattle.run_states.specs.declared.reasons.ReasonCreated.{ReasonCreated}
 use Rattle.run_states.specs.declared.reasons.ReasonCreated.TheVariants.{Rerun as MadeByRerun, Retry, TaskRetry}
 use Rattle.run_states.specs.declared.reasons.ReasonResolved.{ReasonResolved}
@@ -18,13 +21,13 @@ use Rattle.farm_record.specs.declared.change.Change.{Change}
 use Rattle.farm_record.specs.declared.change.Kind.{Kind}
 use Rattle.farm_record.specs.declared.change.Kind.TheVariants.{Tick, Create, Schedule, Rerun, Cancel, Claim as TakesRuns, Reclaim, Resolve}
 use Rattle.farm_record.specs.declared.change.RunName.{RunName}
-use Rattle.farm_rows.specs.Contents.{Contents}
+use Rattle.farm_rows.specs.Contents.{Contents, HaveOwnIds}
 use Rattle.farm_rows.specs.Ready.{is_ready, started, settled}
 use Rattle.farm_rows.specs.Due.{all_due_moments, first_due, meets_deadline, change_first, resolved_at, after_first, turn, turns, advance}
 use Rattle.farm_rows.specs.Changes.{has_id, reason_of, change_row, claim_of, all_claimed, after_kind, applied}
-use Rattle.farm_rows.specs.Starts.{is_start, starts, all_starts, starts_once, may_start}
+use Rattle.farm_rows.specs.Starts.{is_start, starts, more_starts, starts_once, may_start, schedules, starts_by}
 use Rattle.farm_rows.proofs.ReadyLemmas.{some-last, ready-free}
-use Rattle.farm_rows.proofs.IdLemmas.{after-holds}
+use Rattle.farm_rows.proofs.IdLemmas.{bytes_eq-other, after-holds}
 use Rattle.farm_rows.proofs.TurnLemmas.{deadline-resolved, claim-resolved}
 
 -- ---- runs of which one is changed
@@ -140,38 +143,30 @@ again-starts number at row = by (may_rerun at row) refl where
 
 -- ---- one of all tasks is changed
 
-all-cons : (row : Row) (rows : List Row) → all_starts (row ∷ rows) ≡ starts row + all_starts rows
-all-cons row rows = sum_by-cons starts row rows
+-- two lists are the same whose first numbers are, and the others
+both : (n m : ℕ) (ns ms : List ℕ) → n ≡ m → ns ≡ ms → n ∷ ns ≡ m ∷ ms
+both n m ns ms first rest = ap (λ (k : ℕ). k ∷ ns) first ∙ ap (λ (ks : List ℕ). m ∷ ks) rest
 
-change-starts : (test : Row → Bool) (f : Row → Row) → ((row : Row) → starts (f row) ≡ starts row) → (rows : List Row) → all_starts (change_first test f rows) ≡ all_starts rows
+change-starts : (test : Row → Bool) (f : Row → Row) → ((row : Row) → starts (f row) ≡ starts row) → (rows : List Row) → map starts (change_first test f rows) ≡ map starts rows
 change-starts test f keeps [] = refl
 change-starts test f keeps (row ∷ rows) = by (change-starts test f keeps rows) (test row) refl where
-  by : all_starts (change_first test f rows) ≡ all_starts rows → (b : Bool) → test row ≡ b → all_starts (change_first test f (row ∷ rows)) ≡ all_starts (row ∷ rows)
-  by rest true is =
-      let same = keeps row in
-      let before = all-cons row rows in
-      let after : all_starts (change_first test f (row ∷ rows)) ≡ starts (f row) + all_starts rows = ap (λ b. all_starts (cond b (f row ∷ rows) (row ∷ change_first test f rows))) is ∙ all-cons (f row) rows in
-      omega arith
-  by rest false is =
-      let before = all-cons row rows in
-      let after : all_starts (change_first test f (row ∷ rows)) ≡ starts row + all_starts (change_first test f rows) = ap (λ b. all_starts (cond b (f row ∷ rows) (row ∷ change_first test f rows))) is ∙ all-cons row (change_first test f rows) in
-      omega arith
+  by : map starts (change_first test f rows) ≡ map starts rows → (b : Bool) → test row ≡ b → map starts (change_first test f (row ∷ rows)) ≡ map starts (row ∷ rows)
+  by rest true is = ap (λ b. map starts (cond b (f row ∷ rows) (row ∷ change_first test f rows))) is ∙ ap (λ (n : ℕ). n ∷ map starts rows) (keeps row)
+  by rest false is = ap (λ b. map starts (cond b (f row ∷ rows) (row ∷ change_first test f rows))) is ∙ ap (λ (ns : List ℕ). starts row ∷ ns) rest
 
-pub starts-due : (contents : Contents) (at : ℕ) → all_starts (resolved_at contents at).rows ≡ all_starts contents.rows
+pub starts-due : (contents : Contents) (at : ℕ) → map starts (resolved_at contents at).rows ≡ map starts contents.rows
 starts-due contents at = by (list_any (meets_deadline at) contents.rows) refl where
-  by : (b : Bool) → list_any (meets_deadline at) contents.rows ≡ b → all_starts (resolved_at contents at).rows ≡ all_starts contents.rows
-  by true is = ap (λ (c : Contents). all_starts c.rows) (deadline-resolved contents at is) ∙ change-starts (meets_deadline at) (exceeded at) (finished-starts reasons.DeadlineExceeded at) contents.rows
-  by false is = ap (λ (c : Contents). all_starts c.rows) (claim-resolved contents at is) ∙ change-starts (loses_claim at) (expired contents.next at) (expired-starts contents.next at) contents.rows
+  by : (b : Bool) → list_any (meets_deadline at) contents.rows ≡ b → map starts (resolved_at contents at).rows ≡ map starts contents.rows
+  by true is = ap (λ (c : Contents). map starts c.rows) (deadline-resolved contents at is) ∙ change-starts (meets_deadline at) (exceeded at) (finished-starts reasons.DeadlineExceeded at) contents.rows
+  by false is = ap (λ (c : Contents). map starts c.rows) (claim-resolved contents at is) ∙ change-starts (loses_claim at) (expired contents.next at) (expired-starts contents.next at) contents.rows
 
-claimed-all : (claim : RunClaim) (names : List RunName) (rows : List Row) → all_starts (all_claimed claim names rows) ≡ all_starts rows
+claimed-all : (claim : RunClaim) (names : List RunName) (rows : List Row) → map starts (all_claimed claim names rows) ≡ map starts rows
 claimed-all claim [] rows = refl
 claimed-all claim (name ∷ names) rows = claimed-all claim names (change_row name.id (claimed claim) rows) ∙ change-starts (has_id name.id) (claimed claim) (claimed-starts claim) rows
 
-pub starts-kind : (contents : Contents) (at : ℕ) (kind : Kind) → may_start kind ≡ false → all_starts (after_kind contents at kind).rows ≡ all_starts contents.rows
+pub starts-kind : (contents : Contents) (at : ℕ) (kind : Kind) → may_start kind ≡ false → map starts (after_kind contents at kind).rows ≡ starts_by kind contents.rows
 starts-kind contents at Tick not_ = cc
-starts-kind contents at (Create creation) not_ =
-    let more : all_starts (contents.rows ++ new_row creation.id creation.definition ∷ []) ≡ all_starts contents.rows + 0 = sum_by_push starts contents.rows (new_row creation.id creation.definition) in
-    omega arith
+starts-kind contents at (Create creation) not_ = map_push starts contents.rows (new_row creation.id creation.definition)
 starts-kind contents at (Schedule id) not_ = cc
 starts-kind contents at (Rerun id) not_ = change-starts (has_id id) (run_again contents.next at) (again-starts contents.next at) contents.rows
 starts-kind contents at (Cancel id) not_ = change-starts (has_id id) (canceled at) (finished-starts reasons.Canceled at) contents.rows
@@ -179,39 +174,75 @@ starts-kind contents at (TakesRuns claim) not_ = claimed-all (claim_of at claim)
 starts-kind contents at (Reclaim r) not_ = change-starts (has_id r.id) (reclaimed r.run r.taken_until) (reclaimed-starts r.run r.taken_until) contents.rows
 starts-kind contents at (Resolve r) not_ = change-starts (has_id r.id) (resolved r.run (reason_of r.reason) contents.next at) (resolved-starts r.run (reason_of r.reason) contents.next at) contents.rows
 
--- ---- settling makes as many as are ready
+-- ---- a schedule starts its task, and settling each that is ready
 
-scheduled-starts : (number at : ℕ) (row : Row) → is_unscheduled row ≡ true → (starts (scheduled number at row) ≡ 1) × (starts row ≡ 0)
-scheduled-starts number at row free = by row.runs refl where
-  by : (runs : List Run) → row.runs ≡ runs → (starts (scheduled number at row) ≡ 1) × (starts row ≡ 0)
-  by [] is = (ap (λ (rs : List Run). starts_in (first_run number at rs)) is, ap starts_in is)
+-- a task with one more start, where it has that
+abbrev more_if : Bool → Row → ℕ
+more_if b row = cond b (starts row + 1) (starts row)
+
+scheduled-starts : (number at : ℕ) (row : Row) → starts (scheduled number at row) ≡ more_if (is_unscheduled row) row
+scheduled-starts number at row = by row.runs refl where
+  count : List Run → ℕ
+  count runs = cond (is_none (last_or None runs)) (starts_in runs + 1) (starts_in runs)
+
+  by : (runs : List Run) → row.runs ≡ runs → starts (scheduled number at row) ≡ more_if (is_unscheduled row) row
+  by [] is = ap (λ (rs : List Run). starts_in (first_run number at rs)) is ∙ sym (ap count is)
   by (run ∷ runs) is =
-      let no_ : false ≡ true = sym (some-last run runs) ∙ (sym (ap (λ (rs : List Run). is_none (last_or None rs)) is) ∙ free) in absurd (cc)
+      let all : List Run = run ∷ runs in
+      ap (λ (rs : List Run). starts_in (first_run number at rs)) is ∙ sym (ap count is ∙ ap (λ b. cond b (starts_in all + 1) (starts_in all)) (some-last run runs))
 
-started-starts : (test : Row → Bool) → ((row : Row) → test row ≡ true → is_unscheduled row ≡ true) → (number at : ℕ) (rows : List Row) → all_starts (started test number at rows) ≡ all_starts rows + count_by test rows
-started-starts test free number at [] = omega arith
+-- where no task of these has the id, none is scheduled
+others-keep : (id : List ℕ) (rows : List Row) → AllByRecursion (λ (other : List ℕ). bytes_eq id other ≡ false) (map (λ row. row.id) rows) → more_starts (schedules id) rows ≡ map starts rows
+others-keep id [] all = refl
+others-keep id (row ∷ rows) all =
+    let other : schedules id row ≡ false = ap (λ b. b && is_unscheduled row) (bytes_eq-other id row.id all.0) in
+    both (more_if (schedules id row) row) (starts row) (more_starts (schedules id) rows) (map starts rows) (ap (λ b. more_if b row) other) (others-keep id rows all.1)
+
+schedule-first : (id : List ℕ) (number at : ℕ) (rows : List Row) → HaveOwnIds rows → map starts (change_row id (scheduled number at) rows) ≡ more_starts (schedules id) rows
+schedule-first id number at [] own = refl
+schedule-first id number at (row ∷ rows) own = by (schedule-first id number at rows (IsDistinct-tail bytes_eq row.id ids own)) (has_id id row) refl where
+  ids : List (List ℕ)
+  ids = map (λ (r : Row). r.id) rows
+
+  next : List Row
+  next = change_row id (scheduled number at) rows
+
+  count : Bool → ℕ
+  count b = more_if (b && is_unscheduled row) row
+
+  by : map starts next ≡ more_starts (schedules id) rows → (b : Bool) → has_id id row ≡ b → map starts (change_row id (scheduled number at) (row ∷ rows)) ≡ more_starts (schedules id) (row ∷ rows)
+  by rest true is =
+      let same : row.id ≡ id = (bytes_eq-Decides row.id id).0 is in
+      let apart : AllByRecursion (λ (other : List ℕ). bytes_eq id other ≡ false) ids =
+      subst (λ (i : List ℕ). AllByRecursion (λ (other : List ℕ). bytes_eq i other ≡ false) ids) same (IsDistinct-head bytes_eq row.id ids own) in
+      ap (λ b. map starts (cond b (scheduled number at row ∷ rows) (row ∷ next))) is
+      ∙ both (starts (scheduled number at row)) (count (has_id id row)) (map starts rows) (more_starts (schedules id) rows) (scheduled-starts number at row ∙ sym (ap count is)) (sym (others-keep id rows apart))
+  by rest false is =
+      ap (λ b. map starts (cond b (scheduled number at row ∷ rows) (row ∷ next))) is
+      ∙ both (starts row) (count (has_id id row)) (map starts next) (more_starts (schedules id) rows) (sym (ap count is)) rest
+
+pub starts-schedule : (contents : Contents) (at : ℕ) (id : List ℕ) → HaveOwnIds contents.rows → map starts (after_kind contents at (Schedule id)).rows ≡ starts_by (Schedule id) contents.rows
+starts-schedule contents at id own = schedule-first id contents.next at contents.rows own
+
+started-starts : (test : Row → Bool) → ((row : Row) → test row ≡ true → is_unscheduled row ≡ true) → (number at : ℕ) (rows : List Row) → map starts (started test number at rows) ≡ more_starts test rows
+started-starts test free number at [] = refl
 started-starts test free number at (row ∷ rows) = by (started-starts test free number at rows) (started-starts test free (number + 1) at rows) (test row) refl where
-  by : all_starts (started test number at rows) ≡ all_starts rows + count_by test rows → all_starts (started test (number + 1) at rows) ≡ all_starts rows + count_by test rows → (b : Bool) → test row ≡ b
-      → all_starts (started test number at (row ∷ rows)) ≡ all_starts (row ∷ rows) + count_by test (row ∷ rows)
-  by here more true is =
-      let one = scheduled-starts number at row (free row is) in
-      let made = one.0 in
-      let none = one.1 in
-      let counted : one_if (test row) ≡ 1 = ap one_if is in
-      let count : count_by test (row ∷ rows) ≡ one_if (test row) + count_by test rows = sum_by-cons (λ (r : Row). cond (test r) 1 0) row rows in
-      let before = all-cons row rows in
-      let after : all_starts (started test number at (row ∷ rows)) ≡ starts (scheduled number at row) + all_starts (started test (number + 1) at rows) =
-      ap (λ b. all_starts (cond b (scheduled number at row ∷ started test (number + 1) at rows) (row ∷ started test number at rows))) is ∙ all-cons (scheduled number at row) (started test (number + 1) at rows) in
-      omega arith
-  by here more false is =
-      let counted : one_if (test row) ≡ 0 = ap one_if is in
-      let count : count_by test (row ∷ rows) ≡ one_if (test row) + count_by test rows = sum_by-cons (λ (r : Row). cond (test r) 1 0) row rows in
-      let before = all-cons row rows in
-      let after : all_starts (started test number at (row ∷ rows)) ≡ starts row + all_starts (started test number at rows) =
-      ap (λ b. all_starts (cond b (scheduled number at row ∷ started test (number + 1) at rows) (row ∷ started test number at rows))) is ∙ all-cons row (started test number at rows) in
-      omega arith
+  here : List Row
+  here = started test number at rows
 
-pub starts-settled : (contents : Contents) (at : ℕ) → all_starts (settled contents at).rows ≡ all_starts contents.rows + count_by (is_ready contents.rows) contents.rows
+  more : List Row
+  more = started test (number + 1) at rows
+
+  by : map starts here ≡ more_starts test rows → map starts more ≡ more_starts test rows → (b : Bool) → test row ≡ b → map starts (started test number at (row ∷ rows)) ≡ more_starts test (row ∷ rows)
+  by others later true is =
+      let counted : starts (scheduled number at row) ≡ more_if (test row) row = scheduled-starts number at row ∙ ap (λ b. more_if b row) (free row is ∙ sym is) in
+      ap (λ b. map starts (cond b (scheduled number at row ∷ more) (row ∷ here))) is
+      ∙ both (starts (scheduled number at row)) (more_if (test row) row) (map starts more) (more_starts test rows) counted later
+  by others later false is =
+      ap (λ b. map starts (cond b (scheduled number at row ∷ more) (row ∷ here))) is
+      ∙ both (starts row) (more_if (test row) row) (map starts here) (more_starts test rows) (sym (ap (λ b. more_if b row) is)) others
+
+pub starts-settled : (contents : Contents) (at : ℕ) → map starts (settled contents at).rows ≡ more_starts (is_ready contents.rows) contents.rows
 unfolding settled
 starts-settled contents at = started-starts (is_ready contents.rows) (ready-free contents.rows) contents.next at contents.rows
 

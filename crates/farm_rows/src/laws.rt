@@ -1,12 +1,12 @@
 //! Laws of what falls due, of the changes and of the names of queues: functions that do nothing, whose contracts are the laws.
-ghost use Rattle.std.specs.Prelude.{◌≡◌, ◌<◌, ◌≤◌, ◌+◌, ◌++◌, ◌&&◌, ℕ, List, Option, max, length, count_by, is_none, true, false, Some};
+ghost use Rattle.std.specs.Prelude.{◌≡◌, ◌<◌, ◌≤◌, ◌+◌, ◌++◌, ◌&&◌, ℕ, List, Option, max, map, length, count_by, is_none, true, false, Some};
 ghost use Rattle.std.specs.Thread.{IsSend};
 ghost use Rattle.run_states.specs.Rows.{Row, claim_due, new_row, scheduled};
 ghost use Rattle.run_states.specs.Later.{RowsLater};
 ghost use Rattle.farm_record.specs.declared.change.Change.{Change};
 ghost use Rattle.farm_record.specs.declared.change.Creation.{Creation};
 ghost use Rattle.farm_record.specs.declared.change.Kind.{Kind};
-ghost use Rattle.farm_record.specs.declared.change.Kind.TheVariants.{Rerun};
+ghost use Rattle.farm_record.specs.declared.change.Kind.TheVariants.{Schedule, Rerun};
 ghost use Rattle.task_defs.specs.Forms.{queue_name};
 ghost use Rattle.task_defs.specs.declared.choices.Requires.{Requires};
 ghost use Rattle.task_defs.specs.declared.choices.Requires.TheVariants.{AllCompleted};
@@ -19,7 +19,7 @@ ghost use Rattle.farm_rows.specs.Changes.{waits_well, creating, may_apply, after
 ghost use Rattle.farm_rows.specs.Waits.{missing_dependency, early_dependency};
 ghost use Rattle.farm_rows.specs.Lists.{listed, behind, page_rows, next_token, pages};
 ghost use Rattle.farm_rows.specs.declared.lists.TaskList.{TaskList};
-ghost use Rattle.farm_rows.specs.Starts.{all_starts, starts_once, may_start};
+ghost use Rattle.farm_rows.specs.Starts.{starts, more_starts, starts_once, may_start, starts_by};
 
 use run_states::rows_cross_threads;
 use task_defs::TaskQueue;
@@ -58,14 +58,15 @@ pub fn no_task_is_ready()
     ensures applied { (contents : Contents) (change : Change) → may_apply contents change ≡ true → has_ready (applied contents change) ≡ false }
 {}
 
-/// A run is made as its task is scheduled where the tasks settle, one for each that is ready, and else by the change alone that schedules
-/// the task; and no task is scheduled twice.
+/// A run is made as its task is scheduled where the tasks settle, one of each that is ready and of no other, and else by the change alone that
+/// schedules the task; and no task is scheduled twice.
 pub fn a_task_is_scheduled_once()
-    ensures due { (contents : Contents) (at : ℕ) → all_starts (resolved_at contents at).rows ≡ all_starts contents.rows }
+    ensures due { (contents : Contents) (at : ℕ) → map starts (resolved_at contents at).rows ≡ map starts contents.rows }
     ensures changed { (contents : Contents) (at : ℕ) (kind : Kind) → may_start kind ≡ false
-        → all_starts (after_kind contents at kind).rows ≡ all_starts contents.rows }
-    ensures settled { (contents : Contents) (at : ℕ) → all_starts (settled contents at).rows
-        ≡ all_starts contents.rows + count_by (is_ready contents.rows) contents.rows }
+        → map starts (after_kind contents at kind).rows ≡ starts_by kind contents.rows }
+    ensures scheduled { (contents : Contents) (at : ℕ) (id : List ℕ) → HaveOwnIds contents.rows
+        → map starts (after_kind contents at (Schedule id)).rows ≡ starts_by (Schedule id) contents.rows }
+    ensures settled { (contents : Contents) (at : ℕ) → map starts (settled contents at).rows ≡ more_starts (is_ready contents.rows) contents.rows }
     ensures advanced { (contents : Contents) (moment : ℕ) → starts_once contents.rows ≡ true → starts_once (advance contents moment).rows ≡ true }
     ensures applied { (contents : Contents) (change : Change) → starts_once contents.rows ≡ true
         → starts_once (applied contents change).rows ≡ true }

@@ -1,4 +1,4 @@
-use Rattle.farm_rows.proofs.StartLemmas.{starts-due, starts-kind, starts-settled, once-advance, once-applied}
+use Rattle.farm_rows.proofs.StartLemmas.{starts-due, starts-kind, starts-schedule, starts-settled, once-advance, once-applied}
 use Rattle.farm_rows.proofs.laws.a_task_is_scheduled_once.Goals as goal
 
 pub returns-clause-due : goal.returns-clause-due
@@ -6,6 +6,9 @@ returns-clause-due c = starts-due
 
 pub returns-clause-changed : goal.returns-clause-changed
 returns-clause-changed c = starts-kind
+
+pub returns-clause-scheduled : goal.returns-clause-scheduled
+returns-clause-scheduled c = starts-schedule
 
 pub returns-clause-settled : goal.returns-clause-settled
 returns-clause-settled c = starts-settled
