@@ -58,7 +58,7 @@ use Rattle.farm_machine.proofs.RunLawLemmas.{found-run}
 abbrev pub one_if : Bool → ℕ
 one_if b = cond b 1 0
 
-one-few : (b : Bool) → one_if b ≤ 1
+pub one-few : (b : Bool) → one_if b ≤ 1
 one-few true = omega arith
 one-few false = omega arith
 
@@ -97,7 +97,7 @@ claim-stays name rows later stays = by (run_of name rows) refl where
 keeps-claimed : (claim : Claim) (row : Row) → (claimed claim row).id ≡ row.id
 keeps-claimed claim row = (claimed-later claim row).id
 
-found-changed : (id : List ℕ) (f : Row → Row) → ((row : Row) → (f row).id ≡ row.id) → (rows : List Row) (r : Row) → row_with id rows ≡ Some r → row_with id (change_row id f rows) ≡ Some (f r)
+pub found-changed : (id : List ℕ) (f : Row → Row) → ((row : Row) → (f row).id ≡ row.id) → (rows : List Row) (r : Row) → row_with id rows ≡ Some r → row_with id (change_row id f rows) ≡ Some (f r)
 found-changed id f keeps [] r is = cc
 found-changed id f keeps (row ∷ rows) r is = by (found-changed id f keeps rows r) (bytes_eq row.id id) refl where
   by : (row_with id rows ≡ Some r → row_with id (change_row id f rows) ≡ Some (f r)) → (b : Bool) → bytes_eq row.id id ≡ b → row_with id (change_row id f (row ∷ rows)) ≡ Some (f r)

@@ -26,6 +26,7 @@ mod DeedLemmas
 mod InTimeLemmas
 mod ClaimLawLemmas
 mod RecordedClaimLemmas
+mod RecordedEndLemmas
 pub mod BehindLemmas
 pub mod ReplayLemmas
 mod SoundLemmas

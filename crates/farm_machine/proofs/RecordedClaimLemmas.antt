@@ -29,7 +29,7 @@ use Rattle.farm_machine.proofs.SoundLemmas.{left-holds, replayed-first, replay-h
 
 -- ---- runs that may be claimed are the picks of a queue
 
-same-name : (one other : RunName) → one.id ≡ other.id → one.run ≡ other.run → one ≡ other
+pub same-name : (one other : RunName) → one.id ≡ other.id → one.run ≡ other.run → one ≡ other
 same-name one other ids runs = rw (ids, runs) refl
 
 named-last : (name : RunName) (row : Row) → names_last name row ≡ true → last_name row ≡ name

@@ -82,10 +82,11 @@ replays-sound changes contents is =
 sound-stays : Stays (λ contents. are_sound contents.rows ≡ true)
 sound-stays = record { by_tick = advance-sound; by_change = λ contents change may all. applied-sound contents change all }
 
+pub replayed-sound : (records : List Change) (contents : Contents) → replayed no_contents records ≡ Some contents → are_sound contents.rows ≡ true
+replayed-sound records contents is = replay-holds (λ c. are_sound c.rows ≡ true) sound-stays no_contents contents records is refl
+
 pub restored-sound : (records : List Change) (contents : Contents) → Restores records contents → are_sound contents.rows ≡ true
-restored-sound records contents r =
-    let sound = replay-holds (λ c. are_sound c.rows ≡ true) sound-stays no_contents r.reached records r.replays refl in
-    subst (λ (rows : List Row). are_sound rows ≡ true) r.rows sound
+restored-sound records contents r = subst (λ (rows : List Row). are_sound rows ≡ true) r.rows (replayed-sound records r.reached r.replays)
 
 -- ---- what was created stands
 

@@ -11,7 +11,7 @@ ghost use Rattle.farm_machine.specs.HookLaws.{CallersAreExact, HooksAreExact, St
 ghost use Rattle.farm_machine.specs.Laws.{FiringEnds, AccessIsExact, StarIsNotDenied, IsCreatedOnce, CreatedStands, RecordedStands, AnswersAgain};
 ghost use Rattle.farm_machine.specs.ReadyLaws.{LeavesNoneReady, IsScheduledOnce, StartsWhereReady, StartsWhatItSchedules, IsServedForGood};
 ghost use Rattle.farm_machine.specs.Replay.{ReplaysAreSound, RecordsRestore, KeptMayFollow, FrontsReplay};
-ghost use Rattle.farm_machine.specs.RunLaws.{IsClaimedOnce, IsClaimedOnceWithRecords, EndsOnce, ReportsInTime};
+ghost use Rattle.farm_machine.specs.RunLaws.{IsClaimedOnce, IsClaimedOnceWithRecords, EndsOnce, EndsOnceWithRecords, IsReportedOnceWithRecords, ReportsInTime, ReportsInTimeWithRecords};
 ghost use Rattle.farm_machine.specs.Step.{farm_rules};
 ghost use Rattle.farm_machine.specs.Verdict.{setting_of, IsVerdict};
 ghost use Rattle.history.specs.Asks.{HasOneEntry};
@@ -156,14 +156,19 @@ pub fn a_run_is_claimed_once()
     ensures recorded { IsClaimedOnceWithRecords }
 {}
 
-/// A run that ended stays as it ended, with its claim, whatever comes.
+/// A run that ended stays as it ended, with its claim, whatever comes; also one that had ended before, in what the first of the records leave
+/// that the farm was opened from. Of these records and those since, at most one reports a run.
 pub fn a_run_ends_once()
-    ensures { EndsOnce }
+    ensures since { EndsOnce }
+    ensures recorded { EndsOnceWithRecords }
+    ensures reported { IsReportedOnceWithRecords }
 {}
 
-/// A report ends a run only before the end of its claim, in a farm that began empty or from records.
+/// A report ends a run only before the end of its claim, in a farm that began empty or from records; and so did each report among these
+/// records.
 pub fn a_report_ends_a_run_in_time()
-    ensures { ReportsInTime }
+    ensures since { ReportsInTime }
+    ensures recorded { ReportsInTimeWithRecords }
 {}
 
 /// Whatever comes, no task is left ready: so one that waits becomes pending by the first event after which what it waits for is there.
