@@ -13,6 +13,7 @@ use Rattle.disk_journal.specs.Bodies.{bodies_in}
 use Rattle.disk_journal.specs.Following.{Reaches}
 use Rattle.disk_journal.specs.Opening.{IsStill, Mends}
 use Rattle.disk_journal.proofs.LawLemmas.{opens_one, image_opens}
+use Rattle.disk_journal.proofs.OpenLemmas.{IsStill-then}
 use Rattle.disk_journal.proofs.TextLemmas.{torn_byte, written_byte, torn_end, written_end}
 use Rattle.disk_journal.proofs.RecordLemmas.{sized-front, sized-last}
 use Rattle.disk_journal.proofs.AppendLemmas.{gate_within}
@@ -55,6 +56,15 @@ settled_still a b still settled image left = elim (StopsLeave-now a b _ still.st
   | inl was ↦ settled image was ∙ sym still.same
   | inr none ↦ absurd none
 ]
+
+-- a disk that was synced and read is as it was, and nothing is pending
+pub read_still : {T E : Type 0} (old synced read : Contents) (done : T) → Syncs {T = T} {E = E} old synced (Ok done) → IsStill synced read → IsStill old read × IsSettled read
+read_still old synced read done sync still =
+    (IsStill-then old synced read (record { same = sync.same; stops = sync.stops }) still, settled_still synced read still sync.done)
+
+-- the end of what was followed
+pub end_is : (file followed : List ℕ) (spans : List Span) (end : ℕ) → followed ≡ file → Reaches followed spans end → end ≡ length (records (bodies_in file spans))
+end_is file followed spans end is found = subst (λ (l : List ℕ). end ≡ length (records (bodies_in l spans))) is found.place
 
 module _ {T E : Type 0} (old synced read new : Contents) (file followed closing : List ℕ) (spans : List Span) (end : ℕ) (result : Result T E) (sync : Syncs {T = T} {E = E} old synced result) (settled : IsSettled synced) (still : IsStill synced read) (is : file ≡ synced.bytes)
     (follows : followed ≡ file) (closes : closing ≡ file) (found : Reaches followed spans end × EndsBefore (bodies_in followed spans) (drop end followed)) where

@@ -1,9 +1,9 @@
 //! A journal on a disk, and an append to it.
-ghost use Rattle.std.specs.Prelude.{◌≡◌, ◌≢◌, ◌<◌, ◌≤◌, ◌^◌, ℕ, List, [], ◌∷◌, Option, option_to_list, length, OnOk, OnErr, IfOk, IfErr};
+ghost use Rattle.std.specs.Prelude.{◌≡◌, ◌≢◌, ◌+◌, ◌<◌, ◌≤◌, ◌^◌, ℕ, List, [], ◌∷◌, Option, option_to_list, length, OnOk, OnErr, IfOk, IfErr};
 ghost use Rattle.causes.specs.Causes.{HasCause, Rose};
-ghost use Rattle.disk_base.specs.Contents.{StopsLeave};
+ghost use Rattle.disk_base.specs.Contents.{IsSettled, StopsLeave};
 ghost use Rattle.disk_journal.specs.declared.fault.OpenFault.TheVariants.{Disk, Damaged};
-ghost use Rattle.disk_journal.specs.Records.{Opens, IsDamaged, placed};
+ghost use Rattle.disk_journal.specs.Records.{records, Opens, IsDamaged, placed};
 ghost use Rattle.disk_journal.specs.Images.{IsImage, IsWithin};
 ghost use Rattle.disk_journal.specs.Journals.{disk_after};
 ghost use Rattle.disk_journal.specs.Keeping.{IsReady, Keeps};
@@ -39,7 +39,7 @@ impl<D: Disk> Journal<D> {
     ghost use Rattle.disk_journal.specs.Opened.{opened_bodies, opened_places};
 
     /// Opens the journal on a disk: syncs, reads all bytes once, follows the open records, and closes the gate behind them where it
-    /// is not. An `Err` hands the disk back, and a damaged one as it was.
+    /// is not. An `Err` hands the disk back, and unless a call of it failed it is as it was, with nothing pending.
     ///
     /// Over a file that a stop of an earlier journal left, a stop in it leaves what a stop at its start might have left, or the same bodies, or
     /// these and the one pending behind them.
@@ -47,8 +47,9 @@ impl<D: Disk> Journal<D> {
         ensures bodies { D.tells → IfOk result (λ o. Opens [] (D.contents disk).bytes (opened_bodies o.1)) }
         ensures places { IfOk result (λ o. opened_places o.1 ≡ placed 0 (opened_bodies o.1)) }
         ensures ready { D.tells → IfOk result (λ o. IsReady [] (D.contents o.0.disk) o.0.end (opened_bodies o.1)) }
+        ensures end { IfOk result (λ o. o.0.end ≡ length (records (opened_bodies o.1))) }
         ensures damaged { D.tells → (place : ℕ) → IfErr result (λ e. e.0 ≡ Damaged place → IsDamaged [] (D.contents disk).bytes place) }
-        ensures untouched { D.tells → (place : ℕ) → IfErr result (λ e. e.0 ≡ Damaged place → IsStill (D.contents disk) (D.contents e.1)) }
+        ensures untouched { D.tells → IfErr result (λ e. e.0 ≢ Disk → IsStill (D.contents disk) (D.contents e.1) × IsSettled (D.contents e.1)) }
         ensures any_moment { D.tells → (bodies : List (List ℕ)) (pending : Option (List ℕ)) → IsImage [] bodies pending (D.contents disk).bytes
             → StopsLeave (D.contents disk) (D.contents (disk_after (λ j. j.disk) result)) (IsWithin [] bodies (option_to_list pending)) }
         ensures cause { IfErr result (λ e. e.0 ≡ Disk → Rose (D.faults disk) (D.faults e.1)) }
@@ -86,6 +87,9 @@ impl<D: Disk> Journal<D> {
         // At `Err` it may be there or not.
         ensures failed { D.tells → OnErr result (Keeps [] (D.contents self.old.disk) self.old.end (D.contents self.new.disk) self.new.end [] (F.body frame.now ∷ [])) }
 
+        // Over any disk the end place moves on by the record's length at `Ok`.
+        ensures moves { OnOk result (self.new.end ≡ self.old.end + 5 + length (F.body frame.now)) }
+
         // It does not give up by itself.
         ensures cause { HasCause (D.faults self.old.disk) (D.faults self.new.disk) result }
     {
@@ -108,6 +112,7 @@ impl<D: Disk> Journal<D> {
         requires ready { D.tells → (bodies : List (List ℕ)) × IsReady [] (D.contents self.old.disk) self.old.end bodies }
         ensures kept { D.tells → OnOk result (Keeps [] (D.contents self.old.disk) self.old.end (D.contents self.new.disk) self.new.end (F.body frame.now ∷ []) []) }
         ensures failed { D.tells → OnErr result (Keeps [] (D.contents self.old.disk) self.old.end (D.contents self.new.disk) self.new.end [] (F.body frame.now ∷ [])) }
+        ensures moves { OnOk result (self.new.end ≡ self.old.end + 5 + length (F.body frame.now)) }
         ensures cause { HasCause (D.faults self.old.disk) (D.faults self.new.disk) result }
     {
         match self.make_room(frame.text().len()) {
@@ -120,6 +125,7 @@ impl<D: Disk> Journal<D> {
     fn make_room(&mut self, size: usize) -> Result<(), DiskFault>
         ensures kept { D.tells → OnOk result (Keeps [] (D.contents self.old.disk) self.old.end (D.contents self.new.disk) self.new.end [] []) }
         ensures failed { D.tells → (body : List ℕ) → OnErr result (Keeps [] (D.contents self.old.disk) self.old.end (D.contents self.new.disk) self.new.end [] (body ∷ [])) }
+        ensures stays { self.new.end ≡ self.old.end }
         ensures cause { HasCause (D.faults self.old.disk) (D.faults self.new.disk) result }
     {
         let count = self.disk.ahead().min(MOST_AHEAD);
@@ -136,6 +142,7 @@ impl<D: Disk> Journal<D> {
         requires few { length zeros.now ≤ MOST_AHEAD }
         ensures kept { D.tells → OnOk result (Keeps [] (D.contents self.old.disk) self.old.end (D.contents self.new.disk) self.new.end [] []) }
         ensures failed { D.tells → (body : List ℕ) → OnErr result (Keeps [] (D.contents self.old.disk) self.old.end (D.contents self.new.disk) self.new.end [] (body ∷ [])) }
+        ensures stays { self.new.end ≡ self.old.end }
         ensures cause { HasCause (D.faults self.old.disk) (D.faults self.new.disk) result }
     {
         match put(&mut self.disk, self.end + 1, zeros) {

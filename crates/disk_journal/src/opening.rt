@@ -1,9 +1,9 @@
 //! Opening a journal.
-ghost use Rattle.std.specs.Prelude.{◌≡◌, ℕ, ◌<◌, ◌≤◌, ◌^◌, List, [], length, Option, option_to_list, Err, IfOk, OnOk};
+ghost use Rattle.std.specs.Prelude.{◌≡◌, ◌≢◌, ℕ, ◌<◌, ◌≤◌, ◌^◌, List, [], length, Option, option_to_list, Err, IfOk, IfErr, OnOk};
 ghost use Rattle.causes.specs.Causes.{HasCause};
 ghost use Rattle.disk_base.specs.Contents.{IsSettled, StopsLeave};
-ghost use Rattle.disk_journal.specs.declared.fault.OpenFault.TheVariants.{Damaged};
-ghost use Rattle.disk_journal.specs.Records.{Opens, IsDamaged, placed};
+ghost use Rattle.disk_journal.specs.declared.fault.OpenFault.TheVariants.{Disk, Damaged};
+ghost use Rattle.disk_journal.specs.Records.{records, Opens, IsDamaged, placed};
 ghost use Rattle.disk_journal.specs.Images.{IsImage, IsWithin};
 ghost use Rattle.disk_journal.specs.Keeping.{IsReady};
 ghost use Rattle.disk_journal.specs.Opened.{opened_bodies, opened_places};
@@ -36,8 +36,9 @@ pub(crate) fn open_disk<D: Disk>(alloc: Global, disk: &mut D) -> Result<(u64, Bo
     ensures bodies { D.tells → IfOk result (λ o. Opens [] (D.contents disk.old).bytes (opened_bodies o.1)) }
     ensures places { IfOk result (λ o. opened_places o.1 ≡ placed 0 (opened_bodies o.1)) }
     ensures ready { D.tells → IfOk result (λ o. IsReady [] (D.contents disk.new) o.0 (opened_bodies o.1)) }
+    ensures end { IfOk result (λ o. o.0 ≡ length (records (opened_bodies o.1))) }
     ensures damaged { D.tells → (place : ℕ) → result ≡ Err (Damaged place) → IsDamaged [] (D.contents disk.old).bytes place }
-    ensures untouched { D.tells → (place : ℕ) → result ≡ Err (Damaged place) → IsStill (D.contents disk.old) (D.contents disk.new) }
+    ensures untouched { D.tells → IfErr result (λ fault. fault ≢ Disk → IsStill (D.contents disk.old) (D.contents disk.new) × IsSettled (D.contents disk.new)) }
     ensures any_moment { D.tells → (bodies : List (List ℕ)) (pending : Option (List ℕ)) → IsImage [] bodies pending (D.contents disk.old).bytes
         → StopsLeave (D.contents disk.old) (D.contents disk.new) (IsWithin [] bodies (option_to_list pending)) }
     ensures cause { HasOpenCause (D.faults disk.old) (D.faults disk.new) result }

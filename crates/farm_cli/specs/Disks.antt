@@ -1,5 +1,5 @@
 -- The disk of a run: its opening, and what it has at the end.
-use Rattle.std.specs.Prelude.{◌≡◌, ℕ, Bool, true, false, List, [], Option, Some, Ok, Err, option_to_list}
+use Rattle.std.specs.Prelude.{◌≡◌, ◌≢◌, ℕ, Bool, true, false, List, [], Option, Some, Ok, Err, option_to_list}
 use Rattle.causes.specs.Causes.{Rose}
 use Rattle.disk_journal.specs.declared.fault.OpenFault.{OpenFault}
 use Rattle.disk_journal.specs.declared.fault.OpenFault.TheVariants as faults
@@ -9,7 +9,7 @@ use Rattle.farm_machine.specs.Entry.{Entry}
 use Rattle.farm_machine.specs.Law.{Opening}
 use Rattle.farm_machine.specs.Replay.{replayed}
 use Rattle.farm_core.specs.Farm.{HoldsHistory}
-use Rattle.farm_core.specs.Opened.{HasOpened, IsFarmDamaged, KeepsDamaged}
+use Rattle.farm_core.specs.Opened.{HasOpened, IsFarmDamaged, KeepsRefused}
 use Rattle.farm_core.specs.Records.{AreRecords, Recorded}
 use Rattle.disk_base.specs.Contents.{StopsLeave}
 use Rattle.disk_journal.specs.Images.{IsImage, IsWithin}
@@ -44,7 +44,8 @@ IsRefusedFor views given back (faults.Damaged place) =
 IsRefusedFor views given back faults.NoMemory = views.disk_faults back ≡ views.disk_faults given
 
 -- The disk was opened, had no farm that could be opened, and came back; and nothing else was asked for. Over what an earlier farm left, a stop since
--- then leaves what it might have left before, or the same records, or these and the one that was pending behind them. A damaged one keeps what it had.
+-- then leaves what it might have left before, or the same records, or these and the one that was pending behind them. Where no call of it failed it keeps
+-- what it had.
 pub record WasUnopened {F S C N T I D : Type 0} (views : Views F S C N T I D) (old new : Lendings F S C N T I D) (before now : ℕ) (name : List ℕ) (status : Status) : Type 0 where
   pub openings : now ≡ before
   pub given : S
@@ -54,7 +55,7 @@ pub record WasUnopened {F S C N T I D : Type 0} (views : Views F S C N T I D) (o
   pub why : IsRefusedFor views given back fault
   pub stops : views.disk_tells → (bodies : List (List ℕ)) (pending : Option (List ℕ)) → IsImage [] bodies pending (views.disk_contents given).bytes
       → StopsLeave (views.disk_contents given) (views.disk_contents back) (IsWithin [] bodies (option_to_list pending))
-  pub untouched : views.disk_tells → (place : ℕ) → fault ≡ faults.Damaged place → KeepsDamaged (views.disk_contents given) (views.disk_contents back) place
+  pub untouched : views.disk_tells → fault ≢ faults.Disk → KeepsRefused (views.disk_contents given) (views.disk_contents back)
   pub status_is : status ≡ status_of_fault fault
   pub console : new.console ≡ old.console
   pub clock : new.clock ≡ old.clock

@@ -94,11 +94,11 @@ has-more old_disk old_end old new_disk new_end new changes more all failed lost 
 counts-on : (opening between now : ℕ) (was halted : Bool) → was ≡ false → TellsFaults opening between was → TellsFaults between now halted → TellsFaults opening now halted
 counts-on opening between now was halted working before here = tells-then opening between now halted (before.stays working) here
 
-pub holds-asked : (tells : Type 0) (old : State) (old_disk : Disk) (old_end old_faults : ℕ) (asking : Asking) (answer : Asked) (new : State) (new_disk : Disk) (new_end new_faults : ℕ)
-    → (asked : AsksDisk tells old old_disk old_end asking answer new new_disk new_end) → old.halted ≡ false → TellsFaults old_faults new_faults new.halted
+pub holds-asked : (tells : Type 0) (old : State) (old_disk : Disk) (old_end old_count old_faults : ℕ) (asking : Asking) (answer : Asked) (new : State) (new_disk : Disk) (new_end new_count new_faults : ℕ)
+    → (asked : AsksDisk tells old old_disk old_end old_count asking answer new new_disk new_end new_count) → old.halted ≡ false → TellsFaults old_faults new_faults new.halted
     → (opening : Opening) (seen : List Entry) → Leads farm_rules opening.state seen old → HoldsHistory tells old_disk old_end old_faults old opening seen
     → HoldsHistory tells new_disk new_end new_faults new opening (seen ++ entries farm_rules old asking answer asked.call)
-holds-asked tells old old_disk old_end old_faults asking answer new new_disk new_end new_faults asked working tellings opening seen leads h =
+holds-asked tells old old_disk old_end old_count old_faults asking answer new new_disk new_end new_count new_faults asked working tellings opening seen leads h =
     let more : List Entry = entries farm_rules old asking answer asked.call in
     let all : (opening.records ++ records_of seen) ++ records_of more ≡ opening.records ++ records_of (seen ++ more) =
     append_assoc opening.records (records_of seen) (records_of more) ∙ ap (λ (l : List Change). opening.records ++ l) (sym (flat_map-append records_by seen more)) in

@@ -1,15 +1,15 @@
 -- What the opening of a farm finds, from what the opening of its journal and its replay found.
-use Rattle.std.proofs.Common.{◌≡◌, ℕ, List, [], length, None, Err, sym, subst, inr}
-use Rattle.disk_base.specs.Contents.{Contents as Disk}
+use Rattle.std.proofs.Common.{◌≡◌, ℕ, List, [], length, None, Err, sym, ◌∙◌, subst, inr}
+use Rattle.disk_base.specs.Contents.{Contents as Disk, IsSettled}
 use Rattle.disk_journal.specs.Keeping.{IsReady}
 use Rattle.disk_journal.specs.Opening.{IsStill}
-use Rattle.disk_journal.specs.Records.{Opens, IsDamaged}
+use Rattle.disk_journal.specs.Records.{Opens}
 use Rattle.disk_journal.proofs.AppendLemmas.{ready_image}
 use Rattle.disk_journal.proofs.LawLemmas.{opens_one, opens_whole, image_opens}
 use Rattle.disk_journal.specs.declared.fault.OpenFault.{OpenFault}
 use Rattle.disk_journal.specs.declared.fault.OpenFault.TheVariants as faults
 use Rattle.farm_rows.specs.Contents.{Contents}
-use Rattle.farm_core.specs.Opened.{Replays, IsFarmDamaged, KeepsDamaged, HasOpened}
+use Rattle.farm_core.specs.Opened.{Replays, IsFarmDamaged, KeepsRefused, HasOpened}
 use Rattle.farm_core.specs.Reading.{IsRestored}
 
 -- all bodies were replayed
@@ -30,17 +30,17 @@ restored-no_disk bodies fault restored is =
     let P : OpenFault → Type 0 = λ f. IsRestored bodies (Err f) in
     subst P is restored
 
--- a disk whose journal is damaged was left as it was
-pub refused-keeps : (old new : Disk) (place : ℕ) → IsDamaged [] old.bytes place → IsStill old new → KeepsDamaged old new place
-refused-keeps old new place damaged still = record {
-  as_it_was = λ _. still;
-  untouched = λ bodies opens image left. absurd (opens_whole [] old.bytes bodies place opens damaged);
+-- a disk whose journal was not opened is as it was, and nothing is pending
+pub still-keeps : (old new : Disk) → IsStill old new → IsSettled new → KeepsRefused old new
+still-keeps old new still settled = record {
+  as_it_was = λ place damaged. still;
+  untouched = λ bodies opens image left. subst (λ (l : List ℕ). Opens [] l bodies) (sym (settled image left ∙ still.same)) opens;
 }
 
--- one with a broken body has a journal at work
-pub broken-keeps : (old new : Disk) (end place : ℕ) (bodies : List (List ℕ)) → Opens [] old.bytes bodies → IsReady [] new end bodies → KeepsDamaged old new place
-broken-keeps old new end place bodies opens ready = record {
-  as_it_was = λ damaged. absurd (opens_whole [] old.bytes bodies place opens damaged);
+-- one whose journal was opened has it at work
+pub opened-keeps : (old new : Disk) (end : ℕ) (bodies : List (List ℕ)) → Opens [] old.bytes bodies → IsReady [] new end bodies → KeepsRefused old new
+opened-keeps old new end bodies opens ready = record {
+  as_it_was = λ place damaged. absurd (opens_whole [] old.bytes bodies place opens damaged);
   untouched = λ others opened image left.
       let now : Opens [] new.bytes bodies = image_opens [] bodies None new.bytes (ready_image [] new end bodies ready) in
       let same : bodies ≡ others = opens_one [] old.bytes bodies others opens opened in

@@ -1,5 +1,5 @@
 -- What the parts of an ask of a farm over a disk do, for private clauses.
-use Rattle.std.specs.Prelude.{◌≡◌, ℕ, true, false, Bool, List, [], ◌∷◌, Option, Result, Ok, Err}
+use Rattle.std.specs.Prelude.{◌≡◌, ℕ, ◌+◌, true, false, Bool, List, [], ◌∷◌, length, Option, Result, Ok, Err}
 use Rattle.std.specs.Option.{option_to_list}
 use Rattle.disk_base.specs.Contents.{Contents as Disk}
 use Rattle.farm_record.specs.declared.change.Change.{Change}
@@ -52,8 +52,8 @@ is_failed kept.NoMemory = false
 is_failed kept.Failed = true
 
 -- A call was performed at whose moment nothing is due: it became what it may, its change is kept, or is the one that failed; and it is said
--- whether the farm has halted.
-pub record Performs (tells : Type 0) (config : Config) (old : Contents) (asking : Asking) (reply : Reply) (new : Contents) (disk : Disk) (end : ℕ) (disk_now : Disk) (end_now : ℕ) (halted : Bool) : Type 0 where
+-- whether the farm has halted. The count of records grows by those that were kept.
+pub record Performs (tells : Type 0) (config : Config) (old : Contents) (asking : Asking) (reply : Reply) (new : Contents) (disk : Disk) (end count : ℕ) (disk_now : Disk) (end_now count_now : ℕ) (halted : Bool) : Type 0 where
   pub outcome : Outcome
   pub became : MayBecome (working config old) asking outcome
   pub leads : state_of config new halted ≡ after_call (working config old) asking outcome
@@ -62,3 +62,4 @@ pub record Performs (tells : Type 0) (config : Config) (old : Contents) (asking 
   pub whole : halted ≡ false → failed ≡ []
   pub lost : halted ≡ true → (change : Change) × (outcome ≡ disk_failed) × IsToKeep (working config old) asking change × (failed ≡ change ∷ [])
   pub keeps : tells → KeepsRecords disk end disk_now end_now (records_by (call asking outcome)) failed
+  pub counted : count_now ≡ count + length (records_by (call asking outcome))

@@ -1,5 +1,5 @@
 -- What an ask of a farm does to its disk, and what the disk has of a history.
-use Rattle.std.specs.Prelude.{◌≡◌, ℕ, ◌≤◌, true, false, Bool, ◌⊎◌, List, [], ◌∷◌, ◌++◌}
+use Rattle.std.specs.Prelude.{◌≡◌, ℕ, ◌+◌, ◌≤◌, true, false, Bool, ◌⊎◌, List, [], ◌∷◌, ◌++◌, length}
 use Rattle.causes.specs.Causes.{Rose}
 use Rattle.disk_base.specs.Contents.{Contents as Disk}
 use Rattle.farm_record.specs.declared.change.Change.{Change}
@@ -27,14 +27,16 @@ AreFailedBy old asking answer entry failed =
     × (failed ≡ change ∷ []))
 
 -- One ask of a farm at work: it is one step, or a tick and one; and, over a disk that tells what it holds, the records of its entries, in
--- their order, are kept on the disk, but for the one record in which the disk failed. Then the farm has halted, and only then.
-pub record AsksDisk (tells : Type 0) (old : State) (old_disk : Disk) (old_end : ℕ) (asking : Asking) (answer : Asked) (new : State) (new_disk : Disk) (new_end : ℕ) : Type 0 where
+-- their order, are kept on the disk, but for the one record in which the disk failed. Then the farm has halted, and only then. Over any disk the
+-- count of records grows by those that were kept, also where the farm halted.
+pub record AsksDisk (tells : Type 0) (old : State) (old_disk : Disk) (old_end old_count : ℕ) (asking : Asking) (answer : Asked) (new : State) (new_disk : Disk) (new_end new_count : ℕ) : Type 0 where
   pub call : Entry
   pub step : IsAsk farm_rules old asking answer call new
   pub failed : List Change
   pub failed_by : AreFailedBy old asking answer call failed
   pub whole : new.halted ≡ false → failed ≡ []
   pub keeps : tells → KeepsRecords old_disk old_end new_disk new_end (records_of (entries farm_rules old asking answer call)) failed
+  pub counted : new_count ≡ old_count + length (records_of (entries farm_rules old asking answer call))
 
 -- The count of the disk's faults does not fall: it rose where the farm halted, and stays where it did not.
 pub record TellsFaults (opening now : ℕ) (halted : Bool) : Type 0 where
@@ -56,6 +58,7 @@ pub record WasAsked (tells : Type 0) (old new : Disk) : Type 0 where
   pub seen : List Entry
   pub state : State
   pub end : ℕ
+  pub count : ℕ
   pub faults : ℕ
   pub restores : Restores opening.records opening.state.contents
   pub leads : Leads farm_rules opening.state seen state
@@ -65,4 +68,5 @@ pub record WasAsked (tells : Type 0) (old new : Disk) : Type 0 where
   pub answer : Asked
   pub now : State
   pub end_now : ℕ
-  pub asks : AsksDisk tells state old end asking answer now new end_now
+  pub count_now : ℕ
+  pub asks : AsksDisk tells state old end count asking answer now new end_now count_now

@@ -32,9 +32,10 @@ pub record IsBroken (bodies : List (List ℕ)) (place : ℕ) : Type 0 where
 abbrev pub IsFarmDamaged : List ℕ → ℕ → Type 0
 IsFarmDamaged file place = IsDamaged [] file place ⊎ ((bodies : List (List ℕ)) × Opens [] file bodies × IsBroken bodies place)
 
--- A damaged disk that was refused: where its journal is damaged it is as it was; where a body is broken each image opens to the same bodies.
-pub record KeepsDamaged (old new : Disk) (place : ℕ) : Type 0 where
-  pub as_it_was : IsDamaged [] old.bytes place → IsStill old new
+-- A disk that was refused though no call of it failed: where its journal is damaged it is as it was; where it is whole each image opens to the
+-- same bodies.
+pub record KeepsRefused (old new : Disk) : Type 0 where
+  pub as_it_was : (place : ℕ) → IsDamaged [] old.bytes place → IsStill old new
   pub untouched : (bodies : List (List ℕ)) → Opens [] old.bytes bodies → (image : List ℕ) → LeftNow new image → Opens [] image bodies
 
 -- a file that a stop leaves within records that may be replayed, which is not damaged

@@ -1,5 +1,5 @@
 //! The two parts of an ask of a farm over a disk: what is due is kept and resolved, and the call is judged, kept and made.
-ghost use Rattle.std.specs.Prelude.{◌≡◌, ◌≤◌, true, false, Some, None, IfOk, OnOk, OnErr, MatchOption};
+ghost use Rattle.std.specs.Prelude.{◌≡◌, ◌+◌, ◌≤◌, true, false, length, Some, None, IfOk, OnOk, OnErr, MatchOption};
 ghost use Rattle.causes.specs.Causes.{HasCause};
 ghost use Rattle.farm_record.specs.declared.change.Change.{Change};
 ghost use Rattle.farm_record.specs.Records.{IsRecord};
@@ -45,6 +45,7 @@ pub(crate) fn keep_due<D: Disk>(
     ensures resolved { IsResolvedBy tables.old moment result tables.new }
     ensures keeps { D.tells → KeepsRecords (D.contents records.old.disk) records.old.end
         (D.contents records.new.disk) records.new.end (ticks_kept moment result) (ticks_failed moment result) }
+    ensures counted { records.new.count ≡ records.old.count + length (ticks_kept moment result) }
     ensures works { OnOk result (records.new.halted ≡ false) }
     ensures halts { OnErr result (records.new.halted ≡ true) }
     ensures cause { HasCause (D.faults records.old.disk) (D.faults records.new.disk) result }
@@ -79,6 +80,7 @@ fn keep_change<D: Disk>(alloc: Global, records: &mut Records<D>, plan: &Plan) ->
     requires { records.old.halted ≡ false }
     ensures keeps { D.tells → KeepsRecords (D.contents records.old.disk) records.old.end (D.contents records.new.disk) records.new.end
         (changes_kept result plan.now.judgement.change) (changes_failed result plan.now.judgement.change) }
+    ensures counted { records.new.count ≡ records.old.count + length (changes_kept result plan.now.judgement.change) }
     ensures some { is_failed result ≡ true → (change : Change) × (plan.now.judgement.change ≡ Some change) }
     ensures halts { records.new.halted ≡ is_failed result }
     ensures faults { TellsFaults (D.faults records.old.disk) (D.faults records.new.disk) records.new.halted }
@@ -106,8 +108,8 @@ fn finish<D: Disk>(
     requires told { moment ≤ LAST_TOLD_MOMENT }
     requires works { records.old.halted ≡ false }
     ensures performs { (config : AnyConfig) (asking : Asking) → IsPlanOf config tables.old asking plan
-        → Performs D.tells config tables.old asking result tables.new (D.contents records.old.disk) records.old.end
-        (D.contents records.new.disk) records.new.end records.new.halted }
+        → Performs D.tells config tables.old asking result tables.new (D.contents records.old.disk) records.old.end records.old.count
+        (D.contents records.new.disk) records.new.end records.new.count records.new.halted }
     ensures faults { TellsFaults (D.faults records.old.disk) (D.faults records.new.disk) records.new.halted }
     ensures halts { result ≡ Reply.DiskFault → records.new.halted ≡ true }
 {
@@ -131,8 +133,8 @@ pub(crate) fn perform<D: Disk>(
 ) -> Reply
     requires idle { is_due tables.old (moment_by tables.old question) ≡ false }
     requires works { records.old.halted ≡ false }
-    ensures performs { Performs D.tells config.now tables.old question result tables.new (D.contents records.old.disk) records.old.end
-        (D.contents records.new.disk) records.new.end records.new.halted }
+    ensures performs { Performs D.tells config.now tables.old question result tables.new (D.contents records.old.disk) records.old.end records.old.count
+        (D.contents records.new.disk) records.new.end records.new.count records.new.halted }
     ensures faults { TellsFaults (D.faults records.old.disk) (D.faults records.new.disk) records.new.halted }
     ensures halts { result ≡ Reply.DiskFault → records.new.halted ≡ true }
 {

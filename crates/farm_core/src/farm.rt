@@ -7,7 +7,7 @@ ghost use Rattle.disk_journal.specs.declared.fault.OpenFault.TheVariants.{Disk, 
 ghost use Rattle.farm_rows.specs.Contents.{Contents};
 ghost use Rattle.farm_rows.specs.Summary.{summary_of};
 ghost use Rattle.farm_core.specs.Farm.{state_of, AsksDisk, TellsFaults, HoldsHistory};
-ghost use Rattle.farm_core.specs.Opened.{HasOpened, IsFarmDamaged, KeepsDamaged, disk_left};
+ghost use Rattle.farm_core.specs.Opened.{HasOpened, IsFarmDamaged, KeepsRefused, disk_left};
 
 use crate::asking::{keep_due, perform};
 use crate::records::Records;
@@ -27,7 +27,7 @@ use std::alloc::Global;
 /// How much a farm keeps.
 #[derive(Clone, Copy, Debug, PartialEq, Eq)]
 pub struct Counts {
-    /// The records on its disk.
+    /// The records that were on its disk at its opening, and those that it kept since; one whose append failed is not counted.
     pub records: u64,
     /// Its tasks.
     pub tasks: u32,
@@ -47,7 +47,7 @@ fn open_records<D: Disk>(alloc: Global, disk: D) -> Result<(Tables, Records<D>),
     ensures works { IfOk result (λ o. o.1.halted ≡ false) }
     ensures opened { IfOk result (λ o. HasOpened D.tells (D.contents disk).bytes (D.contents o.1.disk) o.1.end o.1.count o.0) }
     ensures damaged { D.tells → (place : ℕ) → IfErr result (λ e. e.0 ≡ Damaged place → IsFarmDamaged (D.contents disk).bytes place) }
-    ensures untouched { D.tells → (place : ℕ) → IfErr result (λ e. e.0 ≡ Damaged place → KeepsDamaged (D.contents disk) (D.contents e.1) place) }
+    ensures untouched { D.tells → IfErr result (λ e. e.0 ≢ Disk → KeepsRefused (D.contents disk) (D.contents e.1)) }
     ensures any_moment { D.tells → (bodies : List (List ℕ)) (pending : Option (List ℕ)) → IsImage [] bodies pending (D.contents disk).bytes
         → StopsLeave (D.contents disk) (D.contents (disk_left (λ o. o.1.disk) result)) (IsWithin [] bodies (option_to_list pending)) }
     ensures cause { IfErr result (λ e. e.0 ≡ Disk → Rose (D.faults disk) (D.faults e.1)) }
@@ -69,8 +69,8 @@ fn open_records<D: Disk>(alloc: Global, disk: D) -> Result<(Tables, Records<D>),
 }
 
 impl<D: Disk> Farm<D> {
-    /// Opens the farm that a disk has the records of: its tables are their replay. An `Err` hands the disk back, and a damaged one with all
-    /// that it had: as it was, or with the gate behind its bodies closed.
+    /// Opens the farm that a disk has the records of: its tables are their replay. An `Err` hands the disk back, and unless a call of it failed
+    /// with all that it had: as it was, or with the gate behind its bodies closed.
     ///
     /// Over what a stop of an earlier farm left, a stop in it leaves what a stop at its start might have left, or the same records, or these
     /// and the one pending behind them.
@@ -78,7 +78,7 @@ impl<D: Disk> Farm<D> {
         ensures opened { IfOk result (λ farm. HasOpened D.tells (D.contents disk).bytes (D.contents farm.records.disk) farm.records.end farm.records.count farm.tables) }
         ensures state { IfOk result (λ farm. (farm.config ≡ config) × (farm.records.halted ≡ false)) }
         ensures damaged { D.tells → (place : ℕ) → IfErr result (λ e. e.0 ≡ Damaged place → IsFarmDamaged (D.contents disk).bytes place) }
-        ensures untouched { D.tells → (place : ℕ) → IfErr result (λ e. e.0 ≡ Damaged place → KeepsDamaged (D.contents disk) (D.contents e.1) place) }
+        ensures untouched { D.tells → IfErr result (λ e. e.0 ≢ Disk → KeepsRefused (D.contents disk) (D.contents e.1)) }
         ensures any_moment { D.tells → (bodies : List (List ℕ)) (pending : Option (List ℕ)) → IsImage [] bodies pending (D.contents disk).bytes
             → StopsLeave (D.contents disk) (D.contents (disk_left (λ farm. farm.records.disk) result)) (IsWithin [] bodies (option_to_list pending)) }
         ensures cause { IfErr result (λ e. e.0 ≡ Disk → Rose (D.faults disk) (D.faults e.1)) }
@@ -134,8 +134,8 @@ impl<D: Disk> Farm<D> {
     /// A farm that has halted answers so, and touches nothing.
     pub fn answer(&mut self, question: Question) -> Asked
         ensures asked { self.old.records.halted ≡ false → AsksDisk D.tells
-            (state_of self.old.config self.old.tables self.old.records.halted) (D.contents self.old.records.disk) self.old.records.end question result
-            (state_of self.new.config self.new.tables self.new.records.halted) (D.contents self.new.records.disk) self.new.records.end }
+            (state_of self.old.config self.old.tables self.old.records.halted) (D.contents self.old.records.disk) self.old.records.end self.old.records.count question result
+            (state_of self.new.config self.new.tables self.new.records.halted) (D.contents self.new.records.disk) self.new.records.end self.new.records.count }
         ensures halted { self.old.records.halted ≡ true → (self.new ≡ self.old) × (result ≡ record { reply = Reply.Halted; ticked = false }) }
         ensures cause { result.reply ≡ Reply.DiskFault → Rose (D.faults self.old.records.disk) (D.faults self.new.records.disk) }
         ensures faults { self.old.records.halted ≡ false → TellsFaults (D.faults self.old.records.disk) (D.faults self.new.records.disk) self.new.records.halted }

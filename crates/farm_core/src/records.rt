@@ -1,5 +1,5 @@
 //! The records of a farm's changes on its disk.
-ghost use Rattle.std.specs.Prelude.{◌≡◌, true, false, ℕ, List, [], ◌∷◌, length, OnOk, OnErr};
+ghost use Rattle.std.specs.Prelude.{◌≡◌, ◌+◌, ◌≤◌, true, false, ℕ, List, [], ◌∷◌, length, OnOk, OnErr};
 ghost use Rattle.causes.specs.Causes.{HasCause};
 ghost use Rattle.disk_journal.specs.Keeping.{IsReady, Keeps};
 
@@ -16,7 +16,7 @@ pub struct Records<D: Disk> {
 }
 
 impl<D: Disk> Model for Records<D> {
-    ghost use Rattle.std.specs.Prelude.{◌≡◌, false, ℕ, List, [], length};
+    ghost use Rattle.std.specs.Prelude.{◌≡◌, ◌≤◌, false, ℕ, List, [], length};
     ghost use Rattle.disk_journal.specs.Keeping.{IsReady};
     ghost use Rattle.farm_core.specs.Records.{Recorded};
 
@@ -24,14 +24,15 @@ impl<D: Disk> Model for Records<D> {
 
     ghost view = { λ r. record { disk = r.journal.disk; end = r.journal.end; count = r.count; halted = r.halted } };
 
-    ghost invariant = { λ r. r.halted ≡ false → D.tells
-        → (bodies : List (List ℕ)) × IsReady [] (D.contents r.journal.disk) r.journal.end bodies × (r.count ≡ length bodies) };
+    ghost invariant = { λ r. r.halted ≡ false → (r.count ≤ r.journal.end)
+        × (D.tells → (bodies : List (List ℕ)) × IsReady [] (D.contents r.journal.disk) r.journal.end bodies × (r.count ≡ length bodies)) };
 }
 
 impl<D: Disk> Records<D> {
     /// The records of a journal that was opened with so many bodies.
     pub(crate) fn new(journal: Journal<D>, count: u64) -> Self
-        requires { D.tells → (bodies : List (List ℕ)) × IsReady [] (D.contents journal.disk) journal.end bodies × (count ≡ length bodies) }
+        requires few { count ≤ journal.end }
+        requires ready { D.tells → (bodies : List (List ℕ)) × IsReady [] (D.contents journal.disk) journal.end bodies × (count ≡ length bodies) }
         ensures { result ≡ record { disk = journal.disk; end = journal.end; count = count; halted = false } }
     {
         Records {
@@ -67,6 +68,8 @@ impl<D: Disk> Records<D> {
         requires { self.old.halted ≡ false }
         ensures kept { D.tells → OnOk result (Keeps [] (D.contents self.old.disk) self.old.end (D.contents self.new.disk) self.new.end (F.body frame.now ∷ []) []) }
         ensures failed { D.tells → OnErr result (Keeps [] (D.contents self.old.disk) self.old.end (D.contents self.new.disk) self.new.end [] (F.body frame.now ∷ [])) }
+        ensures counted { OnOk result (self.new.count ≡ self.old.count + 1) }
+        ensures stays { OnErr result (self.new.count ≡ self.old.count) }
         ensures works { OnOk result (self.new.halted ≡ false) }
         ensures halts { OnErr result (self.new.halted ≡ true) }
         ensures cause { HasCause (D.faults self.old.disk) (D.faults self.new.disk) result }

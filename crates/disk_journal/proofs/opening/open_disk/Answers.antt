@@ -1,4 +1,4 @@
-use Rattle.disk_journal.proofs.MendLemmas.{asked, opened_ready, opened_stops}
+use Rattle.disk_journal.proofs.MendLemmas.{asked, opened_ready, opened_stops, read_still, end_is}
 use Rattle.disk_journal.proofs.opening.open_disk.Goals as goal
 
 pub returns-in-Ok-mend-clause-ready : goal.returns-in-Ok-mend-clause-ready
@@ -21,3 +21,20 @@ returns-in-Err-mend-clause-any_moment g c tells =
     let found = rw c.in-Ok-End.field-0-is at c.in-Ok-End.ensures in
     let ready = asked (g.D.Disk.contents c.args.disk.now) (g.D.Disk.contents c.sync.new.self) (g.D.Disk.contents c.read_disk.new.disk) (g.D.Disk.contents c.mend.new.disk) c.in-Ok-read_disk.file.items c.deref.result.now c.deref-2.result.now c.in-Ok-End.spans.items c.in-Ok-End.end _ sync sync.done (c.in-Ok-read_disk.ensures.still tells) (c.in-Ok-read_disk.ensures.bytes tells) c.deref.ensures.value c.deref-2.ensures.value found in
     opened_stops (g.D.Disk.contents c.args.disk.now) (g.D.Disk.contents c.sync.new.self) (g.D.Disk.contents c.read_disk.new.disk) (g.D.Disk.contents c.mend.new.disk) c.in-Ok-read_disk.file.items c.deref.result.now c.deref-2.result.now c.in-Ok-End.spans.items c.in-Ok-End.end _ sync sync.done (c.in-Ok-read_disk.ensures.still tells) (c.in-Ok-read_disk.ensures.bytes tells) c.deref.ensures.value c.deref-2.ensures.value found _ (c.in-Err-mend.ensures.mends tells ready.0 ready.1)
+
+pub returns-in-Ok-mend-clause-end : goal.returns-in-Ok-mend-clause-end
+returns-in-Ok-mend-clause-end g c =
+    let found = rw c.in-Ok-End.field-0-is at c.in-Ok-End.ensures in
+    end_is c.in-Ok-read_disk.file.items c.deref.result.now c.in-Ok-End.spans.items c.in-Ok-End.end c.deref.ensures.value found.0
+
+pub returns-in-Err-read_disk-clause-untouched : goal.returns-in-Err-read_disk-clause-untouched
+returns-in-Err-read_disk-clause-untouched g c = λ tells other.
+    read_still (g.D.Disk.contents c.args.disk.now) (g.D.Disk.contents c.sync.new.self) (g.D.Disk.contents c.read_disk.new.disk) c.in-Ok.field-0 (c.in-Ok.ensures.syncs tells) (c.in-Err-read_disk.ensures.still tells)
+
+pub returns-in-Ok-Damaged-clause-untouched : goal.returns-in-Ok-Damaged-clause-untouched
+returns-in-Ok-Damaged-clause-untouched g c = λ tells other.
+    read_still (g.D.Disk.contents c.args.disk.now) (g.D.Disk.contents c.sync.new.self) (g.D.Disk.contents c.read_disk.new.disk) c.in-Ok.field-0 (c.in-Ok.ensures.syncs tells) (c.in-Ok-read_disk.ensures.still tells)
+
+pub returns-in-Err-follow-clause-untouched : goal.returns-in-Err-follow-clause-untouched
+returns-in-Err-follow-clause-untouched g c = λ tells other.
+    read_still (g.D.Disk.contents c.args.disk.now) (g.D.Disk.contents c.sync.new.self) (g.D.Disk.contents c.read_disk.new.disk) c.in-Ok.field-0 (c.in-Ok.ensures.syncs tells) (c.in-Ok-read_disk.ensures.still tells)

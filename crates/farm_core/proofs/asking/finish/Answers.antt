@@ -7,17 +7,17 @@ use Rattle.farm_core.proofs.asking.finish.Goals as goal
 pub returns-in-Done-clause-performs : goal.returns-in-Done-clause-performs
 returns-in-Done-clause-performs g c = λ config asking planned.
     let told : c.args.plan.moment ≤ LAST_TOLD_MOMENT = subst (λ m. m ≤ LAST_TOLD_MOMENT) c.requires.moment c.requires.told in
-    performs-halted _ _ _ _ _ _ _ _ _ _ _ _ c.in-Done.ensures.halts
-    (performs-done g.D.Disk.tells config c.args.tables.now asking c.args.plan _ _ _ _ told planned c.apply.new.tables c.apply.result c.apply.ensures.applied c.apply.ensures.reply (λ tells. c.in-Done.ensures.keeps tells))
+    performs-halted _ _ _ _ _ _ _ _ _ _ _ _ _ _ c.in-Done.ensures.halts
+    (performs-done g.D.Disk.tells config c.args.tables.now asking c.args.plan _ _ _ _ _ _ told planned c.apply.new.tables c.apply.result c.apply.ensures.applied c.apply.ensures.reply (λ tells. c.in-Done.ensures.keeps tells) c.in-Done.ensures.counted)
 
 pub returns-in-NoMemory-clause-performs : goal.returns-in-NoMemory-clause-performs
 returns-in-NoMemory-clause-performs g c = λ config asking planned.
-    performs-halted _ _ _ _ _ _ _ _ _ _ _ _ c.in-NoMemory.ensures.halts
-    (performs-planned_out g.D.Disk.tells config c.args.tables.now asking c.args.plan c.args.moment c.reach.new.self _ _ _ _ c.requires.moment c.requires.told planned c.reach.ensures (λ tells. c.in-NoMemory.ensures.keeps tells))
+    performs-halted _ _ _ _ _ _ _ _ _ _ _ _ _ _ c.in-NoMemory.ensures.halts
+    (performs-planned_out g.D.Disk.tells config c.args.tables.now asking c.args.plan c.args.moment c.reach.new.self _ _ _ _ _ _ c.requires.moment c.requires.told planned c.reach.ensures (λ tells. c.in-NoMemory.ensures.keeps tells) c.in-NoMemory.ensures.counted)
 
 pub returns-in-Failed-clause-performs : goal.returns-in-Failed-clause-performs
 returns-in-Failed-clause-performs g c = λ config asking planned.
     let told : c.args.plan.moment ≤ LAST_TOLD_MOMENT = subst (λ m. m ≤ LAST_TOLD_MOMENT) c.requires.moment c.requires.told in
     let change = c.in-Failed.ensures.some refl in
-    performs-halted _ _ _ _ _ _ _ _ _ _ _ _ c.in-Failed.ensures.halts
-    (performs-lost g.D.Disk.tells config c.args.tables.now asking c.args.plan _ _ _ _ told planned change.0 change.1 (λ tells. c.in-Failed.ensures.keeps tells))
+    performs-halted _ _ _ _ _ _ _ _ _ _ _ _ _ _ c.in-Failed.ensures.halts
+    (performs-lost g.D.Disk.tells config c.args.tables.now asking c.args.plan _ _ _ _ _ _ told planned change.0 change.1 (λ tells. c.in-Failed.ensures.keeps tells) c.in-Failed.ensures.counted)

@@ -1,11 +1,15 @@
 -- What the opening of the journal found is replayed.
 use Rattle.std.proofs.Common.{arith}
 use Rattle.disk_journal.specs.Opened.{opened_bodies}
-use Rattle.farm_core.proofs.OpenedLemmas.{has-opened, restored-damaged, restored-no_disk, refused-keeps, broken-keeps}
+use Rattle.disk_journal.proofs.KeepsLemmas.{few-records}
+use Rattle.farm_core.proofs.OpenedLemmas.{has-opened, restored-damaged, restored-no_disk, still-keeps, opened-keeps}
 use Rattle.farm_core.proofs.farm.open_records.Goals as goal
 
-pub new-requires : goal.new-requires
-new-requires g c = λ tells. (opened_bodies c.in-Ok.bodies, c.in-Ok.ensures.ready tells, omega arith)
+pub new-requires-clause-few : goal.new-requires-clause-few
+new-requires-clause-few g c = omega (arith, few-records (opened_bodies c.in-Ok.bodies), c.in-Ok.ensures.end)
+
+pub new-requires-clause-ready : goal.new-requires-clause-ready
+new-requires-clause-ready g c = λ tells. (opened_bodies c.in-Ok.bodies, c.in-Ok.ensures.ready tells, omega arith)
 
 pub returns-in-Ok-restore-clause-opened : goal.returns-in-Ok-restore-clause-opened
 returns-in-Ok-restore-clause-opened g c =
@@ -34,9 +38,10 @@ pub returns-clause-later : goal.returns-clause-later
 returns-clause-later g c = rw c.into_disk.ensures c.in-Ok.ensures.later
 
 pub returns-clause-untouched : goal.returns-clause-untouched
-returns-clause-untouched g c = λ tells place is.
-    rw c.into_disk.ensures (broken-keeps _ _ _ place (opened_bodies c.in-Ok.bodies) (c.in-Ok.ensures.bodies tells) (c.in-Ok.ensures.ready tells))
+returns-clause-untouched g c = λ tells other.
+    rw c.into_disk.ensures (opened-keeps _ _ _ (opened_bodies c.in-Ok.bodies) (c.in-Ok.ensures.bodies tells) (c.in-Ok.ensures.ready tells))
 
 pub returns-in-Err-clause-untouched : goal.returns-in-Err-clause-untouched
-returns-in-Err-clause-untouched g c = λ tells place is.
-    refused-keeps _ _ place (c.in-Err.ensures.damaged tells place is) (c.in-Err.ensures.untouched tells place is)
+returns-in-Err-clause-untouched g c = λ tells other.
+    let was = c.in-Err.ensures.untouched tells other in
+    still-keeps _ _ was.0 was.1

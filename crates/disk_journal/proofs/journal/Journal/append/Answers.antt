@@ -34,3 +34,8 @@ returns-clause-kept g c tells =
     let mid = first_done [] bodies body _ _ ready (g.D.Disk.contents c.put.new.disk) _ c.text-text.ensures.text first.done in
     let second = c.in-Ok-put.ensures.puts tells first.settled in
     second_done [] bodies body _ _ ready c.text-text.ensures.size (g.D.Disk.contents c.put.new.disk) mid.0 mid.1 (g.D.Disk.contents c.put-2.new.disk) _ (ap (λ n. c.args.self.now.end + n) moved) second.settled second.done)
+
+pub returns-clause-moves : goal.returns-clause-moves
+returns-clause-moves g c =
+    let body = g.F.Frame.body c.args.frame.now in
+    omega (arith, ap length c.text-text.ensures.text, length-append (sized body) (0 ∷ []), length-sized body)

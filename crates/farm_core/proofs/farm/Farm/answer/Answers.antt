@@ -12,16 +12,16 @@ perform-reply-requires-clause-idle g c =
 pub returns-in-Ok-clause-asked : goal.returns-in-Ok-clause-asked
 returns-in-Ok-clause-asked g c = λ working.
     let config = c.args.self.now.config in
-    let made = asked-so g.D.Disk.tells config c.args.self.now.tables c.keep_due.new.tables c.perform-reply.new.tables c.args.question c.moment_of-moment.result c.in-Ok.ticked c.perform-reply.result _ _ _ _ _ _ _
-    c.moment_of-moment.ensures.told c.moment_of-moment.ensures.value c.in-Ok.ensures.resolved (λ tells. c.in-Ok.ensures.keeps tells) c.perform-reply.ensures.performs in
-    asks-from _ _ _ _ _ _ _ _ _ _ _ _ working made
+    let made = asked-so g.D.Disk.tells config c.args.self.now.tables c.keep_due.new.tables c.perform-reply.new.tables c.args.question c.moment_of-moment.result c.in-Ok.ticked c.perform-reply.result _ _ _ _ _ _ _ _ _ _
+    c.moment_of-moment.ensures.told c.moment_of-moment.ensures.value c.in-Ok.ensures.resolved (λ tells. c.in-Ok.ensures.keeps tells) c.in-Ok.ensures.counted c.perform-reply.ensures.performs in
+    asks-from _ _ _ _ _ _ _ _ _ _ _ _ _ _ working made
 
 pub returns-in-Err-clause-asked : goal.returns-in-Err-clause-asked
 returns-in-Err-clause-asked g c = λ working.
     let config = c.args.self.now.config in
     let lost = c.in-Err.ensures.resolved in
-    let made = asked-failed g.D.Disk.tells config c.args.self.now.tables c.args.question c.moment_of-moment.result _ _ _ _ c.moment_of-moment.ensures.told c.moment_of-moment.ensures.value lost.0 (λ tells. c.in-Err.ensures.keeps tells) in
-    asks-from _ _ _ _ _ _ _ _ _ _ _ _ working (asks-to _ _ _ _ _ _ _ _ _ _ _ _ _ lost.1 c.in-Err.ensures.halts made)
+    let made = asked-failed g.D.Disk.tells config c.args.self.now.tables c.args.question c.moment_of-moment.result _ _ _ _ _ _ c.moment_of-moment.ensures.told c.moment_of-moment.ensures.value lost.0 (λ tells. c.in-Err.ensures.keeps tells) c.in-Err.ensures.counted in
+    asks-from _ _ _ _ _ _ _ _ _ _ _ _ _ _ working (asks-to _ _ _ _ _ _ _ _ _ _ _ _ _ _ _ lost.1 c.in-Err.ensures.halts made)
 
 -- ---- one that has halted
 

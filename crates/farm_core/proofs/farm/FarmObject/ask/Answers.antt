@@ -24,6 +24,6 @@ returns g c = elim (decided c.args.self.now.records.halted) [
       let asked = c.answer.ensures.asked working in (
         asked.call,
         asked.step,
-        λ opening seen leads held. holds-asked g.D.Disk.tells _ _ _ _ _ _ _ _ _ _ asked working (c.answer.ensures.faults working) opening seen leads held,
+        λ opening seen leads held. holds-asked g.D.Disk.tells _ _ _ _ _ _ _ _ _ _ _ _ asked working (c.answer.ensures.faults working) opening seen leads held,
       )
 ]
