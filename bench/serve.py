@@ -12,8 +12,8 @@ that writes and syncs so before it replies. A loop that took no time of its own 
 show what the farm itself comes to. Each client is a process; a client in Python takes some
 twenty microseconds a call, so pings tell no more than that the program is not slower.
 
-A disk that others use, too, is now fast and now slow, so all rows with a disk are measured in turn, in five rounds, and the table has each row's median round; the last column is the median, over the rounds, of what a row came to beside the disk
-alone in the same round.
+A disk that others use, too, is now fast and now slow, so all rows with a disk are measured in turn, in five rounds, and the table has each row's median round. The last two columns are the median, over the rounds, of what a row came to beside the disk
+alone in the same round: beside records each of which is written behind the end of the file, and beside records in room that the file has already, where a sync has no new length to keep.
 """
 import json
 import multiprocessing
@@ -30,6 +30,7 @@ PROGRAM = os.path.abspath(sys.argv[1])
 SECONDS = float(sys.argv[2]) if len(sys.argv) > 2 else 3.0
 CYCLES = 333
 ROUNDS = 5
+ROOM, PIECE = 16 << 20, 65536
 PLAIN_REPLY = b"HTTP/1.1 200 OK\r\nContent-Length: 14\r\nContent-Type: application/json\r\n\r\n{\"alive\":true}"
 
 
@@ -149,13 +150,18 @@ def rate(clients, times):
     return clients * len(times) / sum(times)
 
 
-def row(what, clients, rounds, beside=None):
-    """A line of the table, for the round in the middle of these."""
+def quotient(clients, rounds, disk):
+    """What so many clients came to beside the disk alone in the same round: the round in the middle."""
+    quotients = sorted(rate(clients, it) / rate(1, alone) for it, alone in zip(rounds, disk))
+    return "%.2f" % quotients[len(quotients) // 2]
+
+
+def row(what, clients, rounds, *disks):
+    """A line of the table, for the round in the middle of these, and beside each of these disks."""
     times = sorted(rounds, key=lambda it: rate(clients, it))[len(rounds) // 2]
     shown = ["%.0f us" % (1e6 * times[min(len(times) - 1, int(len(times) * part))]) for part in (0.5, 0.99)]
-    quotients = sorted(rate(clients, it) / rate(1, disk) for it, disk in zip(rounds, beside)) if beside else []
-    last = "%.2f" % quotients[len(quotients) // 2] if beside else ""
-    print("| %s | %d | %.0f | %s | %s | %s |" % (what, clients, rate(clients, times), *shown, last), flush=True)
+    shown += [quotient(clients, rounds, disk) for disk in disks] or ["", ""]
+    print("| %s | %d | %.0f | %s | %s | %s | %s |" % (what, clients, rate(clients, times), *shown), flush=True)
 
 
 def keep(handle, place, record):
@@ -204,9 +210,18 @@ def plain_loop(clients, client, *kept):
     return times
 
 
-def disk_alone(folder, size):
-    """Keeps a record of this size, again and again, each behind the last one."""
-    handle = os.open(os.path.join(folder, "alone.disk"), os.O_RDWR | os.O_CREAT)
+def file_with_room(path, room):
+    """A file anew, with so many bytes written, piece by piece, and synced. (In large pieces some kernels keep it in large pages, of which a sync is slower.)"""
+    handle = os.open(path, os.O_RDWR | os.O_CREAT | os.O_TRUNC)
+    for place in range(0, room, PIECE):
+        os.pwrite(handle, b"\0" * PIECE, place)
+    os.fsync(handle)
+    return handle
+
+
+def disk_alone(folder, size, room):
+    """Keeps a record of this size, again and again, each behind the last one: at the end of the file, or in so much room that it has already."""
+    handle = file_with_room(os.path.join(folder, "alone.disk"), room)
     place, record, times, until = 0, b"\0" * size, [], time.perf_counter() + SECONDS
     while time.perf_counter() < until:
         begin = time.perf_counter()
@@ -218,8 +233,8 @@ def disk_alone(folder, size):
 
 
 def disk_and_loop(folder, size, clients, client):
-    """The plain loop, which keeps a record of this size before each reply."""
-    handle = os.open(os.path.join(folder, "loop.disk"), os.O_RDWR | os.O_CREAT)
+    """The plain loop, which keeps a record of this size before each reply, in room that the file has."""
+    handle = file_with_room(os.path.join(folder, "loop.disk"), ROOM)
     times = plain_loop(clients, client, multiprocessing.Lock(), handle, b"\0" * size)
     os.close(handle)
     return times
@@ -241,7 +256,8 @@ def changes_rows(farm, folder):
     size //= count
     for turn in range(ROUNDS):
         first = 1000000 * (turn + 1)
-        found.setdefault("disk", []).append(disk_alone(folder, size))
+        found.setdefault("growing", []).append(disk_alone(folder, size, 0))
+        found.setdefault("in room", []).append(disk_alone(folder, size, ROOM))
         for clients in (1, 4):
             made = measure(changes(first + clients * 10000), farm.address, clients)
             found.setdefault(("create, claim, complete: a change each", clients), []).append(made)
@@ -251,15 +267,16 @@ def changes_rows(farm, folder):
             found.setdefault(("the plain loop, with such a record before each reply", clients), []).append(made)
             made = disk_and_loop(folder, size, clients, pings_sent_ahead)
             found.setdefault(("the plain loop, a thousand requests sent ahead", clients), []).append(made)
-    alone = found.pop("disk")
-    row("a record of %d bytes and its gate on the disk alone" % size, 1, alone)
+    disks = [found.pop("growing"), found.pop("in room")]
+    row("the disk alone: a record of %d bytes and its gate, behind the end of the file" % size, 1, disks[0], *disks)
+    row("the disk alone: the same in room that the file has", 1, disks[1], *disks)
     for (what, clients), rounds in found.items():
-        row(what, clients, rounds, alone)
+        row(what, clients, rounds, *disks)
 
 
 def main():
     with tempfile.TemporaryDirectory() as folder:
-        print("| what | clients | calls a second | median | 99 of 100 | beside the disk alone |\n|---|---|---|---|---|---|")
+        print("| what | clients | calls a second | median | 99 of 100 | beside the disk, growing | in room |\n|---|---|---|---|---|---|---|")
         with peers.Farm(PROGRAM, folder) as farm:
             pings_rows(farm)
             changes_rows(farm, folder)
