@@ -211,7 +211,7 @@ def plain_loop(clients, client, *kept):
 
 
 def file_with_room(path, room):
-    """A file anew, with so many bytes written, piece by piece, and synced. (In large pieces some kernels keep it in large pages, of which a sync is slower.)"""
+    """A file anew, with so many bytes written, piece by piece, and synced. (In a file that was written in one large piece a sync was slower.)"""
     handle = os.open(path, os.O_RDWR | os.O_CREAT | os.O_TRUNC)
     for place in range(0, room, PIECE):
         os.pwrite(handle, b"\0" * PIECE, place)
