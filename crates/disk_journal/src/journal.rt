@@ -77,20 +77,13 @@ impl<D: Disk> Journal<D> {
     /// Adds a body, in four calls of the disk: it is written behind the closed gate and synced, and then its gate is opened
     /// and synced. A stop in any of them leaves the bodies that were there, or these and this one.
     ///
-    /// A journal that answered `DiskFault` may append no more.
+    /// At `Ok` each image has the body; at `Err` it may be there or not. Over any disk the end moves on by the record's length at `Ok`, and
+    /// `Err` comes only where a call of the disk failed. A journal that answered `DiskFault` may append no more.
     pub fn append<F: Frame>(&mut self, frame: &F) -> Result<(), DiskFault>
         requires ready { D.tells → (bodies : List (List ℕ)) × IsReady [] (D.contents self.old.disk) self.old.end bodies }
-
-        // At `Ok` each image has the body.
         ensures kept { D.tells → OnOk result (Keeps [] (D.contents self.old.disk) self.old.end (D.contents self.new.disk) self.new.end (F.body frame.now ∷ []) []) }
-
-        // At `Err` it may be there or not.
         ensures failed { D.tells → OnErr result (Keeps [] (D.contents self.old.disk) self.old.end (D.contents self.new.disk) self.new.end [] (F.body frame.now ∷ [])) }
-
-        // Over any disk the end place moves on by the record's length at `Ok`.
         ensures moves { OnOk result (self.new.end ≡ self.old.end + 5 + length (F.body frame.now)) }
-
-        // It does not give up by itself.
         ensures cause { HasCause (D.faults self.old.disk) (D.faults self.new.disk) result }
     {
         let text = frame.text();
