@@ -27,6 +27,3 @@ pub use firsts::Firsts;
 pub use laws::{the_best_is_one, the_first_due_is_one};
 pub use pending::Pending;
 pub use steps::Steps;
-
-#[cfg(test)]
-mod tests;

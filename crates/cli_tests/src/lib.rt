@@ -1,4 +1,4 @@
-//! Tests of the top call, over houses in memory: of `farm_cli`.
+//! Tests of the top call, over houses in memory, and of generated loads: of `farm_cli`, `farm_bulk`.
 //!
 //! They stand in a crate of their own since the gate proves a crate's tests together with the crate: here it proves the tests alone.
 #![tactic(auto)]
@@ -13,6 +13,8 @@ mod host;
 mod houses;
 #[cfg(test)]
 mod limits;
+#[cfg(test)]
+mod loads;
 #[cfg(test)]
 mod lost;
 #[cfg(test)]

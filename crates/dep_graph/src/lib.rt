@@ -19,6 +19,3 @@ mod waits;
 
 pub use graph::Graph;
 pub use node::{Progress, Requires};
-
-#[cfg(test)]
-mod tests;

@@ -17,7 +17,7 @@ const LOWER: u64 = 65_536;
 ///
 /// A contract sees it as its number.
 #[derive(Debug, Drop)]
-pub(crate) struct Generator {
+pub struct Generator {
     number: u64,
 }
 
@@ -34,7 +34,7 @@ impl Model for Generator {
 impl Generator {
     /// The source of this seed.
     #[tactic(auto, unfolding(crate::specs::Generator::begun))]
-    pub(crate) fn new(seed: u64) -> Generator
+    pub fn new(seed: u64) -> Generator
         ensures { result ≡ begun seed }
     {
         Generator {
@@ -44,7 +44,7 @@ impl Generator {
 
     /// The next draw, 0 to 32767.
     #[tactic(auto, unfolding(crate::specs::Generator::next, crate::specs::Generator::drawn))]
-    pub(crate) fn draw(&mut self) -> u64
+    pub fn draw(&mut self) -> u64
         ensures number { self.new ≡ next self.old }
         ensures drawn { result ≡ drawn self.new }
     {

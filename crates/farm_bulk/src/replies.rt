@@ -8,11 +8,13 @@ use farm_text::{Doc, Text};
 use memchr::memrchr;
 use std::alloc::{AllocError, Global};
 
-/// A run that a worker has: the slugid of its task, and its number.
+/// A run that a worker has.
 #[derive(Debug, Drop)]
-pub(crate) struct ClaimedRun {
-    pub(crate) task: Text,
-    pub(crate) number: u64,
+pub struct ClaimedRun {
+    /// The slugid of its task.
+    pub task: Text,
+    /// Its number, from 0.
+    pub number: u64,
 }
 
 /// What stands behind the last line feed, if there is one.

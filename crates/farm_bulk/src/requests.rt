@@ -88,9 +88,9 @@ fn creation_front(alloc: Global, number: u32) -> Result<String, AllocError>
     format!(in alloc; "PUT /api/queue/v1/task/{id}")
 }
 
-/// The request that makes a task.
+/// The request that makes the task of this number, with what was drawn for it (0 to 32767).
 #[tactic(auto, unfolding(crate::specs::Requests::creation_text))]
-pub(crate) fn creation(alloc: Global, number: u32, draw: u64) -> Result<String, AllocError>
+pub fn creation(alloc: Global, number: u32, draw: u64) -> Result<String, AllocError>
     ensures { IfOk result (λ text. string_bytes text ≡ creation_text number draw) }
 {
     let front = creation_front(alloc, number)?;
@@ -144,9 +144,9 @@ fn report_front(alloc: Global, run: &ClaimedRun, draw: u64) -> Result<String, Al
     format!(in alloc; "POST /api/queue/v1/task/{task}/runs/{number}/{outcome}")
 }
 
-/// The request that reports how a run ended.
+/// The request that reports how a run ended, with what was drawn for it (0 to 32767).
 #[tactic(auto, unfolding(crate::specs::Requests::report_text))]
-pub(crate) fn report(alloc: Global, run: &ClaimedRun, draw: u64) -> Result<String, AllocError>
+pub fn report(alloc: Global, run: &ClaimedRun, draw: u64) -> Result<String, AllocError>
     ensures { IfOk result (λ text. string_bytes text ≡ report_text run.now draw) }
 {
     let front = report_front(alloc, run, draw)?;

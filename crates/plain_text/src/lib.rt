@@ -2,7 +2,5 @@
 #![tactic(auto)]
 
 mod escapes;
-#[cfg(test)]
-mod tests;
 
 pub use escapes::{escape_line, escape_lines};

@@ -7,6 +7,3 @@ pub mod laws;
 mod lines;
 
 pub use lines::{LineFault, read_scopes, write_scopes};
-
-#[cfg(test)]
-mod tests;

@@ -15,6 +15,3 @@ pub use fault::ReserveFault;
 pub use groups::Groups;
 pub use laws::{a_task_joins_its_group, pages_are_the_whole_list};
 pub use page::Page;
-
-#[cfg(test)]
-mod tests;

@@ -1,10 +1,15 @@
-//! Tests of texts, messages, roles, signatures and words: of `farm_text`, `http_wire`, `role_expand`, `hawk_auth`, `command_line`.
+//! Tests of texts, lines, messages, roles, signatures and words: of `farm_text`, `plain_text`, `scope_lines`, `http_wire`, `role_expand`,
+//! `hawk_auth`, `command_line`.
 //!
 //! They stand in a crate of their own since the gate proves a crate's tests together with the crate: here it proves the tests alone.
 #![tactic(auto)]
 
 #[cfg(test)]
+mod escapes;
+#[cfg(test)]
 mod host;
+#[cfg(test)]
+mod lines;
 #[cfg(test)]
 mod roles;
 #[cfg(test)]

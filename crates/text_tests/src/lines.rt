@@ -1,4 +1,5 @@
-use super::*;
+//! Lists of scopes as lines of a text.
+use scope_lines::{LineFault, read_scopes, write_scopes};
 use scope_sets::Scope;
 use std::alloc::Global;
 use std::test::Fail;

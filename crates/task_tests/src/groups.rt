@@ -1,5 +1,5 @@
-//! Groups and pages that were worked by hand.
-use crate::{Groups, Page, ReserveFault};
+//! Groups and pages of `task_groups` that were worked by hand.
+use task_groups::{Groups, Page, ReserveFault};
 use farm_text::SlugId;
 use std::alloc::Global;
 use std::test::Fail;

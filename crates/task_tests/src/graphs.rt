@@ -1,5 +1,5 @@
-//! Graphs that were worked by hand.
-use crate::{Graph, Progress, Requires};
+//! Graphs of `dep_graph` that were worked by hand.
+use dep_graph::{Graph, Progress, Requires};
 use std::alloc::Global;
 use std::test::Fail;
 

@@ -1,7 +1,7 @@
-//! The collections, against answers that were worked by hand.
+//! The collections of `claim_queue`, against answers that were worked by hand.
 ghost use Rattle.std.specs.Prelude.{◌≡◌, ◌<◌, OnOk};
 
-use super::*;
+use claim_queue::{Deadlines, DueRows, Leases, Pending, Steps};
 use farm_text::{Moment, Text};
 use std::alloc::{AllocError, Global};
 use std::marker::Brand;

@@ -1,4 +1,5 @@
-use super::*;
+//! Bytes that would do something to a terminal.
+use plain_text::{escape_line, escape_lines};
 use std::test::Fail;
 
 #[test]

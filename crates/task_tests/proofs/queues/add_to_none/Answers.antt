@@ -3,7 +3,7 @@ use Rattle.std.proofs.lemmas.Nat.{pow_below}
 use Rattle.claim_queue.specs.Held.{held}
 use Rattle.claim_queue.specs.Dues.{Dues, roomier}
 use Rattle.claim_queue.specs.Counts.{AreAtMost, AreFew}
-use Rattle.claim_queue.proofs.tests.add_to_none.Goals as goal
+use Rattle.task_tests.proofs.queues.add_to_none.Goals as goal
 
 -- few steps among no entries are none
 none-few : (old new : ℕ) → AreFew 0 old new → new ≡ old

@@ -1,8 +1,5 @@
 //! Loads, with the summaries that `bench/bulk_model.py` prints: a model of the rules that was written apart from this program.
-use super::*;
-use crate::generator::Generator;
-use crate::replies::ClaimedRun;
-use crate::requests::{creation, report};
+use farm_bulk::{ClaimedRun, Generator, bulk, creation, report, summary_line};
 use farm_text::Text;
 use std::alloc::Global;
 use std::test::Fail;
