@@ -37,7 +37,10 @@ pub(crate) fn open_farm<H: House>(
 {
     let disk = match house.disk(name) {
         Ok(disk) => disk,
-        Err(Failed) => return Err(on_missing(alloc, name, house.reason())),
+        Err(Failed) => {
+            drop(config);
+            return Err(on_missing(alloc, name, house.reason()));
+        }
     };
     match Farm::open(alloc, disk, config) {
         Ok(farm) => Ok(farm),

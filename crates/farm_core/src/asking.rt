@@ -116,10 +116,14 @@ fn finish<D: Disk>(
     match keep_change(alloc, records, &plan) {
         Kept::Done => apply(tables, plan),
         Kept::NoMemory => {
+            drop(plan);
             tables.reach(moment);
             Reply::OutOfMemory
         }
-        Kept::Failed => Reply::DiskFault,
+        Kept::Failed => {
+            drop(plan);
+            Reply::DiskFault
+        }
     }
 }
 

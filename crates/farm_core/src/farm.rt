@@ -93,7 +93,10 @@ impl<D: Disk> Farm<D> {
                 tables,
                 records,
             }),
-            Err(refused) => Err(refused),
+            Err(refused) => {
+                drop(config);
+                Err(refused)
+            }
         }
     }
 
@@ -142,6 +145,7 @@ impl<D: Disk> Farm<D> {
         ensures later { D.faults self.old.records.disk ≤ D.faults self.new.records.disk }
     {
         if self.records.halted() {
+            drop(question);
             return Asked {
                 reply: Reply::Halted,
                 ticked: false,
@@ -159,10 +163,13 @@ impl<D: Disk> Farm<D> {
                 );
                 Asked { reply, ticked }
             }
-            Err(DiskFault) => Asked {
-                reply: Reply::DiskFault,
-                ticked: false,
-            },
+            Err(DiskFault) => {
+                drop(question);
+                Asked {
+                    reply: Reply::DiskFault,
+                    ticked: false,
+                }
+            }
         }
     }
 }

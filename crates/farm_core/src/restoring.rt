@@ -30,8 +30,14 @@ pub(crate) fn restore(alloc: Global, bodies: &Bodies) -> Result<Tables, OpenFaul
     for index in 0..bodies.len() {
         match restore_one(alloc, &mut tables, bodies.get(index)) {
             Ok(true) => {}
-            Ok(false) => return Err(OpenFault::Damaged(bodies.place(index))),
-            Err(_) => return Err(OpenFault::NoMemory),
+            Ok(false) => {
+                drop(tables);
+                return Err(OpenFault::Damaged(bodies.place(index)));
+            }
+            Err(_) => {
+                drop(tables);
+                return Err(OpenFault::NoMemory);
+            }
         }
     }
     Ok(tables)

@@ -163,6 +163,7 @@ fn make(
     ensures same { tables.new ≡ tables.old }
 {
     if is_full_for(config, tables, &kind) {
+        drop(kind);
         return refuse_full(alloc, tables.len());
     }
     plan_change(alloc, tables, Change { at: moment, kind })
@@ -202,7 +203,13 @@ fn plan_change(alloc: Global, tables: &mut Tables, change: Change) -> Result<Jud
     ensures same { tables.new ≡ tables.old }
 {
     let telling = telling_of(&change.kind);
-    let text = write_record(alloc, &change)?;
+    let text = match write_record(alloc, &change) {
+        Ok(text) => text,
+        Err(error) => {
+            drop(change);
+            return Err(error);
+        }
+    };
     let Some(plan) = tables.plan(alloc, change)? else {
         unreachable!();
     };
@@ -221,12 +228,17 @@ fn tell(
     ensures change { IfOk result (λ judged. judged.change ≡ Some plan) }
     ensures written { IfOk result (λ judged. AreWritten judged.change (option_map (λ r. r.items) judged.written)) }
 {
-    let answer = told_answer(alloc, telling, plan.rows())?;
-    Ok(Judged {
-        answer,
-        change: Some(plan),
-        written: Some(text),
-    })
+    match told_answer(alloc, telling, plan.rows()) {
+        Ok(answer) => Ok(Judged {
+            answer,
+            change: Some(plan),
+            written: Some(text),
+        }),
+        Err(error) => {
+            drop(plan);
+            Err(error)
+        }
+    }
 }
 
 /// The answer that tells this of these tasks.

@@ -16,7 +16,9 @@ pub fn replay(alloc: Global, tables: &mut Tables, change: Change) -> Result<bool
     ensures { IsTried (may_replay tables.old change) (after_replay tables.old change) tables.old result tables.new }
 {
     if is_tick(&change.kind) {
-        return Ok(replay_tick(tables, change.at));
+        let moment = change.at;
+        drop(change);
+        return Ok(replay_tick(tables, moment));
     }
     replay_change(alloc, tables, change)
 }
