@@ -110,7 +110,7 @@ pub(crate) fn operator_in(members: &BTreeMap<String, Doc>) -> Result<Option<Oper
 {
     match operators(members) {
         Others::None => Ok(None),
-        Others::One(key) => known(Operator::from_key(key.as_bytes())),
+        Others::One(key) => known(Operator::from_key(key)),
         Others::More => Err(Fault::BadOperator),
     }
 }

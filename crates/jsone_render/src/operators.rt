@@ -27,29 +27,30 @@ pub enum Operator {
 
 impl Operator {
     /// The operator that this key is, if there is one.
-    pub fn from_key(key: &[u8]) -> Option<Operator>
+    pub fn from_key(key: &str) -> Option<Operator>
         ensures { result ≡ lookup (bytes_eq key.now) operator_names }
     {
         match key {
-            b"$eval" => Some(Operator::Eval),
-            b"$json" => Some(Operator::Json),
-            b"$if" => Some(Operator::If),
-            b"$switch" => Some(Operator::Switch),
-            b"$match" => Some(Operator::Match),
-            b"$let" => Some(Operator::Let),
-            b"$map" => Some(Operator::Map),
-            b"$reduce" => Some(Operator::Reduce),
-            b"$find" => Some(Operator::Find),
-            b"$flatten" => Some(Operator::Flatten),
-            b"$flattenDeep" => Some(Operator::FlattenDeep),
-            b"$merge" => Some(Operator::Merge),
-            b"$mergeDeep" => Some(Operator::MergeDeep),
-            b"$sort" => Some(Operator::Sort),
-            b"$reverse" => Some(Operator::Reverse),
-            b"$fromNow" => Some(Operator::FromNow),
+            "$eval" => Some(Operator::Eval),
+            "$json" => Some(Operator::Json),
+            "$if" => Some(Operator::If),
+            "$switch" => Some(Operator::Switch),
+            "$match" => Some(Operator::Match),
+            "$let" => Some(Operator::Let),
+            "$map" => Some(Operator::Map),
+            "$reduce" => Some(Operator::Reduce),
+            "$find" => Some(Operator::Find),
+            "$flatten" => Some(Operator::Flatten),
+            "$flattenDeep" => Some(Operator::FlattenDeep),
+            "$merge" => Some(Operator::Merge),
+            "$mergeDeep" => Some(Operator::MergeDeep),
+            "$sort" => Some(Operator::Sort),
+            "$reverse" => Some(Operator::Reverse),
+            "$fromNow" => Some(Operator::FromNow),
             _ => None,
         }
     }
+
     /// Its own key.
     pub fn key(self) -> &'static str
         ensures { result.now ≡ key_of self }
