@@ -26,18 +26,19 @@ pub(crate) fn shown(
 ) -> Result<Vec<TaskRow>, AllocError>
     ensures { IfOk result (λ v. v.items ≡ rows_after at number deed.now (named_rows (kind_of deed.now) rows.now)) }
 {
-    let mut shown = named(alloc, rows, deed)?;
     let claims = claims(alloc, at, deed)?;
     let room = run_room(alloc, deed)?;
-    make(
-        &mut shown,
-        &mut Index::given_up(),
-        at,
-        number,
-        deed,
-        claims,
-        room,
-    );
+    let mut shown = match named(alloc, rows, deed) {
+        Ok(shown) => shown,
+        Err(error) => {
+            drop(room);
+            drop(claims);
+            return Err(error);
+        }
+    };
+    let mut index = Index::given_up();
+    make(&mut shown, &mut index, at, number, deed, claims, room);
+    drop(index);
     Ok(shown)
 }
 

@@ -255,6 +255,7 @@ impl TaskTables {
         ensures same { self.new ≡ self.old }
     {
         if !self.may_apply(&change) {
+            drop(change);
             return Ok(None);
         }
         let Change { at, kind } = change;

@@ -56,8 +56,13 @@ impl TaskTables {
         ensures plan { IfOk result (λ p. IsPlanOn self.old p) }
         ensures same { self.new ≡ self.old }
     {
-        self.note(alloc, &creation)?;
-        self.plan_creation(alloc, at, creation)
+        match self.note(alloc, &creation) {
+            Ok(()) => self.plan_creation(alloc, at, creation),
+            Err(error) => {
+                drop(creation);
+                Err(error)
+            }
+        }
     }
 
     /// Makes room beside the tasks for one that is to be created.
@@ -79,8 +84,20 @@ impl TaskTables {
         ensures change { IfOk result (λ p. p.change ≡ creating at creation) }
         ensures plan { IfOk result (λ p. IsPlanOn self.now p) }
     {
-        let room = self.room_for(alloc, &creation)?;
-        let mut row = TaskRow::make(alloc, creation.id, creation.definition)?;
+        let room = match self.room_for(alloc, &creation) {
+            Ok(room) => room,
+            Err(error) => {
+                drop(creation);
+                return Err(error);
+            }
+        };
+        let mut row = match TaskRow::make(alloc, creation.id, creation.definition) {
+            Ok(row) => row,
+            Err(error) => {
+                drop(room);
+                return Err(error);
+            }
+        };
         self.settle_in(&mut row, at);
         Ok(TaskPlan {
             at,

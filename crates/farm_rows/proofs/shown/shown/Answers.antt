@@ -5,7 +5,7 @@ use Rattle.farm_rows.proofs.shown.shown.Goals as goal
 
 pub returns : goal.returns
 returns c =
-    let rows = c.in_ok-shown.shown in
+    let rows = c.in-Ok.shown in
     let new = c.make.new.rows in
     let len : length new ≡ rows.len = search (rules, arith) in
-    with_items_is rows new len ∙ (c.make.ensures.rows ∙ ap (rows_after c.args.at c.args.number c.args.deed.now) (c.deref_mut.ensures.value ∙ c.in_ok-shown.ensures))
+    with_items_is rows new len ∙ (c.make.ensures.rows ∙ ap (rows_after c.args.at c.args.number c.args.deed.now) (c.deref_mut.ensures.value ∙ c.in-Ok.ensures))

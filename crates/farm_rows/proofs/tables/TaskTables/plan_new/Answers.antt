@@ -9,7 +9,7 @@ pub note-requires : goal.note-requires
 note-requires c = (may-create c.args.self.now c.args.at c.args.creation c.requires).1
 
 pub plan_creation-requires : goal.plan_creation-requires
-plan_creation-requires c = ap (λ (k : Contents). may_apply k (creating c.args.at c.args.creation)) c.in_ok-note.ensures ∙ c.requires
+plan_creation-requires c = ap (λ (k : Contents). may_apply k (creating c.args.at c.args.creation)) c.in-Ok.ensures ∙ c.requires
 
-pub returns-clause-plan : goal.returns-clause-plan
-returns-clause-plan c = subst (λ (k : Contents). IfOk c.plan_creation.result (λ (p : Planned). IsPlanOn k p)) c.in_ok-note.ensures c.plan_creation.ensures.plan
+pub returns-in-Ok-clause-plan : goal.returns-in-Ok-clause-plan
+returns-in-Ok-clause-plan c = subst (λ (k : Contents). IfOk c.plan_creation.result (λ (p : Planned). IsPlanOn k p)) c.in-Ok.ensures c.plan_creation.ensures.plan
