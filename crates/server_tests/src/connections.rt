@@ -6,19 +6,15 @@ ghost use Rattle.farm_machine.specs.Law.{opened};
 ghost use Rattle.farm_machine.specs.Step.{farm_rules};
 ghost use Rattle.farm_server.specs.declared.served.TheConstants.{REQUESTS};
 
+use crate::configs::without_roles;
 use farm_core::Bare;
 use farm_desk::{Desk, Object, Solo, Spare};
-use farm_machine::config::Config;
-use farm_machine::grants::Grants;
 use farm_machine::law::Farm;
 use farm_machine::question::{Call, Caller, Question};
 use farm_machine::reply::Asked;
 use farm_server::{Gate, NoGate, REQUESTS, Served, When, serve_connection};
-use farm_text::{ListClock, ListDraws, Moment, SlugId, Text};
-use hawk_auth::ClientBook;
-use hook_fire::HookBook;
-use http_wire::{Joined, MemorySink, MemorySource, Wire};
-use role_expand::RoleSet;
+use farm_text::{ListClock, ListDraws, Moment, SlugId};
+use http_wire::{Joined, MemoryLink, MemorySink, MemorySource, Wire};
 use std::alloc::{AllocError, Global};
 use std::test::Fail;
 
@@ -66,6 +62,23 @@ struct Output {
     written: Vec<u8>,
 }
 
+/// A link with the input's bytes to read, of which the calls fail that the input names.
+fn link_of(alloc: Global, input: &Input) -> Result<MemoryLink, AllocError> {
+    let bytes = Vec::from_slice(alloc, input.bytes)?;
+    let failing_reads = Vec::from_slice(alloc, input.failing_reads)?;
+    let failing_writes = Vec::from_slice(alloc, input.failing_writes)?;
+    let sink = MemorySink::new(alloc, 200_000, failing_writes)?;
+    let source = MemorySource::new(bytes, failing_reads, 8_192);
+    Ok(Joined { source, sink })
+}
+
+/// What was written to a link.
+fn written_to(alloc: Global, link: MemoryLink) -> Result<Vec<u8>, AllocError> {
+    let written = Vec::from_slice(alloc, link.sink.written());
+    drop(link);
+    written
+}
+
 /// Serves the input over this desk, and tells this gate.
 fn serve_over<K: Desk<Question = Question, Answer = Asked, Law = Farm>, G: Gate>(
     alloc: Global,
@@ -75,46 +88,22 @@ fn serve_over<K: Desk<Question = Question, Answer = Asked, Law = Farm>, G: Gate>
 ) -> Result<Output, AllocError>
     requires { REQUESTS ≤ K.spare desk.old }
 {
-    let source = MemorySource::new(
-        Vec::from_slice(alloc, input.bytes)?,
-        Vec::from_slice(alloc, input.failing_reads)?,
-        8_192,
-    );
-    let failing = Vec::from_slice(alloc, input.failing_writes)?;
-    let mut link = Joined {
-        source,
-        sink: MemorySink::new(alloc, 200_000, failing)?,
-    };
+    let mut link = link_of(alloc, input)?;
     let mut clock = ListClock::new(Vec::new(alloc));
     let mut draws = ListDraws::new(Vec::new(alloc));
     let served = serve_connection(alloc, &mut link, desk, &mut clock, &mut draws, gate);
-    let written = Vec::from_slice(alloc, link.sink.written())?;
+    drop(draws);
+    drop(clock);
+    let written = written_to(alloc, link)?;
     Ok(Output { served, written })
-}
-
-/// A configuration without roles.
-fn config(alloc: Global) -> Result<Config, Fail> {
-    let roles = RoleSet::build(alloc, Vec::new(alloc))
-        .ok()
-        .ok_or("no roles")?;
-    let clients = ClientBook::build(alloc, Vec::new(alloc))
-        .ok()
-        .ok_or("no clients")?;
-    Ok(Config {
-        host: Text::from_str(alloc, "localhost")?,
-        port: 8080,
-        claim_timeout: 1200,
-        max_tasks: 1_000_000,
-        roles: Grants::new(alloc, roles)?,
-        clients,
-        hooks: HookBook::new(alloc),
-    })
 }
 
 /// Serves the input over an empty farm.
 fn serve(alloc: Global, input: &Input) -> Result<Output, Fail> {
-    let mut desk = Solo::new(Bare::new(alloc, config(alloc)?));
-    Ok(serve_over(alloc, input, &mut desk, &mut NoGate)?)
+    let mut desk = Solo::new(Bare::new(alloc, without_roles(alloc)?));
+    let output = serve_over(alloc, input, &mut desk, &mut NoGate);
+    drop(desk);
+    Ok(output?)
 }
 
 fn both(alloc: Global, first: &[u8], second: &[u8]) -> Result<Vec<u8>, AllocError> {
@@ -294,14 +283,17 @@ fn others_may_ask_between(rt: HostRuntime) -> Result<(), Fail> {
         return Err(Fail::from("no slugid"));
     };
     let mut desk = Busy {
-        farm: Bare::new(alloc, config(alloc)?),
+        farm: Bare::new(alloc, without_roles(alloc)?),
         others,
         left: 1_000,
     };
-    let output = serve_over(alloc, &Input::of(PING), &mut desk, &mut NoGate)?;
+    let output = serve_over(alloc, &Input::of(PING), &mut desk, &mut NoGate);
+    let left = desk.left();
+    drop(desk);
+    let output = output?;
     assert_eq!(rt; output.served, Served::Closed);
     assert_eq!(rt; output.written.as_slice(), ALIVE);
-    assert_eq!(rt; desk.left(), 999);
+    assert_eq!(rt; left, 999);
     Ok(())
 }
 
@@ -324,12 +316,14 @@ impl Gate for Notebook {
 
 /// What the gate is told where this input is served.
 fn told_of(alloc: Global, input: &Input) -> Result<Vec<When>, Fail> {
-    let mut desk = Solo::new(Bare::new(alloc, config(alloc)?));
+    let mut desk = Solo::new(Bare::new(alloc, without_roles(alloc)?));
     let mut gate = Notebook {
         kept: Vec::new(alloc),
         is_lost: false,
     };
-    let _ = serve_over(alloc, input, &mut desk, &mut gate)?;
+    let output = serve_over(alloc, input, &mut desk, &mut gate);
+    drop(desk);
+    let _ = output?;
     if gate.is_lost {
         return Err(Fail::from("memory ran out"));
     }

@@ -2,7 +2,9 @@
 
 use causes::Failed;
 use disk_base::{Disk, FileDisk, MemoryDisk};
+use std::alloc::Global;
 use std::fs;
+use std::process::Abort;
 use std::test::Fail;
 
 /// Writes, cuts and syncs, and reads what is there.
@@ -61,12 +63,14 @@ fn a_disk_in_memory_fails_as_told(rt: HostRuntime) -> Result<(), Fail> {
     // There is room for no other call that changes anything.
     assert_eq!(rt; disk.sync(), Err(Failed));
     assert_eq!(rt; disk.faults(), 1);
+    drop(disk);
     for failing in 0..6 {
         let mut chosen = Vec::new(alloc);
         chosen.push(failing)?;
         let mut disk = MemoryDisk::new(alloc, b"", 8, 5, chosen)?;
         assert_eq!(rt; work(&mut disk, &mut buf), Err(Failed));
         assert_eq!(rt; disk.faults(), 1);
+        drop(disk);
     }
     Ok(())
 }
@@ -75,14 +79,23 @@ fn a_disk_in_memory_fails_as_told(rt: HostRuntime) -> Result<(), Fail> {
 fn images_are_listed(rt: HostRuntime) -> Result<(), Fail> {
     let alloc = rt.alloc();
     let mut disk = MemoryDisk::new(alloc, b"ab", 8, 8, Vec::new(alloc))?;
+    let listed = list_images(&rt, alloc, &mut disk);
+    drop(disk);
+    listed
+}
+
+/// Lists the images of a disk with the bytes `ab`, call by call.
+fn list_images(rt: &impl Abort, alloc: Global, disk: &mut MemoryDisk) -> Result<(), Fail> {
     let nothing = disk.images(alloc, &[0, 255])?;
     assert_eq!(rt; nothing.len(), 1);
     assert_eq!(rt; nothing[0].as_slice(), b"ab".as_slice());
+    drop(nothing);
     // The byte is as it was, or one of the choices.
     assert_eq!(rt; disk.write_at(1, b"z"), Ok(()));
     let over = disk.images(alloc, &[0, 255])?;
     assert_eq!(rt; over.len(), 3);
     assert_eq!(rt; over[1].as_slice(), [97, 0].as_slice());
+    drop(over);
     assert_eq!(rt; disk.sync(), Ok(()));
     // None, one or two bytes more, and then one, two, three or four in all.
     assert_eq!(rt; disk.write_at(2, b"yy"), Ok(()));

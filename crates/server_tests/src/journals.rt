@@ -14,7 +14,11 @@ enum Outcome {
 
 fn open<D: Disk>(alloc: Global, disk: D) -> (Outcome, D) {
     match Journal::open(alloc, disk) {
-        Ok((journal, bodies)) => (Outcome::Bodies(bodies.len()), journal.into_disk()),
+        Ok((journal, bodies)) => {
+            let outcome = Outcome::Bodies(bodies.len());
+            drop(bodies);
+            (outcome, journal.into_disk())
+        }
         Err((fault, disk)) => (Outcome::Fault(fault), disk),
     }
 }
@@ -22,8 +26,9 @@ fn open<D: Disk>(alloc: Global, disk: D) -> (Outcome, D) {
 /// Opens a disk and appends to it.
 fn append<D: Disk, F: Frame>(alloc: Global, disk: D, frame: &F) -> (Option<DiskFault>, D) {
     match Journal::open(alloc, disk) {
-        Ok((mut journal, _)) => {
+        Ok((mut journal, bodies)) => {
             let fault = journal.append(frame).err();
+            drop(bodies);
             (fault, journal.into_disk())
         }
         Err((_, disk)) => (None, disk),
@@ -54,8 +59,9 @@ fn asking(alloc: Global, file: &[u8], failing: u64) -> Result<MemoryDisk, AllocE
 /// Opens a disk and keeps a body on it.
 fn keep<D: Disk, F: Frame>(alloc: Global, disk: D, frame: &F) -> (Option<DiskFault>, D) {
     match Journal::open(alloc, disk) {
-        Ok((mut journal, _)) => {
+        Ok((mut journal, bodies)) => {
             let fault = journal.keep(frame).err();
+            drop(bodies);
             (fault, journal.into_disk())
         }
         Err((_, disk)) => (None, disk),
@@ -64,7 +70,9 @@ fn keep<D: Disk, F: Frame>(alloc: Global, disk: D, frame: &F) -> (Option<DiskFau
 
 /// What a file opens to.
 fn reopen(alloc: Global, file: &[u8]) -> Result<Outcome, AllocError> {
-    Ok(open(alloc, memory(alloc, file, None)?).0)
+    let (outcome, disk) = open(alloc, memory(alloc, file, None)?);
+    drop(disk);
+    Ok(outcome)
 }
 
 /// The byte of the first gate.
@@ -84,6 +92,21 @@ fn counts(alloc: Global, images: &[Vec<u8>]) -> Result<(u64, u64), AllocError> {
         }
     }
     Ok((none, one))
+}
+
+/// The images of a disk, which is dropped.
+fn images_of(alloc: Global, disk: MemoryDisk, choices: &[u8]) -> Result<Vec<Vec<u8>>, AllocError> {
+    let images = disk.images(alloc, choices);
+    drop(disk);
+    images
+}
+
+/// How many of them open to no body, and how many to one.
+fn counts_of(alloc: Global, disk: MemoryDisk, choices: &[u8]) -> Result<(u64, u64), AllocError> {
+    let images = images_of(alloc, disk, choices)?;
+    let counted = counts(alloc, &images);
+    drop(images);
+    counted
 }
 
 /// The tick at the first moment of 2024.
@@ -108,18 +131,17 @@ fn an_append_is_stopped_in_each_call(rt: HostRuntime) -> Result<(), Fail> {
     for call in 3..5 {
         let (fault, stopped) = append(alloc, memory(alloc, &[0], Some(call))?, &tick);
         assert_eq!(rt; fault, Some(DiskFault));
-        let images = stopped.images(alloc, &[0xa5])?;
-        assert_eq!(rt; counts(alloc, &images)?, (15, 0));
+        assert_eq!(rt; counts_of(alloc, stopped, &[0xa5])?, (15, 0));
     }
     for call in 5..7 {
         let (fault, stopped) = append(alloc, memory(alloc, &[0], Some(call))?, &tick);
         assert_eq!(rt; fault, Some(DiskFault));
-        assert_eq!(rt; counts(alloc, &stopped.images(alloc, &all)?)?, (255, 1));
+        assert_eq!(rt; counts_of(alloc, stopped, &all)?, (255, 1));
     }
     let (fault, done) = append(alloc, memory(alloc, &[0], None)?, &tick);
     assert_eq!(rt; fault, None);
     assert_eq!(rt; done.bytes(), WHOLE.as_slice());
-    assert_eq!(rt; counts(alloc, &done.images(alloc, &all)?)?, (0, 1));
+    assert_eq!(rt; counts_of(alloc, done, &all)?, (0, 1));
     assert_eq!(rt; reopen(alloc, &[0xa5])?, Outcome::Bodies(0));
     assert_eq!(rt;
         reopen(alloc, &WHOLE[..7])?,
@@ -138,24 +160,21 @@ fn openings_are_stopped_in_each_call(rt: HostRuntime) -> Result<(), Fail> {
     for call in 0..4 {
         let (outcome, stopped) = open(alloc, memory(alloc, &[], Some(call))?);
         assert_eq!(rt; outcome, Outcome::Fault(OpenFault::Disk));
-        let images = stopped.images(alloc, &all)?;
         let count = if call < 2 { 1 } else { 257 };
-        assert_eq!(rt; counts(alloc, &images)?, (count, 0));
+        assert_eq!(rt; counts_of(alloc, stopped, &all)?, (count, 0));
     }
     for call in 4..6 {
         let (_, stopped) = append(alloc, memory(alloc, &[], Some(call))?, &body);
-        assert_eq!(rt;
-            counts(alloc, &stopped.images(alloc, &[0, 1, 0xa5])?)?,
-            (1093, 0)
-        );
+        assert_eq!(rt; counts_of(alloc, stopped, &[0, 1, 0xa5])?, (1093, 0));
     }
     let (_, stopped) = append(alloc, memory(alloc, &[], Some(6))?, &body);
-    for image in &stopped.images(alloc, &all)? {
+    let images = images_of(alloc, stopped, &all)?;
+    for image in &images {
         let gate = first_byte(image);
         // A sync, two reads, and the closing of a gate that is neither open nor closed.
         for call in 0..5 {
             let (_, again) = open(alloc, memory(alloc, image, Some(call))?);
-            let (none, one) = counts(alloc, &again.images(alloc, &all)?)?;
+            let (none, one) = counts_of(alloc, again, &all)?;
             let pending = call > 2 && gate != 0 && gate != 0xa5;
             let wanted = if pending {
                 (255, 1)
@@ -184,21 +203,24 @@ fn a_body_lies_in_room_that_was_made(rt: HostRuntime) -> Result<(), Fail> {
     for call in 3..5 {
         let (fault, stopped) = keep(alloc, asking(alloc, &[0], call)?, &tick);
         assert_eq!(rt; fault, Some(DiskFault));
-        let images = stopped.images(alloc, &[0xa5])?;
-        assert_eq!(rt; counts(alloc, &images)?, (21, 0));
+        assert_eq!(rt; counts_of(alloc, stopped, &[0xa5])?, (21, 0));
     }
     for call in 5..9 {
         let (fault, stopped) = keep(alloc, asking(alloc, &[0], call)?, &tick);
         assert_eq!(rt; fault, Some(DiskFault));
         if call > 6 {
-            assert_eq!(rt; counts(alloc, &stopped.images(alloc, &all)?)?, (255, 1));
+            assert_eq!(rt; counts_of(alloc, stopped, &all)?, (255, 1));
+        } else {
+            drop(stopped);
         }
     }
     let (fault, done) = keep(alloc, asking(alloc, &[0], 9)?, &tick);
     assert_eq!(rt; fault, None);
     assert_eq!(rt; done.bytes(), AMPLE.as_slice());
+    drop(done);
     let (fault, again) = keep(alloc, asking(alloc, &[0; 21], 7)?, &tick);
     assert_eq!(rt; fault, None);
     assert_eq!(rt; again.bytes(), AMPLE.as_slice());
+    drop(again);
     Ok(())
 }

@@ -4,16 +4,12 @@ ghost use Rattle.farm_server.specs.declared.served.TheConstants.{REQUESTS};
 ghost use Rattle.shared_desk.specs.Standing.{fresh_token};
 ghost use Rattle.farm_machine.specs.State.{State};
 
+use crate::configs::without_roles;
 use farm_core::{Bare, bare_farms_cross_threads};
-use farm_machine::config::Config;
-use farm_machine::grants::Grants;
 use farm_server::NoGate;
 use farm_serving::{Ended, MemoryListener, Returned, Worker, serve};
-use farm_text::{ListClock, ListDraws, Text};
-use hawk_auth::ClientBook;
-use hook_fire::HookBook;
+use farm_text::{ListClock, ListDraws};
 use http_wire::{Joined, MemoryLink, MemorySink, MemorySource};
-use role_expand::RoleSet;
 use shared_desk::{Shared, Token};
 use std::alloc::{AllocError, Global};
 use std::test::Fail;
@@ -41,8 +37,9 @@ fn link(
     for piece in pieces {
         bytes.extend_from_slice(piece)?;
     }
-    let source = MemorySource::new(bytes, Vec::from_slice(alloc, reads)?, 8_192);
+    let reads = Vec::from_slice(alloc, reads)?;
     let sink = MemorySink::new(alloc, 1_000, Vec::from_slice(alloc, writes)?)?;
+    let source = MemorySource::new(bytes, reads, 8_192);
     Ok(Joined { source, sink })
 }
 
@@ -52,35 +49,18 @@ fn worker(
     coming: Vec<MemoryLink>,
     failing: &[u64],
 ) -> Result<MemoryWorker, AllocError> {
+    let failing = match Vec::from_slice(alloc, failing) {
+        Ok(failing) => failing,
+        Err(error) => {
+            drop(coming);
+            return Err(error);
+        }
+    };
     Ok(Worker {
-        door: MemoryListener::new(
-            alloc,
-            coming,
-            Vec::from_slice(alloc, failing)?,
-            Vec::new(alloc),
-        )?,
+        door: MemoryListener::new(alloc, coming, failing, Vec::new(alloc))?,
         clock: ListClock::new(Vec::new(alloc)),
         draws: ListDraws::new(Vec::new(alloc)),
         gate: NoGate,
-    })
-}
-
-/// A configuration without roles.
-fn config(alloc: Global) -> Result<Config, Fail> {
-    let roles = RoleSet::build(alloc, Vec::new(alloc))
-        .ok()
-        .ok_or("no roles")?;
-    let clients = ClientBook::build(alloc, Vec::new(alloc))
-        .ok()
-        .ok_or("no clients")?;
-    Ok(Config {
-        host: Text::from_str(alloc, "localhost")?,
-        port: 8080,
-        claim_timeout: 1200,
-        max_tasks: 1_000_000,
-        roles: Grants::new(alloc, roles)?,
-        clients,
-        hooks: HookBook::new(alloc),
     })
 }
 
@@ -88,9 +68,12 @@ fn config(alloc: Global) -> Result<Config, Fail> {
 fn desk(alloc: Global) -> Result<(Shared<Bare>, Token<Bare>), Fail>
     ensures { IfOk result (λ made. (made.1.desk ≡ made.0.desk) × (made.1.left ≡ 9223372036854775808)) }
 {
-    match Shared::new(alloc, Bare::new(alloc, config(alloc)?)) {
+    match Shared::new(alloc, Bare::new(alloc, without_roles(alloc)?)) {
         Ok(made) => Ok(made),
-        Err(_) => Err(Fail::new("no memory")),
+        Err(bare) => {
+            drop(bare);
+            Err(Fail::new("no memory"))
+        }
     }
 }
 
@@ -108,18 +91,43 @@ fn was_alive(back: &Returned, asked: u64, pings: u64) -> bool {
     back.asked == asked
 }
 
-#[test]
-fn one_worker(rt: HostRuntime) -> Result<(), Fail> {
-    let alloc = rt.alloc();
-    let (shared, token) = desk(alloc)?;
-    let mut coming = Vec::new(alloc);
+/// Adds links: what comes over the first to be added is no request, of the second a write fails, of the third a read, and the fourth is closed.
+fn add_four(alloc: Global, coming: &mut Vec<MemoryLink>) -> Result<(), AllocError> {
     coming.push(link(alloc, &[b"no request\r\n\r\n"], &[], &[])?)?;
     coming.push(link(alloc, &[PING, PING], &[], &[1])?)?;
     coming.push(link(alloc, &[PING], &[1], &[])?)?;
     coming.push(link(alloc, &[PING, PING, LAST_PING, PING], &[], &[])?)?;
-    let mut workers = [worker(alloc, coming, &[1])?];
+    Ok(())
+}
+
+/// A worker at whose door they come, and whose second accept fails.
+fn troubled(alloc: Global) -> Result<MemoryWorker, AllocError> {
+    let mut coming = Vec::new(alloc);
+    match add_four(alloc, &mut coming) {
+        Ok(()) => worker(alloc, coming, &[1]),
+        Err(error) => {
+            drop(coming);
+            Err(error)
+        }
+    }
+}
+
+#[test]
+fn one_worker(rt: HostRuntime) -> Result<(), Fail> {
+    let alloc = rt.alloc();
+    let mut workers = [troubled(alloc)?];
+    let (shared, token) = match desk(alloc) {
+        Ok(made) => made,
+        Err(error) => {
+            drop(workers);
+            return Err(error);
+        }
+    };
     bare_farms_cross_threads();
     let (token, ended) = serve(&rt, alloc, &shared, token, &mut workers, 6);
+    let asked = token.asked();
+    drop(token);
+    drop(shared);
     assert_eq!(rt;
         ended,
         Ended {
@@ -131,11 +139,19 @@ fn one_worker(rt: HostRuntime) -> Result<(), Fail> {
             no_memory: 0,
         }
     );
-    assert_eq!(rt; token.asked(), 6);
+    assert_eq!(rt; asked, 6);
     let back = workers[0].door.returned();
     assert!(rt; back.len() == 4);
     assert!(rt; was_alive(&back[0], 3, 2) && was_alive(&back[1], 1, 1));
     assert!(rt; was_alive(&back[2], 2, 1) && back[3].asked == 0);
+    drop(workers);
+    Ok(())
+}
+
+/// Adds two links: one with a single ping, and one with these bytes.
+fn add_two(alloc: Global, coming: &mut Vec<MemoryLink>, bytes: &[u8]) -> Result<(), AllocError> {
+    coming.push(link(alloc, &[PING], &[], &[])?)?;
+    coming.push(link(alloc, &[bytes], &[], &[])?)?;
     Ok(())
 }
 
@@ -146,9 +162,40 @@ fn pinged(alloc: Global, pings: u64) -> Result<MemoryWorker, AllocError> {
         bytes.extend_from_slice(PING)?;
     }
     let mut coming = Vec::new(alloc);
-    coming.push(link(alloc, &[PING], &[], &[])?)?;
-    coming.push(link(alloc, &[bytes.as_slice()], &[], &[])?)?;
-    worker(alloc, coming, &[])
+    match add_two(alloc, &mut coming, bytes.as_slice()) {
+        Ok(()) => worker(alloc, coming, &[]),
+        Err(error) => {
+            drop(coming);
+            Err(error)
+        }
+    }
+}
+
+/// Two workers.
+type Pair = (MemoryWorker, MemoryWorker);
+
+/// Two such workers.
+fn two_pinged(alloc: Global, first: u64, second: u64) -> Result<Pair, AllocError> {
+    let one = pinged(alloc, first)?;
+    match pinged(alloc, second) {
+        Ok(other) => Ok((one, other)),
+        Err(error) => {
+            drop(one);
+            Err(error)
+        }
+    }
+}
+
+/// Four such workers, with one ping, two, three and four.
+fn four_pinged(alloc: Global) -> Result<(Pair, Pair), AllocError> {
+    let few = two_pinged(alloc, 1, 2)?;
+    match two_pinged(alloc, 3, 4) {
+        Ok(many) => Ok((few, many)),
+        Err(error) => {
+            drop(few);
+            Err(error)
+        }
+    }
 }
 
 /// Whether two links came back, over which this many pings were answered, and then one.
@@ -160,15 +207,20 @@ fn was_pinged(worker: &MemoryWorker, pings: u64) -> bool {
 #[test]
 fn four_workers(rt: HostRuntime) -> Result<(), Fail> {
     let alloc = rt.alloc();
-    let (shared, token) = desk(alloc)?;
-    let mut workers = [
-        pinged(alloc, 1)?,
-        pinged(alloc, 2)?,
-        pinged(alloc, 3)?,
-        pinged(alloc, 4)?,
-    ];
+    let ((first, second), (third, fourth)) = four_pinged(alloc)?;
+    let mut workers = [first, second, third, fourth];
+    let (shared, token) = match desk(alloc) {
+        Ok(made) => made,
+        Err(error) => {
+            drop(workers);
+            return Err(error);
+        }
+    };
     bare_farms_cross_threads();
     let (token, ended) = serve(&rt, alloc, &shared, token, &mut workers, 3);
+    let asked = token.asked();
+    drop(token);
+    drop(shared);
     assert_eq!(rt;
         ended,
         Ended {
@@ -180,8 +232,9 @@ fn four_workers(rt: HostRuntime) -> Result<(), Fail> {
             no_memory: 0,
         }
     );
-    assert_eq!(rt; token.asked(), 14);
+    assert_eq!(rt; asked, 14);
     assert!(rt; was_pinged(&workers[0], 1) && was_pinged(&workers[1], 2));
     assert!(rt; was_pinged(&workers[2], 3) && was_pinged(&workers[3], 4));
+    drop(workers);
     Ok(())
 }

@@ -100,7 +100,9 @@ fn chained_at(alloc: Global, desk: &mut Solo<Bare>) -> Result<u64, Fail> {
 /// The same of a new farm.
 fn chained_runs(alloc: Global) -> Result<u64, Fail> {
     let mut desk = farm(alloc, &["*"], 100)?;
-    chained_at(alloc, &mut desk)
+    let runs = chained_at(alloc, &mut desk);
+    drop(desk);
+    runs
 }
 
 #[test]

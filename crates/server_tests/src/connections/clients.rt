@@ -1,8 +1,9 @@
 //! Calls that clients sign, over connections in memory. The MACs and the hash were made by Python's hmac and hashlib.
 use super::tasks::{CREATED, FIRST_STATUS, FIRST_TASK, PLAIN, STATUS, THREE_SCOPES, written_at};
 use super::*;
-use hawk_auth::Client;
-use hook_fire::HookBook;
+use crate::configs::{granted, of_parts, scopes};
+use farm_text::Text;
+use hawk_auth::{Client, ClientBook};
 use role_expand::Role;
 use scope_sets::Scope;
 
@@ -84,15 +85,6 @@ fn reply_of(alloc: Global, call: &Signed) -> Result<String, AllocError> {
     )
 }
 
-/// Scopes of these texts.
-fn scopes(alloc: Global, texts: &[&str]) -> Result<Vec<Scope>, Fail> {
-    let mut scopes = Vec::new(alloc);
-    for text in texts {
-        scopes.push(Scope::new(String::from_str(alloc, text)?).ok_or("a scope")?)?;
-    }
-    Ok(scopes)
-}
-
 /// A client with these scopes, that expires at this moment.
 fn client(
     alloc: Global,
@@ -101,49 +93,62 @@ fn client(
     expires: u64,
     disabled: bool,
 ) -> Result<Client, Fail> {
+    let expires = Moment::from_millis(expires).ok_or("a moment")?;
     Ok(Client {
         id: Text::from_str(alloc, id)?,
         token: Text::from_str(alloc, TOKEN)?,
         scopes: scopes(alloc, texts)?,
-        expires: Moment::from_millis(expires).ok_or("a moment")?,
+        expires,
         disabled,
     })
 }
 
-/// Clients: one that makes tasks, one with the scope `a` alone, one that is over, one that is disabled, and one whose role gives too much.
-fn clients(alloc: Global) -> Result<ClientBook, Fail> {
-    let mut clients = Vec::new(alloc);
+/// Adds clients: one that makes tasks, one with the scope `a` alone, one that is over, one that is disabled, and one whose role gives too much.
+fn add_clients(alloc: Global, clients: &mut Vec<Client>) -> Result<(), Fail> {
     clients.push(client(alloc, "maker", &THREE_SCOPES, CREATED + 1, false)?)?;
     clients.push(client(alloc, "limited", &["a"], CREATED + 901_001, false)?)?;
     clients.push(client(alloc, "old", &["*"], CREATED, false)?)?;
     clients.push(client(alloc, "off", &["*"], CREATED + 1, true)?)?;
     clients.push(client(alloc, "many", &[], CREATED + 1, false)?)?;
-    Ok(ClientBook::build(alloc, clients).ok().ok_or("clients")?)
+    Ok(())
+}
+
+/// The book of these clients.
+fn clients(alloc: Global) -> Result<ClientBook, Fail> {
+    let mut clients = Vec::new(alloc);
+    match add_clients(alloc, &mut clients) {
+        Ok(()) => Ok(ClientBook::build(alloc, clients).ok().ok_or("clients")?),
+        Err(error) => {
+            drop(clients);
+            Err(error)
+        }
+    }
 }
 
 /// The role of the last client, with ten thousand scopes.
-fn roles(alloc: Global) -> Result<RoleSet, Fail> {
+fn role(alloc: Global) -> Result<Role, Fail> {
+    let id = String::from_str(alloc, "client-id:many")?;
     let mut scopes = Vec::new(alloc);
     for place in 0..10_000u32 {
         scopes.push(Scope::new(format!(in alloc; "s{place}")?).ok_or("a scope")?)?;
     }
-    let id = String::from_str(alloc, "client-id:many")?;
-    let roles = vec![in alloc; Role { id, scopes }]?;
-    Ok(RoleSet::build(alloc, roles).ok().ok_or("roles")?)
+    Ok(Role { id, scopes })
 }
 
 /// A farm with these clients.
 fn farm(alloc: Global) -> Result<Solo<Bare>, Fail> {
-    let config = Config {
-        host: Text::from_str(alloc, "Farm.Example")?,
-        port: 8080,
-        claim_timeout: 1200,
-        max_tasks: 1_000_000,
-        roles: Grants::new(alloc, roles(alloc)?)?,
-        clients: clients(alloc)?,
-        hooks: HookBook::new(alloc),
-    };
-    Ok(Solo::new(Bare::new(alloc, config)))
+    let host = Text::from_str(alloc, "Farm.Example")?;
+    let roles = granted(alloc, role(alloc)?)?;
+    match clients(alloc) {
+        Ok(clients) => {
+            let config = of_parts(alloc, host, 1_000_000, roles, clients);
+            Ok(Solo::new(Bare::new(alloc, config)))
+        }
+        Err(error) => {
+            drop(roles);
+            Err(error)
+        }
+    }
 }
 
 /// Whether a desk gives the reply to a call.
@@ -259,7 +264,9 @@ fn first_other_at(alloc: Global, desk: &mut Solo<Bare>, calls: &[Signed]) -> Res
 /// The same of a new farm with the clients.
 fn first_other(alloc: Global, calls: &[Signed]) -> Result<usize, Fail> {
     let mut desk = farm(alloc)?;
-    first_other_at(alloc, &mut desk, calls)
+    let other = first_other_at(alloc, &mut desk, calls);
+    drop(desk);
+    other
 }
 
 #[test]

@@ -92,7 +92,9 @@ pub(super) fn first_other_at<'a>(
     talk: &'a str,
 ) -> Result<&'a str, Fail> {
     let mut desk = farm(alloc, scopes, max_tasks)?;
-    first_other(alloc, &mut desk, talk)
+    let other = first_other(alloc, &mut desk, talk);
+    drop(desk);
+    other
 }
 
 /// The same of a farm that takes a million tasks and allows all, and of two halves.
@@ -102,7 +104,9 @@ pub(super) fn first_other_in<'a>(
     second: &'a str,
 ) -> Result<&'a str, Fail> {
     let mut desk = farm(alloc, &["*"], 1_000_000)?;
-    first_other_of_two(alloc, &mut desk, first, second)
+    let other = first_other_of_two(alloc, &mut desk, first, second);
+    drop(desk);
+    other
 }
 
 /// The same of one part.

@@ -171,7 +171,9 @@ fn fifty_and(alloc: Global, desk: &mut Solo<Bare>, request: &str) -> Result<Vec<
 /// The same of a new farm.
 fn after_fifty(alloc: Global, request: &str) -> Result<Vec<u8>, Fail> {
     let mut desk = farm(alloc, &["*"], 1_000_000)?;
-    fifty_and(alloc, &mut desk, request)
+    let written = fifty_and(alloc, &mut desk, request);
+    drop(desk);
+    written
 }
 
 #[test]

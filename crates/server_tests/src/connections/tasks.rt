@@ -1,8 +1,6 @@
 //! Tasks that are made and asked for over connections in memory, with replies worked out by hand.
 use super::*;
-use hook_fire::HookBook;
-use role_expand::Role;
-use scope_sets::Scope;
+use crate::configs::granting;
 
 /// 2024-01-01T00:00:00.000Z.
 pub(super) const CREATED: u64 = 1_704_067_200_000;
@@ -90,29 +88,7 @@ fn reply_of(alloc: Global, exchange: &Exchange) -> Result<String, AllocError> {
 
 /// A farm that takes so many tasks, where whoever gives no credentials has these scopes.
 pub(super) fn farm(alloc: Global, scopes: &[&str], max_tasks: u32) -> Result<Solo<Bare>, Fail> {
-    let mut held = Vec::new(alloc);
-    for scope in scopes {
-        held.push(Scope::new(String::from_str(alloc, scope)?).ok_or("a scope")?)?;
-    }
-    let role = Role {
-        id: String::from_str(alloc, "anonymous")?,
-        scopes: held,
-    };
-    let roles = RoleSet::build(alloc, vec![in alloc; role]?)
-        .ok()
-        .ok_or("roles")?;
-    let clients = ClientBook::build(alloc, Vec::new(alloc))
-        .ok()
-        .ok_or("no clients")?;
-    let config = Config {
-        host: Text::from_str(alloc, "localhost")?,
-        port: 8080,
-        claim_timeout: 1200,
-        max_tasks,
-        roles: Grants::new(alloc, roles)?,
-        clients,
-        hooks: HookBook::new(alloc),
-    };
+    let config = granting(alloc, scopes, max_tasks)?;
     Ok(Solo::new(Bare::new(alloc, config)))
 }
 
@@ -126,15 +102,14 @@ pub(super) fn written_at(
     if desk.left() < 1_000 {
         return Err(Fail::from("no asks are left"));
     }
-    let source = MemorySource::new(Vec::from_slice(alloc, bytes)?, Vec::new(alloc), 8_192);
-    let mut link = Joined {
-        source,
-        sink: MemorySink::new(alloc, 200_000, Vec::new(alloc))?,
-    };
-    let mut clock = ListClock::new(vec![in alloc; at]?);
+    let moments = vec![in alloc; at]?;
+    let mut link = link_of(alloc, &Input::of(bytes))?;
+    let mut clock = ListClock::new(moments);
     let mut draws = ListDraws::new(Vec::new(alloc));
     let _ = serve_connection(alloc, &mut link, desk, &mut clock, &mut draws, &mut NoGate);
-    Ok(Vec::from_slice(alloc, link.sink.written())?)
+    drop(draws);
+    drop(clock);
+    Ok(written_to(alloc, link)?)
 }
 
 /// Whether a desk gives the reply to a request.
@@ -168,7 +143,9 @@ fn first_other_at(
     exchanges: &[Exchange],
 ) -> Result<usize, Fail> {
     let mut desk = farm(alloc, scopes, max_tasks)?;
-    first_other(alloc, &mut desk, exchanges)
+    let other = first_other(alloc, &mut desk, exchanges);
+    drop(desk);
+    other
 }
 
 /// A createTask at the moment of its making.

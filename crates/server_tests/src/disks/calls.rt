@@ -3,15 +3,11 @@ ghost use Rattle.std.specs.Prelude.{◌≤◌, IfOk};
 ghost use Rattle.farm_text.specs.declared.moment.TheConstants.{LAST_TOLD_MOMENT as last_told};
 ghost use Rattle.farm_machine.specs.Written.{IsSaidCall};
 
+use crate::configs::granting;
 use farm_machine::config::Config;
-use farm_machine::grants::Grants;
 use farm_machine::question::{Call, Caller, Question, WorkRequest};
 use farm_record::{Creation, Report, Resolution, RunName};
 use farm_text::{Doc, LAST_TOLD_MOMENT, Moment, SlugId, Text};
-use hawk_auth::ClientBook;
-use hook_fire::HookBook;
-use role_expand::{Role, RoleSet};
-use scope_sets::Scope;
 use std::alloc::Global;
 use std::test::Fail;
 use task_defs::{Identifier, TaskQueue, read_task};
@@ -23,29 +19,9 @@ const MIDNIGHT: u64 = 1_704_067_200_000;
 const PLAIN: &[u8] =
     b"{\"created\":\"2024-01-01T00:00:00.000Z\",\"deadline\":\"2024-01-02T00:00:00.000Z\",\"metadata\":{\"description\":\"d\",\"name\":\"n\",\"owner\":\"o@example.com\",\"source\":\"https://example.com/\"},\"payload\":{},\"taskQueueId\":\"prov/wt\"}";
 
-/// The role `anonymous` with the scope `*`.
-fn roles(alloc: Global) -> Result<RoleSet, Fail> {
-    let all = Scope::new(String::from_str(alloc, "*")?).ok_or("a scope")?;
-    let scopes = vec![in alloc; all]?;
-    let id = String::from_str(alloc, "anonymous")?;
-    let roles = vec![in alloc; Role { id, scopes }]?;
-    Ok(RoleSet::build(alloc, roles).ok().ok_or("roles")?)
-}
-
 /// A farm that is open to all, with claims of twenty minutes.
 pub(crate) fn config(alloc: Global) -> Result<Config, Fail> {
-    let clients = ClientBook::build(alloc, Vec::new(alloc))
-        .ok()
-        .ok_or("no clients")?;
-    Ok(Config {
-        host: Text::from_str(alloc, "localhost")?,
-        port: 8080,
-        claim_timeout: 1200,
-        max_tasks: 1_000_000,
-        roles: Grants::new(alloc, roles(alloc)?)?,
-        clients,
-        hooks: HookBook::new(alloc),
-    })
+    granting(alloc, &["*"], 1_000_000)
 }
 
 fn identifier(alloc: Global, text: &str) -> Result<Identifier, Fail> {
@@ -77,9 +53,14 @@ fn creation(alloc: Global, id: SlugId) -> Result<Call, Fail>
     ensures { IfOk result IsSaidCall }
 {
     let doc = Doc::read(alloc, PLAIN).ok().ok_or("a document")?;
-    match read_task(alloc, &doc, id) {
+    let read = read_task(alloc, &doc, id);
+    drop(doc);
+    match read {
         Ok(definition) => Ok(Call::CreateTask(Creation { id, definition })),
-        Err(_) => Err(Fail::from("a definition")),
+        Err(error) => {
+            drop(error);
+            Err(Fail::from("a definition"))
+        }
     }
 }
 

@@ -4,7 +4,9 @@ use disk_base::{Disk, MemoryDisk};
 use disk_journal::OpenFault;
 use farm_core::{Counts, Farm};
 use farm_desk::Object;
+use farm_machine::config::Config;
 use std::alloc::{AllocError, Global};
+use std::process::Abort;
 use std::test::Fail;
 
 /// A disk of these bytes, of which the call of this number fails.
@@ -15,6 +17,30 @@ fn memory(alloc: Global, file: &[u8], failing: u64) -> Result<MemoryDisk, AllocE
         return Err(AllocError);
     }
     MemoryDisk::new(alloc, file, 8192, 64, calls)
+}
+
+/// Such a disk, and the configuration of a farm over it.
+fn parts(alloc: Global, file: &[u8], failing: u64) -> Result<(MemoryDisk, Config), Fail> {
+    let config = config(alloc)?;
+    match memory(alloc, file, failing) {
+        Ok(disk) => Ok((disk, config)),
+        Err(error) => {
+            drop(config);
+            Err(Fail::from(error))
+        }
+    }
+}
+
+/// A farm over an empty disk, of which the call of this number fails.
+fn open_empty(alloc: Global, failing: u64) -> Result<Farm<MemoryDisk>, Fail> {
+    let (disk, config) = parts(alloc, &[], failing)?;
+    match Farm::open(alloc, disk, config) {
+        Ok(farm) => Ok(farm),
+        Err((_, disk)) => {
+            drop(disk);
+            Err(Fail::from("not opened"))
+        }
+    }
 }
 
 /// No call has this number.
@@ -56,8 +82,10 @@ fn ask<D: Disk>(
     word: &str,
 ) -> Result<(u16, String), Fail> {
     let asked = farm.ask(question(alloc, after, word)?);
-    let body = String::from_str(alloc, asked.reply.body())?;
-    Ok((asked.reply.status().as_u16(), body))
+    let status = asked.reply.status().as_u16();
+    let body = String::from_str(alloc, asked.reply.body());
+    drop(asked);
+    Ok((status, body?))
 }
 
 /// The same of a row of the script.
@@ -89,21 +117,28 @@ fn run_script<D: Disk>(alloc: Global, farm: &mut Farm<D>) -> Result<u64, Fail> {
 fn reopen<D: Disk + Drop>(
     alloc: Global,
     disk: D,
+    config: Config,
 ) -> Result<(Result<Counts, OpenFault>, String), Fail> {
-    match Farm::open(alloc, disk, config(alloc)?) {
+    match Farm::open(alloc, disk, config) {
         Ok(farm) => {
             let mut farm = farm;
             let counts = farm.counts();
-            let (_, body) = ask(alloc, &mut farm, 0, "status")?;
+            let told = ask(alloc, &mut farm, 0, "status");
+            drop(farm);
+            let (_, body) = told?;
             Ok((Ok(counts), body))
         }
-        Err((fault, _)) => Ok((Err(fault), String::new(alloc))),
+        Err((fault, disk)) => {
+            drop(disk);
+            Ok((Err(fault), String::new(alloc)))
+        }
     }
 }
 
 /// Whether a farm opens from an image with so many records, and the task is then in the state that they tell.
 fn opens_to(alloc: Global, image: &[u8], least: u64, most: u64) -> Result<bool, Fail> {
-    let (opened, body) = reopen(alloc, memory(alloc, image, NONE)?)?;
+    let (disk, config) = parts(alloc, image, NONE)?;
+    let (opened, body) = reopen(alloc, disk, config)?;
     let Ok(counts) = opened else {
         return Ok(false);
     };
@@ -140,11 +175,19 @@ fn all_open_to(
 
 /// Runs the script over an empty disk whose call of this number fails: how many asks were acknowledged, and the disk.
 fn stopped(alloc: Global, call: u64) -> Result<(u64, MemoryDisk), Fail> {
-    match Farm::open(alloc, memory(alloc, &[], call)?, config(alloc)?) {
+    let (disk, config) = parts(alloc, &[], call)?;
+    match Farm::open(alloc, disk, config) {
         Ok(farm) => {
             let mut farm = farm;
-            let done = run_script(alloc, &mut farm)?;
-            Ok((done, farm.into_disk()))
+            let done = run_script(alloc, &mut farm);
+            let disk = farm.into_disk();
+            match done {
+                Ok(done) => Ok((done, disk)),
+                Err(error) => {
+                    drop(disk);
+                    Err(error)
+                }
+            }
         }
         Err((_, disk)) => Ok((0, disk)),
     }
@@ -166,7 +209,9 @@ fn nothing_acknowledged_is_lost_in_any_call(rt: HostRuntime) -> Result<(), Fail>
         } else {
             records
         };
-        assert!(rt; all_open_to(alloc, &disk, choices, records, most)?);
+        let all_open = all_open_to(alloc, &disk, choices, records, most);
+        drop(disk);
+        assert!(rt; all_open?);
     }
     Ok(())
 }
@@ -184,21 +229,39 @@ fn lose<D: Disk>(alloc: Global, farm: &mut Farm<D>) -> Result<[u16; 4], Fail> {
     Ok([create, claim, reclaim, report])
 }
 
+/// The same, with how the tasks stand then.
+fn lose_one<D: Disk>(rt: &impl Abort, alloc: Global, farm: &mut Farm<D>) -> Result<(), Fail> {
+    assert_eq!(rt; lose(alloc, farm)?, [200, 200, 200, 409]);
+    let summary = farm.summary();
+    assert_eq!(rt; [summary.tasks, summary.completed, summary.runs], [1, 0, 2]);
+    Ok(())
+}
+
+/// The disk of a farm that was asked so.
+fn lost_disk(rt: &impl Abort, alloc: Global) -> Result<MemoryDisk, Fail> {
+    let mut farm = open_empty(alloc, NONE)?;
+    let lost = lose_one(rt, alloc, &mut farm);
+    let disk = farm.into_disk();
+    match lost {
+        Ok(()) => Ok(disk),
+        Err(error) => {
+            drop(disk);
+            Err(error)
+        }
+    }
+}
+
 #[test]
 fn a_lost_run_is_told_from_any_image(rt: HostRuntime) -> Result<(), Fail> {
     let alloc = rt.alloc();
-    let Ok(farm) = Farm::open(alloc, memory(alloc, &[], NONE)?, config(alloc)?) else {
-        return Err(Fail::from("not opened"));
-    };
-    let mut farm = farm;
-    assert_eq!(rt; lose(alloc, &mut farm)?, [200, 200, 200, 409]);
-    let summary = farm.summary();
-    assert_eq!(rt; [summary.tasks, summary.completed, summary.runs], [1, 0, 2]);
-    let disk = farm.into_disk();
-    let images = disk.images(alloc, &[0, 0xa5])?;
+    let disk = lost_disk(&rt, alloc)?;
+    let images = disk.images(alloc, &[0, 0xa5]);
+    drop(disk);
+    let images = images?;
     assert!(rt; !images.is_empty());
     for image in &images {
-        let (opened, body) = reopen(alloc, memory(alloc, image, NONE)?)?;
+        let (disk, config) = parts(alloc, image, NONE)?;
+        let (opened, body) = reopen(alloc, disk, config)?;
         assert_eq!(rt;
             opened,
             Ok(Counts {
@@ -215,17 +278,21 @@ fn a_lost_run_is_told_from_any_image(rt: HostRuntime) -> Result<(), Fail> {
 #[test]
 fn a_farm_halts_where_its_disk_fails(rt: HostRuntime) -> Result<(), Fail> {
     let alloc = rt.alloc();
-    let Ok(farm) = Farm::open(alloc, memory(alloc, &[], 5)?, config(alloc)?) else {
-        return Err(Fail::from("not opened"));
-    };
-    let mut farm = farm;
-    let (status, body) = ask(alloc, &mut farm, 0, "create")?;
+    let mut farm = open_empty(alloc, 5)?;
+    let halted = halt(&rt, alloc, &mut farm);
+    drop(farm);
+    halted
+}
+
+/// Asks a farm whose next sync fails.
+fn halt<D: Disk>(rt: &impl Abort, alloc: Global, farm: &mut Farm<D>) -> Result<(), Fail> {
+    let (status, body) = ask(alloc, farm, 0, "create")?;
     assert_eq!(rt; status, 500);
     assert_eq!(rt;
         body.as_str(),
         r#"{"code":"DiskFault","details":{},"message":"the disk failed"}"#
     );
-    let (status, body) = ask(alloc, &mut farm, 0, "ping")?;
+    let (status, body) = ask(alloc, farm, 0, "ping")?;
     assert_eq!(rt; status, 500);
     assert_eq!(rt;
         body.as_str(),

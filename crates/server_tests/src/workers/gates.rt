@@ -51,8 +51,7 @@ fn turned<'a>(
     sign: &'a AtomicBool,
     is_held: bool,
 ) -> Result<Worker<MemoryListener, ListClock, ListDraws, Turnstile<'a>>, AllocError> {
-    let mut coming = Vec::new(alloc);
-    coming.push(link(alloc, &[PING], &[], &[])?)?;
+    let coming = vec![in alloc; link(alloc, &[PING], &[], &[])?]?;
     Ok(Worker {
         door: MemoryListener::new(alloc, coming, Vec::new(alloc), Vec::new(alloc))?,
         clock: ListClock::new(Vec::new(alloc)),
@@ -73,17 +72,29 @@ fn ask_through_gates<R: Threads + Wait + Sync>(
     is_first_held: bool,
 ) -> Result<(u64, bool), Fail> {
     let sign = AtomicBool::new(false);
-    let (shared, token) = desk(alloc)?;
-    let mut workers = [
-        turned(alloc, &sign, is_first_held)?,
-        turned(alloc, &sign, !is_first_held)?,
-    ];
+    let first = turned(alloc, &sign, is_first_held)?;
+    let second = match turned(alloc, &sign, !is_first_held) {
+        Ok(second) => second,
+        Err(error) => {
+            drop(first);
+            return Err(Fail::from(error));
+        }
+    };
+    let mut workers = [first, second];
+    let (shared, token) = match desk(alloc) {
+        Ok(made) => made,
+        Err(error) => {
+            drop(workers);
+            return Err(error);
+        }
+    };
     bare_farms_cross_threads();
-    let (_, Ended { served, .. }) = serve(rt, alloc, &shared, token, &mut workers, 1);
-    Ok((
-        served,
-        workers.iter().any(|worker| worker.gate.came_in_time),
-    ))
+    let (token, Ended { served, .. }) = serve(rt, alloc, &shared, token, &mut workers, 1);
+    drop(token);
+    drop(shared);
+    let came_in_time = workers.iter().any(|worker| worker.gate.came_in_time);
+    drop(workers);
+    Ok((served, came_in_time))
 }
 
 #[test]
