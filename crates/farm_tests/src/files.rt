@@ -248,7 +248,11 @@ fn told_of(alloc: Global, farm: &Config, what: &str) -> Result<String, AllocErro
 /// The same of the farm of a file.
 fn read_and_told(alloc: Global, bytes: &[u8], what: &str) -> Result<String, AllocError> {
     match read_farm(alloc, bytes) {
-        Ok(farm) => told_of(alloc, &farm, what),
+        Ok(farm) => {
+            let told = told_of(alloc, &farm, what);
+            drop(farm);
+            told
+        }
         Err(_) => String::from_str(alloc, "a fault"),
     }
 }

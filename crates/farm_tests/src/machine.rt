@@ -116,8 +116,13 @@ fn reply_to(
     let drawn = SlugId::read(b"AAAAAAAAQACAAAAAAAAAAg").ok_or("a slugid")?;
     reach(tables, at)?;
     let caller = caller_of(alloc, row.header)?;
-    let call = call_of(alloc, row.word)?;
-    Ok(answer(alloc, tables, farm, at, drawn, caller, call)?)
+    match call_of(alloc, row.word) {
+        Ok(call) => Ok(answer(alloc, tables, farm, at, drawn, caller, call)?),
+        Err(fail) => {
+            drop(caller);
+            Err(fail)
+        }
+    }
 }
 
 /// The parts of a row.
@@ -157,6 +162,14 @@ fn is_answered(alloc: Global, tables: &mut Tables, farm: &Config, row: &str) -> 
     Ok(is_as(reply.as_str(), row.wanted))
 }
 
+/// The farm that this file sets up.
+fn farm_of(alloc: Global, file: &str) -> Result<Config, Fail> {
+    match read_farm(alloc, file.as_bytes()) {
+        Ok(farm) => Ok(farm),
+        Err(_) => Err(Fail::from("the file has a fault")),
+    }
+}
+
 /// The first row that these tables answer otherwise, or `none`.
 fn first_other_in<'a>(
     alloc: Global,
@@ -175,15 +188,17 @@ fn first_other_in<'a>(
 /// The same of a farm that begins.
 fn first_other_at<'a>(alloc: Global, farm: &Config, rows: &'a str) -> Result<&'a str, Fail> {
     let mut tables = Tables::new(alloc);
-    first_other_in(alloc, &mut tables, farm, rows)
+    let other = first_other_in(alloc, &mut tables, farm, rows);
+    drop(tables);
+    other
 }
 
 /// The same of a farm that begins, and that this file sets up.
 fn first_other<'a>(alloc: Global, file: &str, rows: &'a str) -> Result<&'a str, Fail> {
-    match read_farm(alloc, file.as_bytes()) {
-        Ok(farm) => first_other_at(alloc, &farm, rows),
-        Err(_) => Err(Fail::from("the file has a fault")),
-    }
+    let farm = farm_of(alloc, file)?;
+    let other = first_other_at(alloc, &farm, rows);
+    drop(farm);
+    other
 }
 
 /// So many scopes of a farm file, each of which has its number in its name.
@@ -267,15 +282,17 @@ fn made_twice_in(alloc: Global, tables: &mut Tables, farm: &Config) -> Result<[u
 /// The same of a farm that begins.
 fn made_twice_at(alloc: Global, farm: &Config) -> Result<[u64; 4], Fail> {
     let mut tables = Tables::new(alloc);
-    made_twice_in(alloc, &mut tables, farm)
+    let counts = made_twice_in(alloc, &mut tables, farm);
+    drop(tables);
+    counts
 }
 
 /// The same of a farm that begins, and that this file sets up.
 fn made_twice(alloc: Global, file: &str) -> Result<[u64; 4], Fail> {
-    match read_farm(alloc, file.as_bytes()) {
-        Ok(farm) => made_twice_at(alloc, &farm),
-        Err(_) => Err(Fail::from("the file has a fault")),
-    }
+    let farm = farm_of(alloc, file)?;
+    let counts = made_twice_at(alloc, &farm);
+    drop(farm);
+    counts
 }
 
 /// The last moment of tables that reached a later one and then the first, or nothing, where something was due.
@@ -292,7 +309,9 @@ fn last_of(tables: &mut Tables) -> Option<u64> {
 /// The same of tables that begin.
 fn last_moment(alloc: Global) -> Option<u64> {
     let mut tables = Tables::new(alloc);
-    last_of(&mut tables)
+    let last = last_of(&mut tables);
+    drop(tables);
+    last
 }
 
 #[test]

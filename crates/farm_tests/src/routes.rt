@@ -14,6 +14,19 @@ use task_defs::TaskQueue;
 mod bodies;
 mod targets;
 
+/// Copies of the method, the target and the body of a message.
+fn parts(
+    alloc: Global,
+    method: &[u8],
+    target: &[u8],
+    body: &[u8],
+) -> Result<(Vec<u8>, Vec<u8>, Vec<u8>), AllocError> {
+    let method = Vec::from_slice(alloc, method)?;
+    let target = Vec::from_slice(alloc, target)?;
+    let body = Vec::from_slice(alloc, body)?;
+    Ok((method, target, body))
+}
+
 /// A message of this method and target, with this body and this Authorization field.
 fn message(
     alloc: Global,
@@ -22,15 +35,21 @@ fn message(
     target: &[u8],
     body: &[u8],
 ) -> Result<Message, AllocError> {
-    Ok(Message {
-        method: Bytes::from(Vec::from_slice(alloc, method)?),
-        target: Bytes::from(Vec::from_slice(alloc, target)?),
-        authorization,
-        authorizations: 0,
-        content_type: None,
-        body: Bytes::from(Vec::from_slice(alloc, body)?),
-        closes: false,
-    })
+    match parts(alloc, method, target, body) {
+        Ok((method, target, body)) => Ok(Message {
+            method: Bytes::from(method),
+            target: Bytes::from(target),
+            authorization,
+            authorizations: 0,
+            content_type: None,
+            body: Bytes::from(body),
+            closes: false,
+        }),
+        Err(AllocError) => {
+            drop(authorization);
+            Err(AllocError)
+        }
+    }
 }
 
 /// A fault of a body, as a word.
@@ -139,7 +158,11 @@ fn told(alloc: Global, call: &Call) -> Result<String, AllocError> {
 /// What a message calls, in words.
 fn call_told(alloc: Global, table: &Table, asked: &Message) -> Result<String, AllocError> {
     match call_of(alloc, table, asked) {
-        Ok(call) => told(alloc, &call),
+        Ok(call) => {
+            let words = told(alloc, &call);
+            drop(call);
+            words
+        }
         Err(AllocError) => Err(AllocError),
     }
 }
@@ -159,7 +182,9 @@ fn words_of(
         target.as_bytes(),
         body.as_bytes(),
     )?;
-    call_told(alloc, table, &asked)
+    let words = call_told(alloc, table, &asked);
+    drop(asked);
+    words
 }
 
 /// Whether the message of a row, a method, a target and a body, calls what the row ends with.
@@ -184,7 +209,9 @@ fn first_other_in<'a>(alloc: Global, table: &Table, rows: &'a str) -> Result<&'a
 /// The same with a table of its own.
 fn first_other(alloc: Global, rows: &str) -> Result<&str, Fail> {
     let table = Table::new(alloc)?;
-    first_other_in(alloc, &table, rows)
+    let other = first_other_in(alloc, &table, rows);
+    drop(table);
+    other
 }
 
 /// Whether a caller gives credentials.
@@ -198,7 +225,12 @@ fn is_signed(caller: &Caller) -> bool {
 /// Whether whoever sends a message with this field does.
 fn signs(alloc: Global, field: Option<Bytes>) -> Result<bool, AllocError> {
     match message(alloc, field, b"GET", b"/", b"") {
-        Ok(asked) => Ok(is_signed(&caller_of(asked))),
+        Ok(asked) => {
+            let caller = caller_of(asked);
+            let is_so = is_signed(&caller);
+            drop(caller);
+            Ok(is_so)
+        }
         Err(AllocError) => Err(AllocError),
     }
 }

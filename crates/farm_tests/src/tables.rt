@@ -84,7 +84,9 @@ fn told(alloc: Global, table: &Table, method: &[u8], path: &[u8]) -> Result<Vec<
 /// The same of a table of its own.
 fn told_anew(alloc: Global, method: &[u8], path: &[u8]) -> Result<Vec<u8>, AllocError> {
     let table = Table::new(alloc)?;
-    told(alloc, &table, method, path)
+    let found = told(alloc, &table, method, path);
+    drop(table);
+    found
 }
 
 /// Whether a table finds what a row says.
@@ -108,7 +110,9 @@ fn first_other_in<'a>(alloc: Global, table: &Table, rows: &'a str) -> Result<&'a
 /// The same of a table of its own.
 fn first_other(alloc: Global, rows: &str) -> Result<&str, Fail> {
     let table = Table::new(alloc)?;
-    first_other_in(alloc, &table, rows)
+    let other = first_other_in(alloc, &table, rows);
+    drop(table);
+    other
 }
 
 #[test]

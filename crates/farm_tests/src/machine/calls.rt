@@ -37,12 +37,13 @@ fn queue(alloc: Global) -> Result<TaskQueue, Fail> {
 
 /// Worker `w` of group `g` asks for a run of `prov/wt`.
 fn work(alloc: Global) -> Result<WorkRequest, Fail> {
-    let queue = queue(alloc)?;
     let worker_group = identifier(alloc, "g")?;
+    let worker_id = identifier(alloc, "w")?;
+    let queue = queue(alloc)?;
     Ok(WorkRequest {
         queue,
         worker_group,
-        worker_id: identifier(alloc, "w")?,
+        worker_id,
         tasks: 1,
     })
 }
@@ -52,7 +53,9 @@ fn creation_of(alloc: Global, text: &str, id: SlugId) -> Result<Call, Fail>
     ensures { IfOk result IsSaidCall }
 {
     let doc = Doc::read(alloc, text.as_bytes()).ok().ok_or("a document")?;
-    match read_task(alloc, &doc, id) {
+    let read = read_task(alloc, &doc, id);
+    drop(doc);
+    match read {
         Ok(definition) => Ok(Call::CreateTask(Creation { id, definition })),
         Err(_) => Err(Fail::from("a definition")),
     }
@@ -96,7 +99,10 @@ fn triggered(hook: HookName, payload: Doc) -> Call
 {
     match Object::from_doc(payload) {
         Some(payload) => Call::TriggerHook(Trigger { hook, payload }),
-        None => Call::BadBody(BodyFault::NoPayload),
+        None => {
+            drop(hook);
+            Call::BadBody(BodyFault::NoPayload)
+        }
     }
 }
 
@@ -108,7 +114,10 @@ fn trigger(alloc: Global, words: &str) -> Result<Call, Fail>
     let hook = hook_name(alloc, id)?;
     match Doc::read(alloc, payload.as_bytes()) {
         Ok(payload) => Ok(triggered(hook, payload)),
-        Err(_) => Err(Fail::from("no JSON")),
+        Err(_) => {
+            drop(hook);
+            Err(Fail::from("no JSON"))
+        }
     }
 }
 

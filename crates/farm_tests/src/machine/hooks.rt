@@ -1,6 +1,5 @@
 //! Hooks that are triggered, with replies worked out by hand.
-use crate::machine::{first_other_at, numbered};
-use farm_files::read_farm;
+use crate::machine::{farm_of, first_other_at, numbered};
 use farm_machine::config::Config;
 use std::alloc::{AllocError, Global};
 use std::test::Fail;
@@ -48,10 +47,10 @@ fn first_other_of<'a>(alloc: Global, farm: &Config, rows: &'a str) -> Result<&'a
 
 /// The same of a farm that this file sets up.
 fn first_other<'a>(alloc: Global, file: &str, rows: &'a str) -> Result<&'a str, Fail> {
-    match read_farm(alloc, file.as_bytes()) {
-        Ok(farm) => first_other_of(alloc, &farm, rows),
-        Err(_) => Err(Fail::from("the file has a fault")),
-    }
+    let farm = farm_of(alloc, file)?;
+    let other = first_other_of(alloc, &farm, rows);
+    drop(farm);
+    other
 }
 
 /// The route is not among the scopes of the hook.
