@@ -1,11 +1,11 @@
 //! Two workers of a service claim at once, where one task waits: one is given its run, and then it runs whoever asks.
 
-use crate::disks::{ANSWER, CREATION, NONE, case, house_with};
-use crate::houses::{Case, outcome_in};
-use crate::rows::is_outcome;
+use crate::disks::{ANSWER, CREATION, NONE, case, house_behind, house_with};
+use crate::houses::{Case, link, outcome_in};
+use crate::rows::house_comes_to;
 use farm_cli::memory_house::MemoryHouse;
 use farm_serving::{MemoryListener, Returned};
-use http_wire::{Joined, MemoryLink, MemorySink, MemorySource};
+use http_wire::MemoryLink;
 use std::alloc::{AllocError, Global};
 use std::sync::Wait;
 use std::test::Fail;
@@ -29,45 +29,58 @@ const SERVE: &[&str] = &[
     "1",
 ];
 
-/// The bytes of a disk that keeps one task, which waits for a worker.
-fn disk_with_a_task(rt: &(impl Threads + Wait + Sync), alloc: Global) -> Result<Vec<u8>, Fail> {
-    let case = case(ANSWER, CREATION);
-    let mut house = house_with(alloc, &case, &[], NONE)?;
-    outcome_in(rt, alloc, &case, &mut house)?;
-    let disk = house.returned_disk().ok_or("the disk")?;
-    let images = disk.images(alloc, &[0])?;
+/// A copy of the first of these images.
+fn first_of(alloc: Global, images: &[Vec<u8>]) -> Result<Vec<u8>, Fail> {
     let image = images.first().ok_or("an image")?;
     Ok(image.as_slice().to_vec(alloc)?)
 }
 
-/// A link over which a claim and a question for the status come.
-fn link(alloc: Global) -> Result<MemoryLink, AllocError> {
-    let input = CLAIM_AND_STATUS.to_vec(alloc)?;
-    let sink = MemorySink::new(alloc, 8192, Vec::new(alloc))?;
-    let source = MemorySource::new(input, Vec::new(alloc), 8192);
-    Ok(Joined { source, sink })
+/// The first image of the disk that comes back to this house once a case is run over it.
+fn image_after(
+    rt: &(impl Threads + Wait + Sync),
+    alloc: Global,
+    case: &Case,
+    house: &mut MemoryHouse,
+) -> Result<Vec<u8>, Fail> {
+    drop(outcome_in(rt, alloc, case, house)?);
+    let disk = house.returned_disk().ok_or("the disk")?;
+    let images = disk.images(alloc, &[0])?;
+    let image = first_of(alloc, &images);
+    drop(images);
+    image
 }
 
-/// One such link.
+/// The bytes of a disk that keeps one task, which waits for a worker.
+fn disk_with_a_task(rt: &(impl Threads + Wait + Sync), alloc: Global) -> Result<Vec<u8>, Fail> {
+    let case = case(ANSWER, CREATION);
+    let mut house = house_with(alloc, &case, &[], NONE)?;
+    let bytes = image_after(rt, alloc, &case, &mut house);
+    drop(house);
+    bytes
+}
+
+/// One link, over which a claim and a question for the status come.
 fn links(alloc: Global) -> Result<Vec<MemoryLink>, AllocError> {
-    let link = link(alloc)?;
+    let link = link(alloc, CLAIM_AND_STATUS, 8192)?;
     Ok(vec![in alloc; link]?)
+}
+
+/// One twin, at which one such link comes.
+fn twins(alloc: Global) -> Result<Vec<Vec<MemoryLink>>, AllocError> {
+    let links = links(alloc)?;
+    Ok(vec![in alloc; links]?)
 }
 
 /// A door at which one such link comes, with a twin at which another one does.
 fn door(alloc: Global) -> Result<MemoryListener, AllocError> {
-    let mut twins = Vec::new(alloc);
-    twins.push(links(alloc)?)?;
     let coming = links(alloc)?;
-    MemoryListener::new(alloc, coming, Vec::new(alloc), twins)
-}
-
-/// A house with a disk of these bytes, and that door.
-fn house(alloc: Global, case: &Case, bytes: &[u8]) -> Result<MemoryHouse, AllocError> {
-    let address = String::from_str(alloc, "here")?;
-    let door = door(alloc)?;
-    let house = house_with(alloc, case, bytes, NONE)?;
-    house.with_door(address, door, 64)
+    match twins(alloc) {
+        Ok(twins) => MemoryListener::new(alloc, coming, Vec::new(alloc), twins),
+        Err(AllocError) => {
+            drop(coming);
+            Err(AllocError)
+        }
+    }
 }
 
 /// What a claim was answered over a link that came back, and whether the task runs then.
@@ -113,17 +126,29 @@ fn given_and_not(alloc: Global, house: &MemoryHouse) -> Result<String, Fail> {
     Ok(format!(in alloc; "{given} {not}")?)
 }
 
-/// That, where two workers claim at once, and whether the service ends well.
+/// That, once a case is run over this house, and whether the service ends well.
+fn claim_in(
+    rt: &(impl Threads + Wait + Sync),
+    alloc: Global,
+    case: &Case,
+    house: &mut MemoryHouse,
+) -> Result<(bool, String), Fail> {
+    let is_done = house_comes_to(rt, alloc, case, house, "0", r"ready\nserved 4\n|")?;
+    Ok((is_done, given_and_not(alloc, house)?))
+}
+
+/// The same where two workers claim at once.
 fn two_claim(
     rt: &(impl Threads + Wait + Sync),
     alloc: Global,
     bytes: &[u8],
 ) -> Result<(bool, String), Fail> {
     let case = case(SERVE, &[]);
-    let mut house = house(alloc, &case, bytes)?;
-    let done = outcome_in(rt, alloc, &case, &mut house)?;
-    let is_done = is_outcome(alloc, &done, "0", r"ready\nserved 4\n|")?;
-    Ok((is_done, given_and_not(alloc, &house)?))
+    let door = door(alloc)?;
+    let mut house = house_behind(alloc, &case, bytes, door)?;
+    let claimed = claim_in(rt, alloc, &case, &mut house);
+    drop(house);
+    claimed
 }
 
 #[test]

@@ -5,6 +5,7 @@ use crate::rows::{is_outcome, unescaped, words_of};
 use disk_base::MemoryDisk;
 use farm_cli::memory_house::MemoryHouse;
 use farm_cli::status::Status;
+use farm_serving::MemoryListener;
 use std::alloc::{AllocError, Global};
 use std::sync::Wait;
 use std::test::Fail;
@@ -41,8 +42,40 @@ pub(crate) fn house_with(
     let calls = vec![in alloc; failing]?;
     let name = String::from_str(alloc, "farm.disk")?;
     let disk = MemoryDisk::new(alloc, bytes, 8192, 64, calls)?;
-    let house = house_of(alloc, case)?;
-    Ok(house.with_disk(name, disk))
+    match house_of(alloc, case) {
+        Ok(house) => Ok(house.with_disk(name, disk)),
+        Err(AllocError) => {
+            drop(disk);
+            Err(AllocError)
+        }
+    }
+}
+
+/// A house with such a disk, of which no call fails, and the address `here`.
+fn house_and_address(
+    alloc: Global,
+    case: &Case,
+    bytes: &[u8],
+) -> Result<(MemoryHouse, String), AllocError> {
+    let address = String::from_str(alloc, "here")?;
+    let house = house_with(alloc, case, bytes, NONE)?;
+    Ok((house, address))
+}
+
+/// A house with such a disk, of which no call fails, and this door at `here`.
+pub(crate) fn house_behind(
+    alloc: Global,
+    case: &Case,
+    bytes: &[u8],
+    door: MemoryListener,
+) -> Result<MemoryHouse, AllocError> {
+    match house_and_address(alloc, case, bytes) {
+        Ok((house, address)) => house.with_door(address, door, 64),
+        Err(AllocError) => {
+            drop(door);
+            Err(AllocError)
+        }
+    }
 }
 
 /// How a run over such a disk ended.
@@ -54,7 +87,9 @@ fn outcome_over(
     failing: u64,
 ) -> Result<Outcome, AllocError> {
     let mut house = house_with(alloc, case, bytes, failing)?;
-    outcome_in(rt, alloc, case, &mut house)
+    let done = outcome_in(rt, alloc, case, &mut house);
+    drop(house);
+    done
 }
 
 /// The line of `check` over a disk of these bytes.
@@ -96,7 +131,9 @@ pub(crate) fn each_is_checked(
 ) -> Result<bool, Fail> {
     let disk = house.returned_disk().ok_or("the disk")?;
     let images = disk.images(alloc, &[0, 0xa5])?;
-    let (same, others) = check_all(rt, alloc, &images, line)?;
+    let checks = check_all(rt, alloc, &images, line);
+    drop(images);
+    let (same, others) = checks?;
     Ok(same > 0 && others == 0)
 }
 
@@ -119,6 +156,7 @@ fn keep(
     let done = outcome_in(rt, alloc, case, house)?;
     let is_done = done.status == Status::Done;
     let is_made = done.output.as_slice().starts_with(b"HTTP/1.1 200 OK\r\n");
+    drop(done);
     Ok([is_done, is_made, each_is_checked(rt, alloc, house, ONE)?])
 }
 
@@ -126,7 +164,9 @@ fn keep(
 fn keeps(rt: &(impl Threads + Wait + Sync), alloc: Global) -> Result<[bool; 3], Fail> {
     let case = case(ANSWER, CREATION);
     let mut house = house_with(alloc, &case, &[], NONE)?;
-    keep(rt, alloc, &case, &mut house)
+    let kept = keep(rt, alloc, &case, &mut house);
+    drop(house);
+    kept
 }
 
 #[test]
@@ -164,8 +204,13 @@ fn fault_holds(rt: &(impl Threads + Wait + Sync), alloc: Global, row: &str) -> R
     let failing = failing.parse().ok().ok_or("a number")?;
     let input = unescaped(alloc, input)?;
     let words = words_of(alloc, line)?;
-    let done = outcome_over(rt, alloc, &case(&words, &input), disk_of(disk), failing)?;
-    is_outcome(alloc, &done, code, told)
+    let done = outcome_over(rt, alloc, &case(&words, &input), disk_of(disk), failing);
+    drop(words);
+    drop(input);
+    let done = done?;
+    let is_so = is_outcome(alloc, &done, code, told);
+    drop(done);
+    is_so
 }
 
 /// The first of some such rows that does not hold, or `none`.

@@ -50,7 +50,9 @@ fn draw_apart(house: &mut HostHouse) -> bool {
 fn lend(rt: HostRuntime) -> Result<([&'static str; 3], [Option<ErrorKind>; 3], bool), Fail> {
     let mut house = HostHouse::new(rt, &mut FaultCount::new())?;
     let (files, reasons) = read_files(&mut house);
-    Ok((files, reasons, draw_apart(&mut house)))
+    let is_other = draw_apart(&mut house);
+    drop(house);
+    Ok((files, reasons, is_other))
 }
 
 #[test]

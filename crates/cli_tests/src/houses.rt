@@ -52,11 +52,34 @@ fn console(alloc: Global, case: &Case, room: usize) -> Result<MemoryLink, AllocE
     Ok(Joined { source, sink })
 }
 
+/// A link with these bytes to read, and room for so many bytes of replies.
+pub(crate) fn link(alloc: Global, input: &[u8], room: usize) -> Result<MemoryLink, AllocError> {
+    let input = input.to_vec(alloc)?;
+    let sink = MemorySink::new(alloc, room, Vec::new(alloc))?;
+    let source = MemorySource::new(input, Vec::new(alloc), 8192);
+    Ok(Joined { source, sink })
+}
+
 /// A farm file of a case.
 fn farm_file(alloc: Global, case: &Case) -> Result<MemorySource, AllocError> {
     let bytes = case.farm.to_vec(alloc)?;
     let reads = case.failing_farm_reads.to_vec(alloc)?;
     Ok(MemorySource::new(bytes, reads, 8))
+}
+
+/// A farm file of a case, and room for a note.
+fn farm_file_and_notes(
+    alloc: Global,
+    case: &Case,
+) -> Result<(MemorySource, MemorySink), AllocError> {
+    let file = farm_file(alloc, case)?;
+    match MemorySink::new(alloc, 1024, Vec::new(alloc)) {
+        Ok(notes) => Ok((file, notes)),
+        Err(AllocError) => {
+            drop(file);
+            Err(AllocError)
+        }
+    }
 }
 
 /// A house with a farm file `farm.toml`, room for so many bytes of replies and for a note, and a clock that tells these moments.
@@ -67,12 +90,18 @@ pub(crate) fn house_at(
     room: usize,
 ) -> Result<MemoryHouse, AllocError> {
     let farm_name = String::from_str(alloc, "farm.toml")?;
-    let notes = MemorySink::new(alloc, 1024, Vec::new(alloc))?;
-    let farm_file = farm_file(alloc, case)?;
     let console = console(alloc, case, room)?;
-    let clock = ListClock::new(moments);
-    let draws = ListDraws::new(Vec::new(alloc));
-    Ok(MemoryHouse::new(alloc, farm_name, farm_file, console, notes, clock, draws))
+    match farm_file_and_notes(alloc, case) {
+        Ok((file, notes)) => {
+            let clock = ListClock::new(moments);
+            let draws = ListDraws::new(Vec::new(alloc));
+            Ok(MemoryHouse::new(alloc, farm_name, file, console, notes, clock, draws))
+        }
+        Err(AllocError) => {
+            drop(console);
+            Err(AllocError)
+        }
+    }
 }
 
 /// A house with room for some replies, and a clock that tells the first moment.
@@ -87,16 +116,29 @@ pub(crate) fn outcome_of(
     case: &Case,
 ) -> Result<Outcome, AllocError> {
     let mut house = house_of(alloc, case)?;
-    outcome_in(rt, alloc, case, &mut house)
+    let done = outcome_in(rt, alloc, case, &mut house);
+    drop(house);
+    done
+}
+
+/// Puts the words of a case behind these.
+fn put_words(alloc: Global, case: &Case, words: &mut Vec<String>) -> Result<(), AllocError> {
+    for word in case.words {
+        words.push(String::from_str(alloc, word)?)?;
+    }
+    Ok(())
 }
 
 /// The words of a case.
 fn words_of(alloc: Global, case: &Case) -> Result<Vec<String>, AllocError> {
     let mut words = Vec::new(alloc);
-    for word in case.words {
-        words.push(String::from_str(alloc, word)?)?;
+    match put_words(alloc, case, &mut words) {
+        Ok(()) => Ok(words),
+        Err(AllocError) => {
+            drop(words);
+            Err(AllocError)
+        }
     }
-    Ok(words)
 }
 
 /// Runs a case over this house.
@@ -108,6 +150,7 @@ pub(crate) fn outcome_in(
 ) -> Result<Outcome, AllocError> {
     let words = words_of(alloc, case)?;
     let status = run::run(rt, alloc, &words, house);
+    drop(words);
     outcome_with(alloc, status, house)
 }
 

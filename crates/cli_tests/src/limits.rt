@@ -135,7 +135,9 @@ fn tells_a_word(rt: &(impl Threads + Wait + Sync), alloc: Global) -> Result<[boo
         ..Case::over(PING)
     };
     let done = outcome_of(rt, alloc, &case)?;
-    tells_the_word(&done.notes)
+    let told = tells_the_word(&done.notes);
+    drop(done);
+    told
 }
 
 /// clap repeats the word that it does not know. No byte of it reaches a terminal as it is.

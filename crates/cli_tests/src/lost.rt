@@ -6,7 +6,7 @@ use disk_base::MemoryDisk;
 use farm_cli::memory_house::MemoryHouse;
 use farm_cli::status::Status;
 use farm_text::Moment;
-use std::alloc::Global;
+use std::alloc::{AllocError, Global};
 use std::sync::Wait;
 use std::test::Fail;
 use std::thread::Threads;
@@ -32,13 +32,23 @@ fn moments(alloc: Global) -> Result<Vec<Moment>, Fail> {
     Ok(moments)
 }
 
-/// A house with a farm that is open to all, an empty disk and this input.
-fn house(alloc: Global, case: &Case) -> Result<MemoryHouse, Fail> {
-    let moments = moments(alloc)?;
+/// A house with a farm that is open to all, an empty disk and this input, whose clock tells these moments.
+fn house_of(alloc: Global, case: &Case, moments: Vec<Moment>) -> Result<MemoryHouse, AllocError> {
     let name = String::from_str(alloc, "farm.disk")?;
     let disk = MemoryDisk::new(alloc, &[], 8192, 64, Vec::new(alloc))?;
-    let house = house_at(alloc, case, moments, 8192)?;
-    Ok(house.with_disk(name, disk))
+    match house_at(alloc, case, moments, 8192) {
+        Ok(house) => Ok(house.with_disk(name, disk)),
+        Err(AllocError) => {
+            drop(disk);
+            Err(AllocError)
+        }
+    }
+}
+
+/// The same with those moments.
+fn house(alloc: Global, case: &Case) -> Result<MemoryHouse, Fail> {
+    let moments = moments(alloc)?;
+    Ok(house_of(alloc, case, moments)?)
 }
 
 /// Whether the first reply is a success, some reply is a conflict, and nothing failed.
@@ -59,15 +69,20 @@ fn lose(
     house: &mut MemoryHouse,
 ) -> Result<([bool; 3], bool), Fail> {
     let done = outcome_in(rt, alloc, case, house)?;
+    let replies = is_told(&done);
+    drop(done);
+    let replies = replies?;
     let line = b"ok roles=1 clients=0 hooks=0 records=4 tasks=1\n";
-    Ok((is_told(&done)?, each_is_checked(rt, alloc, house, line)?))
+    Ok((replies, each_is_checked(rt, alloc, house, line)?))
 }
 
 /// The same of a house of its own.
 fn loses(rt: &(impl Threads + Wait + Sync), alloc: Global) -> Result<([bool; 3], bool), Fail> {
     let case = case(ANSWER, INPUT);
     let mut house = house(alloc, &case)?;
-    lose(rt, alloc, &case, &mut house)
+    let told = lose(rt, alloc, &case, &mut house);
+    drop(house);
+    told
 }
 
 // Four records: the task is made, claimed and kept for longer, and then the end of its claim is a tick. The report is refused, so it is none.

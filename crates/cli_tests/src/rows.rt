@@ -1,6 +1,7 @@
 //! Rows of tables: a run, and what comes of it.
 
-use crate::houses::{Case, Outcome, outcome_of};
+use crate::houses::{Case, Outcome, outcome_in, outcome_of};
+use farm_cli::memory_house::MemoryHouse;
 use std::alloc::{AllocError, Global};
 use std::sync::Wait;
 use std::test::Fail;
@@ -71,7 +72,24 @@ pub(crate) fn comes_to(
     told: &str,
 ) -> Result<bool, Fail> {
     let done = outcome_of(rt, alloc, case)?;
-    is_outcome(alloc, &done, code, told)
+    let is_so = is_outcome(alloc, &done, code, told);
+    drop(done);
+    is_so
+}
+
+/// The same of a run over this house.
+pub(crate) fn house_comes_to(
+    rt: &(impl Threads + Wait + Sync),
+    alloc: Global,
+    case: &Case,
+    house: &mut MemoryHouse,
+    code: &str,
+    told: &str,
+) -> Result<bool, Fail> {
+    let done = outcome_in(rt, alloc, case, house)?;
+    let is_so = is_outcome(alloc, &done, code, told);
+    drop(done);
+    is_so
 }
 
 /// What a row says: the words, the farm file and the input of a run, what of it fails, and its status with what is told.
@@ -133,14 +151,32 @@ fn row_holds(
     comes_to(rt, alloc, &case, row.code, row.told)
 }
 
+/// The same of a line of words.
+fn line_holds(
+    rt: &(impl Threads + Wait + Sync),
+    alloc: Global,
+    row: Row<'_>,
+    line: &[u8],
+    farm: &[u8],
+    input: &[u8],
+) -> Result<bool, Fail> {
+    let words = words_of(alloc, str::from_utf8(line)?)?;
+    let is_so = row_holds(rt, alloc, row, &words, farm, input);
+    drop(words);
+    is_so
+}
+
 /// Whether a row holds: a run with its words, farm file and input, of which this fails, has this status, output and notes.
 fn holds(rt: &(impl Threads + Wait + Sync), alloc: Global, row: &str) -> Result<bool, Fail> {
     let row = parts(row)?;
     let line = unescaped(alloc, row.words)?;
     let farm = unescaped(alloc, row.farm)?;
     let input = unescaped(alloc, row.input)?;
-    let words = words_of(alloc, str::from_utf8(line.as_slice())?)?;
-    row_holds(rt, alloc, row, &words, &farm, &input)
+    let is_so = line_holds(rt, alloc, row, &line, &farm, &input);
+    drop(input);
+    drop(farm);
+    drop(line);
+    is_so
 }
 
 /// The first of some rows that does not hold, or `none`.

@@ -1,11 +1,11 @@
 //! Runs of `serve` over houses in memory, at a door and its twins.
 
-use crate::disks::{CREATION, NONE, ONE, case, disk_of, each_is_checked, house_with};
-use crate::houses::{Case, PING, outcome_in};
-use crate::rows::{failing, is_outcome, unescaped};
+use crate::disks::{CREATION, ONE, case, disk_of, each_is_checked, house_behind};
+use crate::houses::{Case, PING, link};
+use crate::rows::{failing, house_comes_to, unescaped};
 use farm_cli::memory_house::MemoryHouse;
 use farm_serving::{MemoryListener, Returned};
-use http_wire::{Joined, MemoryLink, MemorySink, MemorySource};
+use http_wire::MemoryLink;
 use std::alloc::{AllocError, Global};
 use std::sync::Wait;
 use std::test::Fail;
@@ -15,13 +15,8 @@ use std::thread::Threads;
 const ALIVE: &[u8] =
     b"HTTP/1.1 200 OK\r\nContent-Length: 14\r\nContent-Type: application/json\r\n\r\n{\"alive\":true}";
 
-/// A link with these bytes to read, and room for some replies.
-fn link(alloc: Global, input: &[u8]) -> Result<MemoryLink, AllocError> {
-    let input = input.to_vec(alloc)?;
-    let sink = MemorySink::new(alloc, 1024, Vec::new(alloc))?;
-    let source = MemorySource::new(input, Vec::new(alloc), 8192);
-    Ok(Joined { source, sink })
-}
+/// The room of a link for replies.
+const ROOM: usize = 1024;
 
 /// So many pings.
 fn pings(alloc: Global, count: usize) -> Result<Vec<u8>, AllocError> {
@@ -35,8 +30,20 @@ fn pings(alloc: Global, count: usize) -> Result<Vec<u8>, AllocError> {
 /// One link, with so many pings to read.
 fn pinged(alloc: Global, count: usize) -> Result<Vec<MemoryLink>, AllocError> {
     let pings = pings(alloc, count)?;
-    let link = link(alloc, &pings)?;
+    let link = link(alloc, &pings, ROOM)?;
     Ok(vec![in alloc; link]?)
+}
+
+/// Two links with these bytes, the second of them first.
+fn two_links(alloc: Global, second: &[u8], first: &[u8]) -> Result<Vec<MemoryLink>, AllocError> {
+    let second = link(alloc, second, ROOM)?;
+    match link(alloc, first, ROOM) {
+        Ok(first) => Ok(vec![in alloc; second, first]?),
+        Err(AllocError) => {
+            drop(second);
+            Err(AllocError)
+        }
+    }
 }
 
 /// A door without twins, at which two links with these bytes come, the second of them first, and whose accepts of these numbers fail.
@@ -46,23 +53,9 @@ fn door(
     first: &[u8],
     failing: &[u64],
 ) -> Result<MemoryListener, AllocError> {
-    let second = link(alloc, second)?;
-    let first = link(alloc, first)?;
-    let coming = vec![in alloc; second, first]?;
     let failing = Vec::from_slice(alloc, failing)?;
+    let coming = two_links(alloc, second, first)?;
     MemoryListener::new(alloc, coming, failing, Vec::new(alloc))
-}
-
-/// A house with a farm file that is open to all, a disk of these bytes, and this door at `here`.
-fn house(
-    alloc: Global,
-    case: &Case,
-    bytes: &[u8],
-    door: MemoryListener,
-) -> Result<MemoryHouse, AllocError> {
-    let address = String::from_str(alloc, "here")?;
-    let house = house_with(alloc, case, bytes, NONE)?;
-    house.with_door(address, door, 64)
 }
 
 /// The words of `serve` for one worker with two accepts, on this disk and at this address.
@@ -131,8 +124,7 @@ fn serve_told(
     house: &mut MemoryHouse,
     output: &str,
 ) -> Result<(bool, String), Fail> {
-    let done = outcome_in(rt, alloc, case, house)?;
-    let is_so = is_outcome(alloc, &done, "0", output)?;
+    let is_so = house_comes_to(rt, alloc, case, house, "0", output)?;
     let doors = doors_told(alloc, house)?;
     Ok((is_so, doors))
 }
@@ -157,9 +149,12 @@ fn one_serves(
     let words = serve("farm.disk", "here");
     let case = case(&words, &[]);
     let pings = pings(alloc, 2)?;
-    let door = door(alloc, CREATION, &pings, &[])?;
-    let mut house = house(alloc, &case, &[], door)?;
-    serve_and_keep(rt, alloc, &case, &mut house)
+    let door = door(alloc, CREATION, &pings, &[]);
+    drop(pings);
+    let mut house = house_behind(alloc, &case, &[], door?)?;
+    let served = serve_and_keep(rt, alloc, &case, &mut house);
+    drop(house);
+    served
 }
 
 #[test]
@@ -171,14 +166,26 @@ fn a_worker_serves_its_connections(rt: HostRuntime) -> Result<(), Fail> {
     Ok(())
 }
 
-/// A door at which one ping comes, with three twins, at which two come, three and four.
-fn four_doors(alloc: Global) -> Result<MemoryListener, AllocError> {
-    let mut twins = Vec::new(alloc);
+/// Puts three twins behind these, at which four pings come, three and two.
+fn put_twins(alloc: Global, twins: &mut Vec<Vec<MemoryLink>>) -> Result<(), AllocError> {
     for count in [4, 3, 2] {
         twins.push(pinged(alloc, count)?)?;
     }
+    Ok(())
+}
+
+/// A door at which one ping comes, with three twins, at which two come, three and four.
+fn four_doors(alloc: Global) -> Result<MemoryListener, AllocError> {
     let coming = pinged(alloc, 1)?;
-    MemoryListener::new(alloc, coming, Vec::new(alloc), twins)
+    let mut twins = Vec::new(alloc);
+    match put_twins(alloc, &mut twins) {
+        Ok(()) => MemoryListener::new(alloc, coming, Vec::new(alloc), twins),
+        Err(AllocError) => {
+            drop(twins);
+            drop(coming);
+            Err(AllocError)
+        }
+    }
 }
 
 /// What comes of four workers who serve a connection each.
@@ -188,8 +195,10 @@ fn four_serve(rt: &(impl Threads + Wait + Sync), alloc: Global) -> Result<(bool,
     words[9] = "1";
     let case = case(&words, &[]);
     let door = four_doors(alloc)?;
-    let mut house = house(alloc, &case, &[], door)?;
-    serve_told(rt, alloc, &case, &mut house, r"ready\nserved 10\n|")
+    let mut house = house_behind(alloc, &case, &[], door)?;
+    let told = serve_told(rt, alloc, &case, &mut house, r"ready\nserved 10\n|");
+    drop(house);
+    told
 }
 
 #[test]
@@ -243,7 +252,9 @@ fn parts(row: &str) -> Result<Row<'_>, Fail> {
 /// A door at which the first link of a row comes, and then a ping.
 fn door_of(alloc: Global, row: Row<'_>) -> Result<MemoryListener, AllocError> {
     let first = unescaped(alloc, row.first)?;
-    door(alloc, PING, &first, failing(row.accept, "accept"))
+    let door = door(alloc, PING, &first, failing(row.accept, "accept"));
+    drop(first);
+    door
 }
 
 /// Whether such a row holds.
@@ -255,9 +266,10 @@ fn fault_holds(rt: &(impl Threads + Wait + Sync), alloc: Global, row: &str) -> R
         ..case(&words, &[])
     };
     let door = door_of(alloc, row)?;
-    let mut house = house(alloc, &case, disk_of(row.disk), door)?;
-    let done = outcome_in(rt, alloc, &case, &mut house)?;
-    is_outcome(alloc, &done, row.code, row.told)
+    let mut house = house_behind(alloc, &case, disk_of(row.disk), door)?;
+    let holds = house_comes_to(rt, alloc, &case, &mut house, row.code, row.told);
+    drop(house);
+    holds
 }
 
 /// The first of some such rows that does not hold, or `none`.
