@@ -86,7 +86,9 @@ fn holds_of(alloc: Global, doc: &Doc, check: Check) -> bool {
 /// Whether it holds of a row, if that is a document.
 fn holds(alloc: Global, row: &str, check: Check) -> Option<bool> {
     let doc = row_doc(alloc, row)?;
-    Some(holds_of(alloc, &doc, check))
+    let is_so = holds_of(alloc, &doc, check);
+    drop(doc);
+    Some(is_so)
 }
 
 /// Whether a document has this outcome.
@@ -239,7 +241,10 @@ fn what_is_said_of_faults(rt: HostRuntime) {
 
 /// The full form of a definition, as text.
 fn full_text(alloc: Global, def: &TaskDef) -> Result<String, AllocError> {
-    Ok(def.doc(alloc)?.write(alloc)?.into_string())
+    let doc = def.doc(alloc)?;
+    let text = doc.write(alloc);
+    drop(doc);
+    Ok(text?.into_string())
 }
 
 /// Whether the full form of a definition has this text in it.
@@ -334,7 +339,9 @@ fn is_same(def: &TaskDef, read: &Result<TaskDef, DefError>) -> bool {
 /// Whether two rows say the same definition.
 fn alike(alloc: Global, first: &str, second: &str) -> Option<bool> {
     let other = row_doc(alloc, second)?;
-    holds(alloc, first, Check::SaysTheSame(&other))
+    let is_so = holds(alloc, first, Check::SaysTheSame(&other));
+    drop(other);
+    is_so
 }
 
 /// Whether the smallest definition with these members is another than the smallest one, and the same as itself.

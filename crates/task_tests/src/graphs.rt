@@ -62,6 +62,7 @@ fn diamond(alloc: Global, needs: Requires) -> Result<Graph, Fail> {
     if first && left && right && last {
         Ok(graph)
     } else {
+        drop(graph);
         Err("not added".into())
     }
 }
@@ -80,6 +81,7 @@ fn a_diamond_is_run_through(rt: HostRuntime) -> Result<(), Fail> {
     assert_eq!(rt; graph.ready(), None, "after the first of two completions");
     proceed(&mut graph, 1, COMPLETED);
     assert_eq!(rt; graph.ready(), Some(3));
+    drop(graph);
     Ok(())
 }
 
@@ -88,9 +90,11 @@ fn a_failed_task_is_resolved_and_not_completed(rt: HostRuntime) -> Result<(), Fa
     let mut strict = diamond(rt.alloc(), Requires::AllCompleted)?;
     proceed(&mut strict, 0, FAILED);
     assert_eq!(rt; strict.ready(), None);
+    drop(strict);
     let mut loose = diamond(rt.alloc(), Requires::AllResolved)?;
     proceed(&mut loose, 0, FAILED);
     assert_eq!(rt; loose.ready(), Some(1));
+    drop(loose);
     Ok(())
 }
 
@@ -104,6 +108,7 @@ fn a_row_is_ready_where_its_task_is(rt: HostRuntime) -> Result<(), Fail> {
     assert!(rt; !graph.is_ready(0));
     assert!(rt; graph.is_ready(1) && graph.is_ready(2));
     assert!(rt; !graph.is_ready(3));
+    drop(graph);
     Ok(())
 }
 
@@ -115,6 +120,7 @@ fn dependants_are_told_in_order(rt: HostRuntime) -> Result<(), Fail> {
     assert_eq!(rt; graph.dependants(2), [3].as_slice());
     assert!(rt; graph.dependants(3).is_empty());
     assert!(rt; graph.dependants(9).is_empty());
+    drop(graph);
     Ok(())
 }
 
@@ -126,6 +132,7 @@ fn a_task_that_depends_on_itself_waits(rt: HostRuntime) -> Result<(), Fail> {
     assert_eq!(rt; graph.dependants(0), [0].as_slice());
     proceed(&mut graph, 0, UNSCHEDULED);
     assert_eq!(rt; graph.ready(), None);
+    drop(graph);
     Ok(())
 }
 
@@ -149,6 +156,7 @@ fn a_chain_of_a_hundred_goes_one_by_one(rt: HostRuntime) -> Result<(), Fail> {
         proceed(&mut graph, row, COMPLETED);
     }
     assert_eq!(rt; graph.ready(), None);
+    drop(graph);
     Ok(())
 }
 
@@ -159,5 +167,6 @@ fn a_task_is_added_once_and_after_what_it_names(rt: HostRuntime) -> Result<(), F
     assert!(rt; !graph.may_add(3, &[]), "a row that is there");
     assert!(rt; !graph.may_add(4, &[5]), "a row that is not there");
     assert!(rt; !graph.may_add(4, &[1, 2, 1]), "a row twice");
+    drop(graph);
     Ok(())
 }

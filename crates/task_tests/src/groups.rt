@@ -1,8 +1,8 @@
 //! Groups and pages of `task_groups` that were worked by hand.
-use task_groups::{Groups, Page, ReserveFault};
 use farm_text::SlugId;
 use std::alloc::Global;
 use std::test::Fail;
+use task_groups::{Groups, Page, ReserveFault};
 
 /// The id of the group of this number.
 fn group(number: u8) -> Result<SlugId, Fail> {
@@ -33,6 +33,7 @@ fn two_groups(alloc: Global) -> Result<Groups, Fail> {
     for row in 0..6u32 {
         let of = if row == 1 || row == 4 { seven } else { nine };
         if !add(alloc, &mut groups, of, "ci", row) {
+            drop(groups);
             return Err("not added".into());
         }
     }
@@ -57,39 +58,43 @@ fn keeps(alloc: Global, groups: &mut Groups, group: SlugId, scheduler: &str, kep
 
 #[test]
 fn the_whole_list_is_in_order_of_creation(rt: HostRuntime) -> Result<(), Fail> {
-    let groups = two_groups(rt.alloc())?;
     let nine = group(9)?;
+    let groups = two_groups(rt.alloc())?;
     assert!(rt; is_page(groups.list(nine, None, 1000), &[0, 2, 3, 5], false));
     assert!(rt; is_page(groups.list(nine, None, 4), &[0, 2, 3, 5], false));
+    drop(groups);
     Ok(())
 }
 
 #[test]
 fn a_page_begins_behind_its_token(rt: HostRuntime) -> Result<(), Fail> {
-    let groups = two_groups(rt.alloc())?;
     let nine = group(9)?;
+    let groups = two_groups(rt.alloc())?;
     assert!(rt; is_page(groups.list(nine, None, 2), &[0, 2], true));
     assert!(rt; is_page(groups.list(nine, Some(2), 2), &[3, 5], false));
     assert!(rt; is_page(groups.list(nine, Some(5), 2), &[], false));
+    drop(groups);
     Ok(())
 }
 
 #[test]
 fn each_group_has_its_own_tasks(rt: HostRuntime) -> Result<(), Fail> {
-    let groups = two_groups(rt.alloc())?;
     let (seven, eight) = (group(7)?, group(8)?);
+    let groups = two_groups(rt.alloc())?;
     assert!(rt; is_page(groups.list(seven, None, 1), &[1], true));
     assert!(rt; is_page(groups.list(seven, Some(1), 1), &[4], false));
     assert!(rt; groups.list(eight, None, 1).is_none());
+    drop(groups);
     Ok(())
 }
 
 #[test]
 fn a_group_keeps_its_scheduler(rt: HostRuntime) -> Result<(), Fail> {
-    let mut groups = two_groups(rt.alloc())?;
     let nine = group(9)?;
+    let mut groups = two_groups(rt.alloc())?;
     assert!(rt; keeps(rt.alloc(), &mut groups, nine, "other", "ci"));
     assert!(rt; add(rt.alloc(), &mut groups, nine, "ci", 6));
     assert!(rt; is_page(groups.list(nine, Some(3), 3), &[5, 6], false));
+    drop(groups);
     Ok(())
 }

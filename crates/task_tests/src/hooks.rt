@@ -46,7 +46,10 @@ fn hook_of(alloc: Global, template: &str) -> Option<Hook> {
 
 /// The full form of a definition.
 fn full_text(alloc: Global, def: &TaskDef) -> Result<Text, AllocError> {
-    def.doc(alloc)?.write(alloc)
+    let doc = def.doc(alloc)?;
+    let text = doc.write(alloc);
+    drop(doc);
+    text
 }
 
 fn has_part(alloc: Global, def: &TaskDef, part: &str) -> bool {
@@ -103,14 +106,22 @@ fn tells(alloc: Global, hook: &Hook, payload: &Doc, firing: &Firing) -> bool {
 
 fn fires(alloc: Global, hook: &Hook, firing: &Firing) -> bool {
     match Doc::read(alloc, firing.payload.as_bytes()) {
-        Ok(payload) => tells(alloc, hook, &payload, firing),
+        Ok(payload) => {
+            let is_so = tells(alloc, hook, &payload, firing);
+            drop(payload);
+            is_so
+        }
         Err(_) => false,
     }
 }
 
 fn hook_fires(alloc: Global, template: &str, firing: &Firing) -> bool {
     match hook(alloc, template) {
-        Some(hook) => fires(alloc, &hook, firing),
+        Some(hook) => {
+            let is_so = fires(alloc, &hook, firing);
+            drop(hook);
+            is_so
+        }
         None => false,
     }
 }

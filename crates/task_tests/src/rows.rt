@@ -137,8 +137,10 @@ fn kind(alloc: Global, word: &str, parts: &str) -> Option<Kind> {
 
 fn made(alloc: Global, tables: &mut TaskTables, change: Change) -> &'static str {
     match tables.plan(alloc, change) {
-        Ok(Some(plan)) => applied(tables, plan),
-        Ok(None) => "refused",
+        Ok(plan) => match plan {
+            Some(plan) => applied(tables, plan),
+            None => "refused",
+        },
         Err(_) => "no memory",
     }
 }

@@ -54,7 +54,11 @@ pub(crate) fn identifier(alloc: Global, text: &str) -> Option<Identifier> {
 /// The definition that a body reads as, for this task.
 pub(crate) fn definition(alloc: Global, body: &str, id: SlugId) -> Option<TaskDef> {
     match Doc::read(alloc, body.as_bytes()) {
-        Ok(doc) => read_task(alloc, &doc, id).ok(),
+        Ok(doc) => {
+            let read = read_task(alloc, &doc, id);
+            drop(doc);
+            read.ok()
+        }
         Err(_) => None,
     }
 }

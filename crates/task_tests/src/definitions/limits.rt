@@ -48,8 +48,16 @@ fn deep(alloc: Global, depth: usize) -> Option<Doc> {
 /// Gives the definition this payload, and says whether it could.
 fn pay(definition: &mut Doc, key: String, payload: Doc) -> bool {
     match definition {
-        Doc::Map(members) => members.insert(key, payload).is_ok(),
-        _ => false,
+        Doc::Map(members) => {
+            let before = members.insert(key, payload);
+            let is_paid = before.is_ok();
+            drop(before);
+            is_paid
+        }
+        _ => {
+            drop(payload);
+            false
+        }
     }
 }
 
@@ -71,14 +79,24 @@ fn pays_so(alloc: Global, definition: &mut Doc, depth: usize, wanted: &str) -> b
 /// Whether the smallest definition with such a payload has this outcome. The definition is one map, the payload another.
 fn is_deep(alloc: Global, depth: usize, wanted: &str) -> bool {
     match document(alloc, super::PLAIN_IN_FULL) {
-        Some(mut definition) => pays_so(alloc, &mut definition, depth, wanted),
+        Some(mut definition) => {
+            let is_so = pays_so(alloc, &mut definition, depth, wanted);
+            drop(definition);
+            is_so
+        }
         None => false,
     }
 }
 
 /// Whether the map with so many lists inside each other is no document.
 fn is_none(alloc: Global, depth: usize) -> bool {
-    deep(alloc, depth).is_none()
+    match deep(alloc, depth) {
+        Some(document) => {
+            drop(document);
+            false
+        }
+        None => true,
+    }
 }
 
 /// A payload with one text of so many bytes, as a member.
