@@ -32,10 +32,20 @@ fn role(alloc: Global, row: &str) -> Option<Role> {
 /// The roles between spaces.
 fn roles(alloc: Global, rows: &str) -> Option<Vec<Role>> {
     let mut roles = Vec::new(alloc);
+    match add_roles(alloc, &mut roles, rows) {
+        Some(()) => Some(roles),
+        None => {
+            drop(roles);
+            None
+        }
+    }
+}
+
+fn add_roles(alloc: Global, roles: &mut Vec<Role>, rows: &str) -> Option<()> {
     for row in rows.split(' ') {
         roles.push(role(alloc, row)?).ok()?;
     }
-    Some(roles)
+    Some(())
 }
 
 /// Whether these are the scopes of a set.
@@ -172,7 +182,11 @@ fn count_with(alloc: Global, none: &RoleSet, start: &[Scope]) -> Option<usize> {
 
 fn count_of(alloc: Global, start: &[Scope]) -> Option<usize> {
     match RoleSet::build(alloc, Vec::new(alloc)) {
-        Ok(none) => count_with(alloc, &none, start),
+        Ok(none) => {
+            let count = count_with(alloc, &none, start);
+            drop(none);
+            count
+        }
         Err(_) => Some(0),
     }
 }

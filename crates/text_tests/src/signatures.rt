@@ -85,10 +85,8 @@ fn role_of(alloc: Global, id: &str, scope: &str) -> Option<Role> {
 /// No roles but one that gives `two` to whoever gives no credentials.
 fn roles(alloc: Global) -> Option<RoleSet> {
     let role = role_of(alloc, "anonymous", "two")?;
-    match Vec::from_array(alloc, [role]) {
-        Ok(roles) => RoleSet::build(alloc, roles).ok(),
-        Err(_) => None,
-    }
+    let roles = Vec::from_array(alloc, [role]).ok()?;
+    RoleSet::build(alloc, roles).ok()
 }
 
 /// The one client of a book: its id, when it expires and whether it is disabled; and the milliseconds of a check.
@@ -104,13 +102,11 @@ struct Known<'a> {
 fn book_of(alloc: Global, known: Known) -> Option<ClientBook> {
     let expires = Moment::from_millis(known.expires)?;
     let client = client_of(alloc, known.id, expires, known.disabled)?;
-    match Vec::from_array(alloc, [client]) {
-        Ok(clients) => ClientBook::build(alloc, clients).ok(),
-        Err(_) => None,
-    }
+    let clients = Vec::from_array(alloc, [client]).ok()?;
+    ClientBook::build(alloc, clients).ok()
 }
 
-/// Whether the check of a request answers so. Here and in the two below alone a book, roles and an answer are owned.
+/// Whether the check of a request answers so. Here and in `answers_at` alone a book, roles and an answer are owned.
 fn answers(alloc: Global, known: Known, head: &AuthHead, wanted: &str) -> bool {
     match book_of(alloc, known) {
         Some(book) => {
@@ -123,15 +119,28 @@ fn answers(alloc: Global, known: Known, head: &AuthHead, wanted: &str) -> bool {
 }
 
 fn book_answers(alloc: Global, book: &ClientBook, head: &AuthHead, now: u64, wanted: &str) -> bool {
-    match (roles(alloc), Moment::from_millis(now)) {
-        (Some(roles), Some(now)) => {
+    match Moment::from_millis(now) {
+        Some(now) => answers_at(alloc, book, head, now, wanted),
+        None => false,
+    }
+}
+
+fn answers_at(
+    alloc: Global,
+    book: &ClientBook,
+    head: &AuthHead,
+    now: Moment,
+    wanted: &str,
+) -> bool {
+    match roles(alloc) {
+        Some(roles) => {
             let access = book.check(alloc, &roles, head, now);
             let is_so = is_answer(&access, wanted);
             drop(access);
             drop(roles);
             is_so
         }
-        _ => false,
+        None => false,
     }
 }
 
@@ -292,12 +301,22 @@ fn credentials(rt: HostRuntime) {
 
 fn clients_of(alloc: Global, ids: &str) -> Option<Vec<Client>> {
     let mut clients = Vec::new(alloc);
+    match add_clients(alloc, &mut clients, ids) {
+        Some(()) => Some(clients),
+        None => {
+            drop(clients);
+            None
+        }
+    }
+}
+
+fn add_clients(alloc: Global, clients: &mut Vec<Client>, ids: &str) -> Option<()> {
     for id in ids.split(',') {
         clients
             .push(client_of(alloc, id, Moment::FIRST, false)?)
             .ok()?;
     }
-    Some(clients)
+    Some(())
 }
 
 /// Whether a book of clients with these ids, which commas cut, is built, or refused so.

@@ -1,13 +1,12 @@
 //! Streams with what stands in them, by the standard (RFC 9112) and the limits of this crate.
 
-ghost use Rattle.http_wire.specs.Memory.{sink_written, write_faults};
-
-use causes::Failed;
 use http_wire::{
-    Joined, ListEnd, MemoryLink, MemorySink, MemorySource, Message, ReadAllFault, Reader, Sink,
-    Wire, read_all, read_messages, write_all,
+    Joined, ListEnd, MemoryLink, MemorySink, MemorySource, Message, ReadAllFault, Reader, Wire,
+    read_all, read_messages,
 };
 use std::alloc::{AllocError, Global};
+
+mod sinks;
 
 const PING: &[u8] = b"GET /api/queue/v1/ping HTTP/1.1\r\n\r\n";
 
@@ -43,7 +42,11 @@ fn count_with(alloc: Global, reader: &mut Reader, link: &mut MemoryLink) -> (u64
 /// How many messages a link gives, and why there is no other.
 fn count_messages(alloc: Global, link: &mut MemoryLink) -> (u64, Wire) {
     match Reader::new(alloc) {
-        Ok(mut reader) => count_with(alloc, &mut reader, link),
+        Ok(mut reader) => {
+            let counted = count_with(alloc, &mut reader, link);
+            drop(reader);
+            counted
+        }
         Err(_) => (0, Wire::NoMemory),
     }
 }
@@ -57,7 +60,11 @@ fn ends_so(
     wanted: (u64, Wire),
 ) -> bool {
     match link_of(alloc, input, failing, piece) {
-        Ok(mut link) => count_messages(alloc, &mut link) == wanted,
+        Ok(mut link) => {
+            let counted = count_messages(alloc, &mut link);
+            drop(link);
+            counted == wanted
+        }
         Err(_) => false,
     }
 }
@@ -161,7 +168,11 @@ fn failing_reads(rt: HostRuntime) {
 
 fn first_of(alloc: Global, link: &mut MemoryLink) -> Result<Message, Wire> {
     match Reader::new(alloc) {
-        Ok(mut reader) => reader.next_request(alloc, link),
+        Ok(mut reader) => {
+            let first = reader.next_request(alloc, link);
+            drop(reader);
+            first
+        }
         Err(_) => Err(Wire::NoMemory),
     }
 }
@@ -192,7 +203,11 @@ fn has_parts(message: &Message) -> bool {
 /// Whether the first message of a link does.
 fn link_begins_so(alloc: Global, link: &mut MemoryLink) -> bool {
     match first_of(alloc, link) {
-        Ok(message) => has_parts(&message),
+        Ok(message) => {
+            let is_so = has_parts(&message);
+            drop(message);
+            is_so
+        }
         Err(_) => false,
     }
 }
@@ -200,7 +215,11 @@ fn link_begins_so(alloc: Global, link: &mut MemoryLink) -> bool {
 /// Whether the first message of these bytes does.
 fn begins_so(alloc: Global, input: &[u8]) -> bool {
     match link_of(alloc, input, &[], 9) {
-        Ok(mut link) => link_begins_so(alloc, &mut link),
+        Ok(mut link) => {
+            let is_so = link_begins_so(alloc, &mut link);
+            drop(link);
+            is_so
+        }
         Err(_) => false,
     }
 }
@@ -216,49 +235,6 @@ fn parts_of_a_message(rt: HostRuntime) {
     assert!(rt; !begins_so(rt.alloc(), PING));
 }
 
-/// A sink with room for so many bytes, whose writes of these numbers fail.
-fn sink_of(alloc: Global, room: usize, failing: &[u64]) -> Result<MemorySink, AllocError> {
-    let failing = Vec::from_slice(alloc, failing)?;
-    MemorySink::new(alloc, room, failing)
-}
-
-/// Whether a sink answers so to this write.
-fn takes(sink: &mut MemorySink, bytes: &[u8], wanted: Result<usize, Failed>) -> bool {
-    sink.write(bytes) == wanted
-}
-
-/// Whether a sink with room for four bytes, whose second write fails, takes `abc` and `d`.
-fn takes_four(sink: &mut MemorySink) -> bool {
-    takes(sink, b"abc", Ok(3))
-        && takes(sink, b"d", Err(Failed))
-        && takes(sink, b"de", Err(Failed))
-        && takes(sink, b"d", Ok(1))
-        && sink.written() == b"abcd".as_slice()
-        && sink.faults() == 2
-}
-
-/// Whether a sink without room takes nothing.
-fn takes_nothing(alloc: Global) -> bool {
-    let mut sink = MemorySink::without_room(alloc);
-    takes(&mut sink, b"a", Err(Failed))
-}
-
-/// Whether one with this room and this failing write does.
-fn is_of_four(alloc: Global, room: usize, failing: u64) -> bool {
-    match sink_of(alloc, room, &[failing]) {
-        Ok(mut sink) => takes_four(&mut sink),
-        Err(_) => false,
-    }
-}
-
-#[test]
-fn memory_sink(rt: HostRuntime) {
-    assert!(rt; is_of_four(rt.alloc(), 4, 1));
-    assert!(rt; !is_of_four(rt.alloc(), 4, 2));
-    assert!(rt; !is_of_four(rt.alloc(), 5, 1));
-    assert!(rt; takes_nothing(rt.alloc()));
-}
-
 const TWO: &[u8] = b"GET /a HTTP/1.1\r\n\r\nGET /b HTTP/1.1\r\nConnection: Close\r\n\r\nGET";
 
 /// Whether the list of a link has so many messages with this room, and ends so.
@@ -270,7 +246,11 @@ fn link_lists_so(
     end: ListEnd,
 ) -> bool {
     match read_messages(alloc, link, room) {
-        Ok(list) => list.messages.len() == count && list.end == end,
+        Ok(list) => {
+            let is_so = list.messages.len() == count && list.end == end;
+            drop(list);
+            is_so
+        }
         Err(_) => false,
     }
 }
@@ -278,7 +258,11 @@ fn link_lists_so(
 /// Whether the list of these two has so many with this room, and ends so.
 fn lists_so(alloc: Global, room: usize, count: usize, end: ListEnd) -> bool {
     match link_of(alloc, TWO, &[], 7) {
-        Ok(mut link) => link_lists_so(alloc, &mut link, room, count, end),
+        Ok(mut link) => {
+            let is_so = link_lists_so(alloc, &mut link, room, count, end);
+            drop(link);
+            is_so
+        }
         Err(_) => false,
     }
 }
@@ -311,7 +295,11 @@ fn all_of(alloc: Global, link: &mut MemoryLink, most: usize, wanted: &[u8]) -> &
 /// The same of a link that has these bytes left and gives seven at a time. Chosen reads fail.
 fn left(alloc: Global, bytes: &[u8], failing: &[u64], most: usize, wanted: &[u8]) -> &'static str {
     match link_of(alloc, bytes, failing, 7) {
-        Ok(mut link) => all_of(alloc, &mut link, most, wanted),
+        Ok(mut link) => {
+            let word = all_of(alloc, &mut link, most, wanted);
+            drop(link);
+            word
+        }
         Err(_) => "no link",
     }
 }
@@ -338,47 +326,4 @@ fn all_that_is_left(rt: HostRuntime) {
     assert!(rt; left_of(rt.alloc(), 4_000, &[], 19_999, true) == "more");
     assert!(rt; left_of(rt.alloc(), 4_000, &[1], 20_000, true) == "failed");
     assert!(rt; left_of(rt.alloc(), 0, &[], 0, true) == "same");
-}
-
-/// A sink that takes two bytes at a time.
-#[derive(Drop)]
-struct Twos {
-    sink: MemorySink,
-}
-
-impl Sink for Twos {
-    ghost written = { λ twos. sink_written twos.sink };
-
-    ghost faults = { λ twos. write_faults twos.sink };
-
-    fn write(&mut self, buf: &[u8]) -> Result<usize, Failed> {
-        let most = buf.len().min(2);
-        self.sink.write(&buf[..most])
-    }
-}
-
-/// Whether a sink that takes two bytes at a time answers so to `hello`, and has this then.
-fn takes_hello(alloc: Global, sink: MemorySink, is_ok: bool, written: &[u8]) -> bool {
-    let mut link = Joined {
-        source: MemorySource::new(Vec::new(alloc), Vec::new(alloc), 1),
-        sink: Twos { sink },
-    };
-    let answer = write_all(&mut link, b"hello");
-    answer.is_ok() == is_ok && link.sink.sink.written() == written
-}
-
-/// Whether one does whose write of this number fails.
-fn writes_so(alloc: Global, failing: u64, is_ok: bool, written: &[u8]) -> bool {
-    match sink_of(alloc, 5, &[failing]) {
-        Ok(sink) => takes_hello(alloc, sink, is_ok, written),
-        Err(_) => false,
-    }
-}
-
-#[test]
-fn writes_of_two_bytes(rt: HostRuntime) {
-    assert!(rt; writes_so(rt.alloc(), 1, false, b"he"));
-    assert!(rt; writes_so(rt.alloc(), 2, false, b"hell"));
-    assert!(rt; writes_so(rt.alloc(), 3, true, b"hello"));
-    assert!(rt; !writes_so(rt.alloc(), 3, true, b"hell"));
 }

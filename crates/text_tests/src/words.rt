@@ -36,7 +36,11 @@ fn reads(alloc: Global, words: &str, wanted: &str) -> bool {
 /// Whether the words ask for this, or the text of their refusal contains what stands behind a `?`. Here alone a command is owned.
 fn is_read(alloc: Global, words: &[String], wanted: &str) -> bool {
     match read_words(alloc, words) {
-        Ok(command) => is_asked(alloc, &command, wanted),
+        Ok(command) => {
+            let is_so = is_asked(alloc, &command, wanted);
+            drop(command);
+            is_so
+        }
         Err(fault) => is_told(&fault, wanted),
     }
 }
