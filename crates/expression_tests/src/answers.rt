@@ -19,8 +19,14 @@ pub(crate) fn is_rule(rule: u8, wanted: &str) -> bool {
     }
 }
 
-/// Whether this compact text is the value's, or `!` and these digits the fault's.
-pub(crate) fn is_answer(alloc: Global, made: &Result<Doc, Stop>, wanted: &str) -> bool {
+/// Whether this compact text is the value's, or `!` and these digits the fault's. Here alone what was made is owned.
+pub(crate) fn is_answer(alloc: Global, made: Result<Doc, Stop>, wanted: &str) -> bool {
+    let is_so = is_made(alloc, &made, wanted);
+    drop(made);
+    is_so
+}
+
+fn is_made(alloc: Global, made: &Result<Doc, Stop>, wanted: &str) -> bool {
     match made {
         Ok(value) => is_written(alloc, value, wanted),
         Err(Stop::Fault(fault)) => is_rule(fault.rule(), wanted),

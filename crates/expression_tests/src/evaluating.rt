@@ -22,7 +22,11 @@ const NAMES: &str =
 /// for it, as `paid 7`; that it costs too much; or that it has no tree.
 fn gives(alloc: Global, expression: &str, context: &Context, spent: u64, wanted: &str) -> bool {
     match parse(alloc, expression.as_bytes()) {
-        Ok(tree) => tree_gives(alloc, &tree, context, spent, wanted),
+        Ok(tree) => {
+            let is_so = tree_gives(alloc, &tree, context, spent, wanted);
+            drop(tree);
+            is_so
+        }
         Err(_) => wanted == "no tree",
     }
 }
@@ -30,7 +34,9 @@ fn gives(alloc: Global, expression: &str, context: &Context, spent: u64, wanted:
 fn tree_gives(alloc: Global, tree: &Tree, context: &Context, spent: u64, wanted: &str) -> bool {
     let mut cost = Cost { spent };
     let given = eval(alloc, tree, context, &mut cost);
-    is_given(alloc, &given, cost.spent.saturating_sub(spent), wanted)
+    let is_so = is_given(alloc, &given, cost.spent.saturating_sub(spent), wanted);
+    drop(given);
+    is_so
 }
 
 fn is_given(alloc: Global, given: &Result<Doc, EvalFault>, paid: u64, wanted: &str) -> bool {
@@ -64,13 +70,19 @@ fn is_row(alloc: Global, context: &Context, spent: u64, row: &str) -> bool {
 
 fn other_of<'a>(alloc: Global, names: &Doc, spent: u64, rows: &'a str) -> &'a str {
     let context = Context::new(alloc, names);
-    other_in(alloc, &context, spent, rows)
+    let other = other_in(alloc, &context, spent, rows);
+    drop(context);
+    other
 }
 
 /// The same of rows with these names, where so much was paid before.
 fn first_other<'a>(alloc: Global, names: &str, spent: u64, rows: &'a str) -> &'a str {
     match Doc::read(alloc, names.as_bytes()) {
-        Ok(names) => other_of(alloc, &names, spent, rows),
+        Ok(names) => {
+            let other = other_of(alloc, &names, spent, rows);
+            drop(names);
+            other
+        }
         Err(_) => "no names",
     }
 }
@@ -119,7 +131,10 @@ fn expressions_give_what_they_say(rt: HostRuntime) {
 fn alone(alloc: Global, expression: &str, wanted: &str) -> bool {
     let nothing = Entries::new(alloc).into_doc();
     let context = Context::new(alloc, &nothing);
-    gives(alloc, expression, &context, 0, wanted)
+    let is_so = gives(alloc, expression, &context, 0, wanted);
+    drop(context);
+    drop(nothing);
+    is_so
 }
 
 #[test]
@@ -146,7 +161,12 @@ fn spans_want_a_moment(rt: HostRuntime) {
 
 fn bind(alloc: Global, context: &mut Context, names: &str) -> bool {
     match Doc::read(alloc, names.as_bytes()) {
-        Ok(names) => context.bindings.push(names).is_ok(),
+        Ok(names) => {
+            let pushed = context.bindings.push(names);
+            let is_bound = pushed.is_ok();
+            drop(pushed);
+            is_bound
+        }
         Err(_) => false,
     }
 }
@@ -160,16 +180,22 @@ fn other_of_three(alloc: Global, outermost: &Doc) -> &'static str {
     let mut context = Context::new(alloc, outermost);
     let is_bound = bind(alloc, &mut context, r#"{"b":20,"c":30}"#)
         && bind(alloc, &mut context, r#"{"c":null}"#);
-    if is_bound {
+    let other = if is_bound {
         other_in(alloc, &context, 0, HIDDEN)
     } else {
         "not bound"
-    }
+    };
+    drop(context);
+    other
 }
 
 fn other_of_hidden(alloc: Global) -> &'static str {
     match Doc::read(alloc, br#"{"a":1,"b":2,"c":3}"#) {
-        Ok(outermost) => other_of_three(alloc, &outermost),
+        Ok(outermost) => {
+            let other = other_of_three(alloc, &outermost);
+            drop(outermost);
+            other
+        }
         Err(_) => "no names",
     }
 }

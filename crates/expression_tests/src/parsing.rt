@@ -293,7 +293,11 @@ fn are_shown(alloc: Global, text: &[u8], nodes: &[Node], wanted: &str) -> bool {
 /// Whether the text has this tree.
 fn has_tree(alloc: Global, text: &str, wanted: &str) -> bool {
     match parse(alloc, text.as_bytes()) {
-        Ok(tree) => are_shown(alloc, tree.text, &tree.nodes, wanted),
+        Ok(tree) => {
+            let is_so = are_shown(alloc, tree.text, &tree.nodes, wanted);
+            drop(tree);
+            is_so
+        }
         Err(_) => false,
     }
 }
@@ -307,7 +311,10 @@ fn is_tree_row(alloc: Global, row: &str) -> bool {
 
 fn fault(alloc: Global, text: &[u8]) -> Option<ParseFault> {
     match parse(alloc, text) {
-        Ok(_) => None,
+        Ok(tree) => {
+            drop(tree);
+            None
+        }
         Err(fault) => Some(fault),
     }
 }
@@ -359,7 +366,11 @@ fn are_left(nodes: &[Node], places: &[usize]) -> bool {
 
 fn has_left(alloc: Global, text: &str, places: &[usize]) -> bool {
     match parse(alloc, text.as_bytes()) {
-        Ok(tree) => are_left(&tree.nodes, places),
+        Ok(tree) => {
+            let is_so = are_left(&tree.nodes, places);
+            drop(tree);
+            is_so
+        }
         Err(_) => false,
     }
 }

@@ -17,7 +17,11 @@ const NAMES: &str =
 /// Whether a template comes to this value, as compact JSON, or to the fault of this number and path, as `!3 /then`.
 fn comes_to(alloc: Global, template: &Doc, context: &Doc, wanted: &str) -> bool {
     match render(alloc, template, context) {
-        Ok(value) => is_written(alloc, &value, wanted),
+        Ok(value) => {
+            let is_so = is_written(alloc, &value, wanted);
+            drop(value);
+            is_so
+        }
         Err(fault) => is_told(alloc, &fault, wanted),
     }
 }
@@ -41,7 +45,11 @@ fn words(alloc: Global, fault: &RenderFault) -> Result<String, AllocError> {
 
 fn gives(alloc: Global, template: &str, context: &Doc, wanted: &str) -> bool {
     match Doc::read(alloc, template.as_bytes()) {
-        Ok(template) => comes_to(alloc, &template, context, wanted),
+        Ok(template) => {
+            let is_so = comes_to(alloc, &template, context, wanted);
+            drop(template);
+            is_so
+        }
         Err(_) => false,
     }
 }
@@ -66,7 +74,11 @@ fn other_in<'a>(alloc: Global, context: &Doc, rows: &'a str) -> &'a str {
 
 fn first_other<'a>(alloc: Global, names: &str, rows: &'a str) -> &'a str {
     match Doc::read(alloc, names.as_bytes()) {
-        Ok(names) => other_in(alloc, &names, rows),
+        Ok(names) => {
+            let other = other_in(alloc, &names, rows);
+            drop(names);
+            other
+        }
         Err(_) => "no names",
     }
 }
@@ -113,7 +125,11 @@ null ~ !12"#;
 
 fn is_context(alloc: Global, context: &str, wanted: &str) -> bool {
     match Doc::read(alloc, context.as_bytes()) {
-        Ok(context) => gives(alloc, "1", &context, wanted),
+        Ok(context) => {
+            let is_so = gives(alloc, "1", &context, wanted);
+            drop(context);
+            is_so
+        }
         Err(_) => false,
     }
 }

@@ -97,14 +97,22 @@ fn is_order(found: Result<Ordering, Fault>, wanted: &str) -> bool {
 
 fn is_before(alloc: Global, left: &Doc, right: &str, wanted: &str) -> bool {
     match Doc::read(alloc, right.as_bytes()) {
-        Ok(right) => is_order(order_of(left, &right), wanted),
+        Ok(right) => {
+            let is_so = is_order(order_of(left, &right), wanted);
+            drop(right);
+            is_so
+        }
         Err(_) => false,
     }
 }
 
 fn are_ordered(alloc: Global, left: &str, right: &str, wanted: &str) -> bool {
     match Doc::read(alloc, left.as_bytes()) {
-        Ok(left) => is_before(alloc, &left, right, wanted),
+        Ok(left) => {
+            let is_so = is_before(alloc, &left, right, wanted);
+            drop(left);
+            is_so
+        }
         Err(_) => false,
     }
 }
@@ -258,7 +266,7 @@ fn is_slice(alloc: Global, value: &Doc, from: &str, to: &str, wanted: &str) -> b
     let from = from.parse::<i64>().ok();
     is_answer(
         alloc,
-        &slice_of(alloc, value, from, to.parse::<i64>().ok()),
+        slice_of(alloc, value, from, to.parse::<i64>().ok()),
         wanted,
     )
 }
@@ -279,7 +287,11 @@ fn has(alloc: Global, value: &Doc, asked: &str, wanted: &str) -> bool {
 
 fn is_value(alloc: Global, asked: &str, value: &str, wanted: &str) -> bool {
     match Doc::read(alloc, value.as_bytes()) {
-        Ok(value) => has(alloc, &value, asked, wanted),
+        Ok(value) => {
+            let is_so = has(alloc, &value, asked, wanted);
+            drop(value);
+            is_so
+        }
         Err(_) => false,
     }
 }

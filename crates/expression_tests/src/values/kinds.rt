@@ -18,8 +18,10 @@ use std::alloc::Global;
 /// Null where nothing was made of what weighs too much.
 fn or_null(made: Result<Option<Doc>, Stop>) -> Result<Doc, Stop> {
     match made {
-        Ok(Some(value)) => Ok(value),
-        Ok(None) => Ok(Doc::Null),
+        Ok(value) => match value {
+            Some(value) => Ok(value),
+            None => Ok(Doc::Null),
+        },
         Err(stop) => Err(stop),
     }
 }
@@ -40,10 +42,14 @@ fn operated(alloc: Global, operator: &str, left: &Doc, right: &Doc) -> Result<Do
     }
 }
 
-/// Whether an operator gives this between two values. Here and in the two below alone values are owned.
+/// Whether an operator gives this between two values.
 fn operates(alloc: Global, operator: &str, left: &Doc, right: &str, wanted: &str) -> bool {
     match Doc::read(alloc, right.as_bytes()) {
-        Ok(right) => is_answer(alloc, &operated(alloc, operator, left, &right), wanted),
+        Ok(right) => {
+            let is_so = is_answer(alloc, operated(alloc, operator, left, &right), wanted);
+            drop(right);
+            is_so
+        }
         Err(_) => false,
     }
 }
@@ -61,7 +67,11 @@ fn row_operates(alloc: Global, left: &Doc, row: &str) -> bool {
 
 fn left_operates(alloc: Global, left: &str, row: &str) -> bool {
     match Doc::read(alloc, left.as_bytes()) {
-        Ok(left) => row_operates(alloc, &left, row),
+        Ok(left) => {
+            let is_so = row_operates(alloc, &left, row);
+            drop(left);
+            is_so
+        }
         Err(_) => false,
     }
 }
@@ -172,7 +182,11 @@ fn items(list: &Doc) -> &[Doc] {
 
 fn answers(alloc: Global, function: &str, value: &str, wanted: &str) -> bool {
     match Doc::read(alloc, value.as_bytes()) {
-        Ok(value) => is_answer(alloc, &answered(alloc, function, &value), wanted),
+        Ok(value) => {
+            let is_so = is_answer(alloc, answered(alloc, function, &value), wanted);
+            drop(value);
+            is_so
+        }
         Err(_) => false,
     }
 }
@@ -228,8 +242,12 @@ fn functions_take_a_value_of_any_kind(rt: HostRuntime) {
 }
 
 /// Whether the numbers of a range, of which at most 4 are made, are these.
-fn is_range(alloc: Global, from: &Doc, end: &Doc, step: &Doc, wanted: &str) -> bool {
-    is_answer(alloc, &or_null(range_of(alloc, from, end, step, 4)), wanted)
+fn is_range(alloc: Global, from: Doc, end: Doc, step: Doc, wanted: &str) -> bool {
+    let made = or_null(range_of(alloc, &from, &end, &step, 4));
+    drop(from);
+    drop(end);
+    drop(step);
+    is_answer(alloc, made, wanted)
 }
 
 /// Whether the range of a row is made: from a number, before another, in steps of a third.
@@ -240,13 +258,7 @@ fn is_range_row(alloc: Global, row: &str) -> Option<bool> {
     let from = from.parse::<i64>().ok()?;
     let end = end.parse::<i64>().ok()?;
     let step = step.parse::<i64>().ok()?;
-    Some(is_range(
-        alloc,
-        &Doc::Int(from),
-        &Doc::Int(end),
-        &Doc::Int(step),
-        wanted,
-    ))
+    Some(is_range(alloc, Doc::Int(from), Doc::Int(end), Doc::Int(step), wanted))
 }
 
 const RANGES: &str = "1 4 1 [1,2,3]
@@ -268,7 +280,7 @@ fn ranges_stop_before_their_end(rt: HostRuntime) {
     for row in RANGES.lines() {
         assert!(rt; is_range_row(rt.alloc(), row) == Some(true), "{row}");
     }
-    assert!(rt; is_range(rt.alloc(), &Doc::Int(1), &Doc::Null, &Doc::Int(1), "!3"));
+    assert!(rt; is_range(rt.alloc(), Doc::Int(1), Doc::Null, Doc::Int(1), "!3"));
 }
 
 fn two(alloc: Global, first: &str, second: &str) -> Option<Vec<(String, Doc)>> {
@@ -280,7 +292,7 @@ fn two(alloc: Global, first: &str, second: &str) -> Option<Vec<(String, Doc)>> {
 /// Whether a map of two members with these keys, 1 and 2, is this.
 fn is_map(alloc: Global, first: &str, second: &str, wanted: &str) -> bool {
     match two(alloc, first, second) {
-        Some(members) => is_answer(alloc, &map_of(alloc, members), wanted),
+        Some(members) => is_answer(alloc, map_of(alloc, members), wanted),
         None => false,
     }
 }
