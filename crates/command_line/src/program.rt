@@ -1,10 +1,10 @@
 //! The command line, as clap reads it and tells it to the user.
-ghost use Rattle.std.specs.Prelude.{◌≡◌, false, IfOk, codes};
-ghost use Rattle.clap.specs.Words.{app_of, new_app, rule_of};
+ghost use Rattle.std.specs.Prelude.{◌≡◌, ◌∷◌, ◌++◌, true, false, take, IfOk, codes};
+ghost use Rattle.clap.specs.Words.{App, app_of, new_app, rule_of, with_rule, with_subcommand};
 ghost use Rattle.command_line.specs.Load.{bulk_app};
 ghost use Rattle.command_line.specs.Parts.{IsDiskLeaf, IsLeaf, IsPlainLeaf};
-ghost use Rattle.command_line.specs.Signing.{option_rule, request_fields, sign_app, with_fields};
-ghost use Rattle.command_line.specs.Words.{bare_app, farm_app, farm_argument, render_app, serve_app};
+ghost use Rattle.command_line.specs.Signing.{option_rule, port_field, request_fields, sign_app, stamp_fields, with_fields};
+ghost use Rattle.command_line.specs.Words.{bare_app, farm_app, farm_argument, render_app, serve_app, with_disk, with_farm};
 
 use clap::{Arg, Command};
 use std::alloc::{AllocError, Global};
@@ -70,14 +70,21 @@ fn option<'a>(alloc: Global, name: &'a str, required: bool, help: &'a str) -> Ar
         .help(help)
 }
 
-/// `sign`, with who signs, and what is asked of which host.
-fn sign_request<'a>(alloc: Global) -> Result<Command<'a>, AllocError>
-    ensures { IfOk result (IsPlainLeaf (with_fields (new_app (codes "sign")) request_fields)) }
+/// `sign`, with who signs.
+fn signer<'a>(alloc: Global) -> Result<Command<'a>, AllocError>
+    ensures { IfOk result (IsPlainLeaf (with_fields (new_app (codes "sign")) (take 2 request_fields))) }
 {
     Command::new(alloc, "sign")
         .about("Writes the value of the Authorization header that signs a request (Hawk).")
         .arg(option(alloc, "id", true, "The client's id."))?
-        .arg(option(alloc, "token", true, "The client's access token."))?
+        .arg(option(alloc, "token", true, "The client's access token."))
+}
+
+/// `sign`, with who signs, and what is asked of which host.
+fn sign_request<'a>(alloc: Global) -> Result<Command<'a>, AllocError>
+    ensures { IfOk result (IsPlainLeaf (with_fields (new_app (codes "sign")) request_fields)) }
+{
+    signer(alloc)?
         .arg(option(alloc, "method", true, "The method of the request."))?
         .arg(option(
             alloc,
@@ -88,14 +95,21 @@ fn sign_request<'a>(alloc: Global) -> Result<Command<'a>, AllocError>
         .arg(option(alloc, "host", true, "The host that the farm file names."))
 }
 
-/// `sign` with all its options.
-fn sign<'a>(alloc: Global) -> Result<Command<'a>, AllocError>
-    ensures { IfOk result (IsPlainLeaf sign_app) }
+/// `sign`, with what has to be there.
+fn sign_stamp<'a>(alloc: Global) -> Result<Command<'a>, AllocError>
+    ensures { IfOk result (IsPlainLeaf (with_fields (new_app (codes "sign")) (request_fields ++ port_field ∷ take 2 stamp_fields))) }
 {
     sign_request(alloc)?
         .arg(option(alloc, "port", true, "The port that the farm file names."))?
         .arg(option(alloc, "ts", true, "The seconds since 1970."))?
-        .arg(option(alloc, "nonce", true, "A text that is used once."))?
+        .arg(option(alloc, "nonce", true, "A text that is used once."))
+}
+
+/// `sign` with all its options.
+fn sign<'a>(alloc: Global) -> Result<Command<'a>, AllocError>
+    ensures { IfOk result (IsPlainLeaf sign_app) }
+{
+    sign_stamp(alloc)?
         .arg(option(
             alloc,
             "ext",
@@ -125,13 +139,21 @@ fn render<'a>(alloc: Global) -> Command<'a>
     Command::new(alloc, "render").about("Renders the template of an input with its context.")
 }
 
-fn serve<'a>(alloc: Global) -> Result<Command<'a>, AllocError>
-    ensures { IfOk result (IsPlainLeaf serve_app) }
+/// `serve`, with the farm file and the disk.
+fn served<'a>(alloc: Global) -> Result<Command<'a>, AllocError>
+    ensures { IfOk result (IsPlainLeaf (with_rule (with_farm (codes "serve")) (option_rule (codes "disk") true))) }
 {
     Command::new(alloc, "serve")
         .about("Serves connections that come to an address, over a farm that a disk keeps.")
         .arg(farm_file(alloc))?
-        .arg(disk(alloc, true))?
+        .arg(disk(alloc, true))
+}
+
+/// `serve` with all its options.
+fn serve<'a>(alloc: Global) -> Result<Command<'a>, AllocError>
+    ensures { IfOk result (IsPlainLeaf serve_app) }
+{
+    served(alloc)?
         .arg(option(
             alloc,
             "listen",
@@ -166,16 +188,40 @@ fn without_commands<'a>(alloc: Global) -> Result<Command<'a>, AllocError>
     )
 }
 
+/// The program with one command more, where there was memory for that.
+fn with<'a>(
+    program: Command<'a>,
+    command: Result<Command<'a>, AllocError>,
+) -> Result<Command<'a>, AllocError>
+    ensures { IfOk result (λ more. (app : App) → IfOk command.entry (IsPlainLeaf app) → app_of more ≡ with_subcommand (app_of program.entry) app.top) }
+{
+    match command {
+        Ok(command) => program.subcommand(command),
+        Err(error) => {
+            drop(program);
+            Err(error)
+        }
+    }
+}
+
+/// The program with the first three of its commands.
+fn first_commands<'a>(alloc: Global) -> Result<Command<'a>, AllocError>
+    ensures { IfOk result (λ program. app_of program
+        ≡ with_subcommand (with_subcommand (with_subcommand bare_app (with_disk (codes "answer")).top) (with_farm (codes "expand")).top) (with_disk (codes "check")).top) }
+{
+    let program = without_commands(alloc)?;
+    let program = with(program, answer(alloc))?;
+    let program = with(program, expand(alloc))?;
+    with(program, check(alloc))
+}
+
 /// The program with its commands.
 pub(crate) fn farm<'a>(alloc: Global) -> Result<Command<'a>, AllocError>
     ensures { IfOk result (λ program. app_of program ≡ farm_app) }
 {
-    without_commands(alloc)?
-        .subcommand(answer(alloc)?)?
-        .subcommand(expand(alloc)?)?
-        .subcommand(check(alloc)?)?
-        .subcommand(sign(alloc)?)?
-        .subcommand(bulk(alloc)?)?
-        .subcommand(render(alloc))?
-        .subcommand(serve(alloc)?)
+    let program = first_commands(alloc)?;
+    let program = with(program, sign(alloc))?;
+    let program = with(program, bulk(alloc))?;
+    let program = program.subcommand(render(alloc))?;
+    with(program, serve(alloc))
 }

@@ -105,21 +105,78 @@ fn off_stamp(matches: &ArgMatches<'_>) -> Option<&'static str>
     None
 }
 
-/// What the values ask to be signed, at this port.
-fn signing_of(alloc: Global, matches: &ArgMatches<'_>, port: u16) -> Result<Signing, AllocError>
-    ensures { IfOk result (λ signing. signing ≡ signing_at (rows_of (found_of matches.now)) port) }
+/// Who signs, and what is asked of which host.
+#[derive(Drop)]
+struct Request {
+    id: Text,
+    token: Text,
+    method: Text,
+    target: Text,
+    host: Text,
+}
+
+fn request_of(alloc: Global, matches: &ArgMatches<'_>) -> Result<Request, AllocError>
+    ensures { IfOk result (λ r. (r.id ≡ value_in (rows_of (found_of matches.now)) (codes "id"))
+        × (r.token ≡ value_in (rows_of (found_of matches.now)) (codes "token"))
+        × (r.method ≡ value_in (rows_of (found_of matches.now)) (codes "method"))
+        × (r.target ≡ value_in (rows_of (found_of matches.now)) (codes "target"))
+        × (r.host ≡ value_in (rows_of (found_of matches.now)) (codes "host"))) }
 {
-    Ok(Signing {
+    Ok(Request {
         id: text(alloc, matches, "id")?,
         token: text(alloc, matches, "token")?,
         method: text(alloc, matches, "method")?,
         target: text(alloc, matches, "target")?,
         host: text(alloc, matches, "host")?,
-        port,
+    })
+}
+
+/// When, by which nonce, and what goes with it.
+#[derive(Drop)]
+struct Stamp {
+    ts: Text,
+    nonce: Text,
+    ext: Option<Text>,
+    content_type: Option<Text>,
+}
+
+fn stamp_of(alloc: Global, matches: &ArgMatches<'_>) -> Result<Stamp, AllocError>
+    ensures { IfOk result (λ s. (s.ts ≡ value_in (rows_of (found_of matches.now)) (codes "ts"))
+        × (s.nonce ≡ value_in (rows_of (found_of matches.now)) (codes "nonce"))
+        × (s.ext ≡ nonempty (value_in (rows_of (found_of matches.now)) (codes "ext")))
+        × (s.content_type ≡ first_of (codes "type") (rows_of (found_of matches.now)))) }
+{
+    Ok(Stamp {
         ts: text(alloc, matches, "ts")?,
         nonce: text(alloc, matches, "nonce")?,
         ext: ext_of(alloc, matches)?,
         content_type: content_type_of(alloc, matches)?,
+    })
+}
+
+/// What the values ask to be signed, at this port.
+fn signing_of(alloc: Global, matches: &ArgMatches<'_>, port: u16) -> Result<Signing, AllocError>
+    ensures { IfOk result (λ signing. signing ≡ signing_at (rows_of (found_of matches.now)) port) }
+{
+    let request = request_of(alloc, matches)?;
+    let stamp = match stamp_of(alloc, matches) {
+        Ok(stamp) => stamp,
+        Err(error) => {
+            drop(request);
+            return Err(error);
+        }
+    };
+    Ok(Signing {
+        id: request.id,
+        token: request.token,
+        method: request.method,
+        target: request.target,
+        host: request.host,
+        port,
+        ts: stamp.ts,
+        nonce: stamp.nonce,
+        ext: stamp.ext,
+        content_type: stamp.content_type,
     })
 }
 
