@@ -137,15 +137,12 @@ fn read_row(
         Err(fault) => return Err(fault),
     };
     if row >= MOST_ROWS {
-        drop(client);
         return Err(RowFault::Breaks(Rule::OutOfForm));
     }
     if !has_client_form(&client) {
-        drop(client);
         return Err(RowFault::Breaks(Rule::OutOfForm));
     }
     if has_id(ids, client.id.as_str()) {
-        drop(client);
         return Err(RowFault::Breaks(Rule::RepeatedId));
     }
     Ok(client)

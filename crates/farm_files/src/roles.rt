@@ -81,15 +81,12 @@ fn read_row(
         Err(fault) => return Err(fault),
     };
     if row >= MOST_ROWS {
-        drop(role);
         return Err(RowFault::Breaks(Rule::OutOfForm));
     }
     if !has_role_form(&role) {
-        drop(role);
         return Err(RowFault::Breaks(Rule::OutOfForm));
     }
     if has_id(ids, role.id.as_str()) {
-        drop(role);
         return Err(RowFault::Breaks(Rule::RepeatedId));
     }
     Ok(role)
