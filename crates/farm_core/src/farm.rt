@@ -129,7 +129,15 @@ impl<D: Disk> Farm<D> {
     pub fn into_disk(self) -> D
         ensures { result ≡ self.records.disk }
     {
-        self.records.into_disk()
+        let Farm {
+            alloc: _,
+            config,
+            tables,
+            records,
+        } = self;
+        drop(config);
+        drop(tables);
+        records.into_disk()
     }
 
     /// Asks one question: what is due at its moment is kept as a tick and resolved, and then the call is judged, its change kept, and made.

@@ -72,8 +72,5 @@ keep_due-requires-clause-told g c = c.moment_of-moment.ensures.told
 pub keep_due-requires-clause-works : goal.keep_due-requires-clause-works
 keep_due-requires-clause-works g c = let is = c.if-halted.false in let same = c.halted.ensures in cc
 
-pub same-question : goal.same-question
-same-question g c = refl
-
 pub perform-reply-requires-clause-works : goal.perform-reply-requires-clause-works
 perform-reply-requires-clause-works g c = c.in-Ok.ensures.works
