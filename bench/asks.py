@@ -1,7 +1,7 @@
 #!/usr/bin/env python3
 """What a ping costs over a farm file that gives whoever has no credentials many scopes, against one over an empty farm file.
 
-    bench/asks.py            builds the program if need be (./farm), measures, and ends with 1 where the limit is passed
+    bench/asks.py            builds the program if need be (./farm), or takes FARM_PROGRAM, measures, and ends with 1 where the limit is passed
 
 One connection answers a first ping, after which the program's start is over (the farm file is read, and the closure of
 `assume:anonymous` made), and then 998 more. Their cost is the processor's time that the system counts for the program between
@@ -14,7 +14,7 @@ import tempfile
 import time
 
 TOP = os.path.dirname(os.path.dirname(os.path.abspath(__file__)))
-PROGRAM = os.path.join(TOP, "crates", "farm", "out", "farm")
+PROGRAM = os.environ.get("FARM_PROGRAM") or os.path.join(TOP, "crates", "farm", "out", "farm")
 PING = b"GET /api/queue/v1/ping HTTP/1.1\r\n\r\n"
 MORE = 998
 RUNS = 25
@@ -61,7 +61,8 @@ def costs_of(farm, status):
 
 
 def main():
-    subprocess.run([os.path.join(TOP, "farm"), "check", os.path.join(TOP, "examples", "farm.toml")], check=True, stdout=subprocess.DEVNULL)
+    if "FARM_PROGRAM" not in os.environ:
+        subprocess.run([os.path.join(TOP, "farm"), "check", os.path.join(TOP, "examples", "farm.toml")], check=True, stdout=subprocess.DEVNULL)
     costs = {}
     with tempfile.TemporaryDirectory() as folder:
         for name, text, status in (("empty", EMPTY, 200), ("9,000 scopes", MANY, 200), ("too many scopes", TOO_MANY, 403)):

@@ -3,7 +3,7 @@
 
     ./farm --help; bench/bodies.py
 
-The first word builds the program. Each case is one PUT over a farm that is open to all; its reply is compared with what it has to be.
+The first word builds the program; FARM_PROGRAM, if it is set, is run in its place. Each case is one PUT over a farm that is open to all; its reply is compared with what it has to be.
 """
 import os
 import subprocess
@@ -12,7 +12,7 @@ import tempfile
 import time
 
 TOP = os.path.dirname(os.path.dirname(os.path.abspath(__file__)))
-PROGRAM = os.path.join(TOP, "crates", "farm", "out", "farm")
+PROGRAM = os.environ.get("FARM_PROGRAM") or os.path.join(TOP, "crates", "farm", "out", "farm")
 FARM = '[[role]]\nid = "anonymous"\nscopes = ["*"]\n'
 MOST = 1_048_576
 

@@ -3,7 +3,7 @@
 
     python3 bench/bulk_model.py [SEED TASKS ..]
 
-prints a line for each pair, as a load of so many tasks is told; without words, the table of crates/farm_bulk/src/tests.rt. Only the states of runs are modelled: the clock of a load stands still, so no claim ends by itself and
+prints a line for each pair, as a load of so many tasks is told; without words, the table of crates/cli_tests/src/loads.rt. Only the states of runs are modelled: the clock of a load stands still, so no claim ends by itself and
 no deadline comes. The draws are those of the C standard's example of `rand`, modulo 2^31.
 """
 import heapq
