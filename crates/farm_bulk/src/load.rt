@@ -124,12 +124,28 @@ pub fn bulk(alloc: Global, seed: u64, tasks: u32) -> Result<Summary, AllocError>
     ensures { IfOk result (IsBulk seed tasks) }
 {
     let table = Table::new(alloc)?;
-    let mut desk = Solo::new(new_farm(alloc)?);
+    let mut desk = match new_farm(alloc) {
+        Ok(farm) => Solo::new(farm),
+        Err(error) => {
+            drop(table);
+            return Err(error);
+        }
+    };
     let mut generator = Generator::new(seed);
-    create_all(alloc, &table, &mut desk, &mut generator, tasks)?;
+    let made = create_all(alloc, &table, &mut desk, &mut generator, tasks);
+    if let Err(error) = made {
+        drop(desk);
+        drop(table);
+        return Err(error);
+    }
     let most = 2 * u64::from(tasks) + 1;
-    work(alloc, &table, &mut desk, &mut generator, most)?;
-    Ok(desk.into_object().summary())
+    let worked = work(alloc, &table, &mut desk, &mut generator, most);
+    drop(table);
+    let farm = desk.into_object();
+    let summary = farm.summary();
+    drop(farm);
+    worked?;
+    Ok(summary)
 }
 
 /// How many tasks there are, and how many of them completed and failed.
