@@ -41,7 +41,9 @@ pub(crate) fn definition_call(alloc: Global, id: SlugId, body: &[u8]) -> Result<
         Said::Document(doc) => doc,
         Said::Fault(fault) => return Ok(Call::BadBody(fault)),
     };
-    match read_task(alloc, &doc, id) {
+    let read = read_task(alloc, &doc, id);
+    drop(doc);
+    match read {
         Ok(definition) => Ok(Call::CreateTask(Creation { id, definition })),
         Err(DefError::Fault(fault)) => Ok(Call::BadBody(BodyFault::NoDefinition(fault))),
         Err(DefError::NoMemory) => Err(AllocError),

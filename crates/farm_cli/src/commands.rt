@@ -48,8 +48,16 @@ where
     match work {
         Work::Answer { disk: None } => converse(alloc, config, house),
         Work::Answer { disk: Some(disk) } => converse_over(alloc, disk.as_str(), config, house),
-        Work::Expand => expand_over(alloc, &config, house),
-        Work::Check { disk: None } => check_over(alloc, &config, house),
+        Work::Expand => {
+            let ended = expand_over(alloc, &config, house);
+            drop(config);
+            ended
+        }
+        Work::Check { disk: None } => {
+            let ended = check_over(alloc, &config, house);
+            drop(config);
+            ended
+        }
         Work::Check { disk: Some(disk) } => check_disk(alloc, disk.as_str(), config, house),
         Work::Serve(service) => serve_over(rt, alloc, service, config, house),
     }
@@ -78,7 +86,8 @@ fn converse<H: House>(alloc: Global, config: Config, house: &mut H) -> Ended
     house.back_console(console);
     house.back_clock(clock);
     house.back_draws(draws);
-    let _bare = desk.into_object();
+    let bare = desk.into_object();
+    drop(bare);
     Ended::after_serving(alloc, served)
 }
 

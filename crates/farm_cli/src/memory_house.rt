@@ -104,8 +104,16 @@ impl MemoryHouse {
         ensures refusals { IfOk result (λ house. ⟦<MemoryHouse as House>⟧.refusals house ≡ ⟦<MemoryHouse as House>⟧.refusals self) }
     {
         let mut house = self;
-        house.doors = MemoryDoors::one(house.alloc, address, door, room)?;
-        Ok(house)
+        match MemoryDoors::one(house.alloc, address, door, room) {
+            Ok(doors) => {
+                house.doors = doors;
+                Ok(house)
+            }
+            Err(error) => {
+                drop(house);
+                Err(error)
+            }
+        }
     }
 
     /// The doors that came back, in order, where that is told.

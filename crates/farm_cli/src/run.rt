@@ -72,7 +72,11 @@ where
     ensures later { H.refusals house.old ≤ H.refusals house.new }
 {
     match read_words(alloc, words) {
-        Ok(command) => run_command(rt, alloc, &command, house),
+        Ok(command) => {
+            let ended = run_command(rt, alloc, &command, house);
+            drop(command);
+            ended
+        }
         Err(WordsFault::Usage(text)) => Ended::of_usage(text),
         Err(WordsFault::NoMemory) => Ended::plain(Status::NoMemory),
     }

@@ -58,8 +58,18 @@ fn granted(
     ensures { IfOk result (λ firing. (access : Access) × HookMay at.now.state.config name.now access
         × (outcome_of firing ≡ by_access creation access)) }
 {
-    match refusal_of_hook(alloc, name, &creation, at)? {
-        Some(answer) => Ok(Firing::Refuses(answer)),
+    let refused = match refusal_of_hook(alloc, name, &creation, at) {
+        Ok(refused) => refused,
+        Err(error) => {
+            drop(creation);
+            return Err(error);
+        }
+    };
+    match refused {
+        Some(answer) => {
+            drop(creation);
+            Ok(Firing::Refuses(answer))
+        }
         None => Ok(Firing::Makes(creation)),
     }
 }

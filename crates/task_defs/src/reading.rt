@@ -244,19 +244,35 @@ fn read_parts(alloc: Global, doc: &Doc, id: SlugId) -> Result<TaskDef, DefError>
     };
     let terms = match read_terms(alloc, doc, id) {
         Ok(terms) => terms,
-        Err(error) => return Err(error),
+        Err(error) => {
+            drop(head);
+            return Err(error);
+        }
     };
     let span = match read_span(alloc, doc, id) {
         Ok(span) => span,
-        Err(error) => return Err(error),
+        Err(error) => {
+            drop(terms);
+            drop(head);
+            return Err(error);
+        }
     };
     let rest = match read_rest(alloc, doc, id) {
         Ok(rest) => rest,
-        Err(error) => return Err(error),
+        Err(error) => {
+            drop(terms);
+            drop(head);
+            return Err(error);
+        }
     };
     let maps = match read_maps(alloc, doc) {
         Ok(maps) => maps,
-        Err(_) => return Err(DefError::NoMemory),
+        Err(_) => {
+            drop(rest);
+            drop(terms);
+            drop(head);
+            return Err(DefError::NoMemory);
+        }
     };
     Ok(TaskDef {
         created: span.created,
@@ -292,9 +308,13 @@ pub fn read_task(alloc: Global, doc: &Doc, id: SlugId) -> Result<TaskDef, DefErr
     };
     let long = match is_too_long(alloc, &def) {
         Ok(long) => long,
-        Err(_) => return Err(DefError::NoMemory),
+        Err(_) => {
+            drop(def);
+            return Err(DefError::NoMemory);
+        }
     };
     if long {
+        drop(def);
         Err(DefError::at(alloc, 14, ""))
     } else {
         Ok(def)

@@ -43,10 +43,19 @@ impl Called for ClaimWork {
 
     fn deed(self, alloc: Global, at: &Scene<'_>) -> Result<Done, AllocError> {
         let most = self.work.tasks.min(MOST_RUNS);
-        let names = at.tables.picks(alloc, &self.work.queue, most)?;
+        let names = match at.tables.picks(alloc, &self.work.queue, most) {
+            Ok(names) => names,
+            Err(error) => {
+                drop(self);
+                return Err(error);
+            }
+        };
         match RunNames::from_list(names) {
             Some(runs) => Ok(Done::Changes(taking(self.work, runs, at.taken_until()))),
-            None => Ok(Done::Reads(told(alloc, Telling::Taken, &[])?)),
+            None => {
+                drop(self);
+                Ok(Done::Reads(told(alloc, Telling::Taken, &[])?))
+            }
         }
     }
 }

@@ -81,9 +81,11 @@ pub(crate) fn judge_trigger(
     };
     let call = TriggerHook { trigger };
     if let Some(answer) = refusal(alloc, caller, &call, &at)? {
+        drop(call);
         return Ok(Judged::only(answer));
     }
     let firing = firing_of(alloc, &call.trigger, &at)?;
+    drop(call);
     match firing {
         Firing::Refuses(answer) => Ok(Judged::only(answer)),
         Firing::Makes(creation) => {
