@@ -39,8 +39,8 @@ returns-in-Refuses-clause-judged c =
     IsJudged-came Fired at c.args.caller.now case (ComesTo c.args.trigger) case_after (Err answer) judged passes comes
     (IsFinished-ruled at (case_after (Err answer) at) judged answer c.only-in-Refuses.ensures.answer c.only-in-Refuses.ensures.change (inl (refl, refl)))
 
-pub returns-clause-judged : goal.returns-clause-judged
-returns-clause-judged c =
+pub returns-in-Makes-clause-judged : goal.returns-in-Makes-clause-judged
+returns-in-Makes-clause-judged c =
     let case = trigger_hook c.args.trigger in
     let at = setting_at c.args.config.now c.args.tables.now c.args.moment c.args.drawn in
     let passes : Passes at c.args.caller.now (case at) = subst (λ (a : Option Answer). IsRefusal at c.args.caller.now case a) c.in_default.is c.in_ok-answer.ensures in
