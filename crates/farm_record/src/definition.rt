@@ -40,18 +40,29 @@ pub(crate) fn definition(alloc: Global, id: SlugId, text: &[u8]) -> Result<TaskD
     };
     let def = match read_task(alloc, &doc, id) {
         Ok(def) => def,
-        Err(DefError::NoMemory) => return Err(Unread::NoMemory),
-        Err(DefError::Fault(_)) => return Err(Unread::NotARecord),
+        Err(DefError::NoMemory) => {
+            drop(doc);
+            return Err(Unread::NoMemory);
+        }
+        Err(DefError::Fault(_)) => {
+            drop(doc);
+            return Err(Unread::NotARecord);
+        }
     };
+    drop(doc);
     match full_text(alloc, &def) {
         Ok(full) => {
             if is_same(full.as_bytes(), text) {
                 Ok(def)
             } else {
+                drop(def);
                 Err(Unread::NotARecord)
             }
         }
-        Err(AllocError) => Err(Unread::NoMemory),
+        Err(AllocError) => {
+            drop(def);
+            Err(Unread::NoMemory)
+        }
     }
 }
 

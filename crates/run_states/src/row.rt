@@ -54,7 +54,13 @@ impl TaskRow {
         ensures { IfOk result (λ row. row ≡ new_row id definition) }
     {
         let retries_left = definition.retries.min(MOST_RETRIES);
-        let runs = Vec::with_capacity(alloc, usize::from(retries_left) + 1)?;
+        let runs = match Vec::with_capacity(alloc, usize::from(retries_left) + 1) {
+            Ok(runs) => runs,
+            Err(error) => {
+                drop(definition);
+                return Err(error);
+            }
+        };
         Ok(TaskRow {
             id,
             retries_left,

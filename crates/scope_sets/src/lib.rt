@@ -12,6 +12,3 @@ pub mod sets;
 pub use expressions::{Expr, holds, missing};
 pub use scopes::{LONGEST_SCOPE, Scope, satisfies};
 pub use sets::ScopeSet;
-
-#[cfg(test)]
-mod tests;

@@ -1,25 +1,9 @@
+use crate::scopes::scopes;
 use role_expand::{BuildFault, ExpandFault, Role, RoleSet};
 use scope_sets::{Scope, ScopeSet};
 use std::alloc::{AllocError, Global};
 
-/// The scope of a text. Here and below `None` is want of memory, or a text that is off its form.
-fn scope(alloc: Global, text: &str) -> Option<Scope> {
-    match String::from_str(alloc, text) {
-        Ok(text) => Scope::new(text),
-        Err(_) => None,
-    }
-}
-
-/// The scopes between spaces.
-fn scopes(alloc: Global, texts: &str) -> Option<Vec<Scope>> {
-    let mut scopes = Vec::new(alloc);
-    for text in texts.split(' ') {
-        scopes.push(scope(alloc, text)?).ok()?;
-    }
-    Some(scopes)
-}
-
-/// The role whose id stands before a bar, and its scope after it.
+/// The role whose id stands before a bar, and its scope after it. Here and below `None` is want of memory, or a text that is off its form.
 fn role(alloc: Global, row: &str) -> Option<Role> {
     let (id, scope) = row.split_once('|')?;
     let id = String::from_str(alloc, id).ok()?;

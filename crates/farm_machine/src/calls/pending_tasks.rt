@@ -38,6 +38,8 @@ impl Called for PendingTasks {
     fn deed(self, alloc: Global, at: &Scene<'_>) -> Result<Done, AllocError> {
         let count = at.tables.pending(alloc, &self.queue)?;
         let body = answers::pending_body(alloc, &self.queue, count)?;
-        Ok(Done::Reads(body.write(alloc)?))
+        let text = body.write(alloc);
+        drop(body);
+        Ok(Done::Reads(text?))
     }
 }

@@ -36,6 +36,8 @@ impl Called for Ping {
         let body = Entries::new(alloc)
             .with(alloc, "alive", Doc::Bool(true))?
             .into_doc();
-        Ok(Done::Reads(body.write(alloc)?))
+        let text = body.write(alloc);
+        drop(body);
+        Ok(Done::Reads(text?))
     }
 }

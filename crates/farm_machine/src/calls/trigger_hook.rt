@@ -53,7 +53,11 @@ impl Called for TriggerHook {
     }
 
     fn deed(self, alloc: Global, _at: &Scene<'_>) -> Result<Done, AllocError> {
-        Ok(Done::Reads(Doc::Null.write(alloc)?))
+        drop(self);
+        let body = Doc::Null;
+        let text = body.write(alloc);
+        drop(body);
+        Ok(Done::Reads(text?))
     }
 }
 
@@ -80,11 +84,24 @@ pub(crate) fn judge_trigger(
         drawn,
     };
     let call = TriggerHook { trigger };
-    if let Some(answer) = refusal(alloc, caller, &call, &at)? {
+    let refused = match refusal(alloc, caller, &call, &at) {
+        Ok(refused) => refused,
+        Err(error) => {
+            drop(call);
+            return Err(error);
+        }
+    };
+    if let Some(answer) = refused {
         drop(call);
         return Ok(Judged::only(answer));
     }
-    let firing = firing_of(alloc, &call.trigger, &at)?;
+    let firing = match firing_of(alloc, &call.trigger, &at) {
+        Ok(firing) => firing,
+        Err(error) => {
+            drop(call);
+            return Err(error);
+        }
+    };
     drop(call);
     match firing {
         Firing::Refuses(answer) => Ok(Judged::only(answer)),

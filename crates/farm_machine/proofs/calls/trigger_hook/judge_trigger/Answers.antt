@@ -17,13 +17,13 @@ returns-in-Some-clause-judged c =
     let case = trigger_hook c.args.trigger in
     let at = setting_at c.args.config.now c.args.tables.now c.args.moment c.args.drawn in
     IsJudged-turned at c.args.caller.now (form_of (TriggerHook c.args.trigger)) c.only.result c.in-Some.answer c.only.ensures.answer c.only.ensures.change
-    (subst (λ (a : Option Answer). IsRefusal at c.args.caller.now case a) c.in-Some.is c.in_ok-answer.ensures)
+    (subst (λ (a : Option Answer). IsRefusal at c.args.caller.now case a) c.in-Some.is c.in-Ok.ensures)
 
 pub firing_of-requires : goal.firing_of-requires
 firing_of-requires c = λ none.
     let case = trigger_hook c.args.trigger in
     let at = setting_at c.args.config.now c.args.tables.now c.args.moment c.args.drawn in
-    let passes : Passes at c.args.caller.now (case at) = subst (λ (a : Option Answer). IsRefusal at c.args.caller.now case a) c.in_default.is c.in_ok-answer.ensures in
+    let passes : Passes at c.args.caller.now (case at) = subst (λ (a : Option Answer). IsRefusal at c.args.caller.now case a) c.in_default.is c.in-Ok.ensures in
     let hook = hook-there c.args.trigger.hook (hook_at c.args.trigger.hook at) passes.there in
     let is = hook.1 in
     cc
@@ -34,8 +34,8 @@ returns-in-Refuses-clause-judged c =
     let at = setting_at c.args.config.now c.args.tables.now c.args.moment c.args.drawn in
     let answer = c.in-Refuses.answer in
     let judged = c.only-in-Refuses.result in
-    let passes : Passes at c.args.caller.now (case at) = subst (λ (a : Option Answer). IsRefusal at c.args.caller.now case a) c.in_default.is c.in_ok-answer.ensures in
-    let comes : ComesTo c.args.trigger at (Err answer) = subst (λ (f : Firing). ComesTo c.args.trigger at (outcome_of f)) c.in-Refuses.is c.in_ok-firing.ensures in
+    let passes : Passes at c.args.caller.now (case at) = subst (λ (a : Option Answer). IsRefusal at c.args.caller.now case a) c.in_default.is c.in-Ok.ensures in
+    let comes : ComesTo c.args.trigger at (Err answer) = subst (λ (f : Firing). ComesTo c.args.trigger at (outcome_of f)) c.in-Refuses.is c.in-Ok-firing_of.ensures in
     IsJudged-came Fired at c.args.caller.now case (ComesTo c.args.trigger) case_after (Err answer) judged passes comes
     (IsFinished-ruled at (case_after (Err answer) at) judged answer c.only-in-Refuses.ensures.answer c.only-in-Refuses.ensures.change (inl (refl, refl)))
 
@@ -43,6 +43,6 @@ pub returns-in-Makes-clause-judged : goal.returns-in-Makes-clause-judged
 returns-in-Makes-clause-judged c =
     let case = trigger_hook c.args.trigger in
     let at = setting_at c.args.config.now c.args.tables.now c.args.moment c.args.drawn in
-    let passes : Passes at c.args.caller.now (case at) = subst (λ (a : Option Answer). IsRefusal at c.args.caller.now case a) c.in_default.is c.in_ok-answer.ensures in
-    let comes : ComesTo c.args.trigger at (Ok c.in-Makes.creation) = subst (λ (f : Firing). ComesTo c.args.trigger at (outcome_of f)) c.in-Makes.is c.in_ok-firing.ensures in
+    let passes : Passes at c.args.caller.now (case at) = subst (λ (a : Option Answer). IsRefusal at c.args.caller.now case a) c.in_default.is c.in-Ok.ensures in
+    let comes : ComesTo c.args.trigger at (Ok c.in-Makes.creation) = subst (λ (f : Firing). ComesTo c.args.trigger at (outcome_of f)) c.in-Makes.is c.in-Ok-firing_of.ensures in
     IsJudged-came-so Fired at c.args.caller.now case (ComesTo c.args.trigger) case_after (Ok c.in-Makes.creation) c.finish.result passes comes c.finish.ensures.finished
