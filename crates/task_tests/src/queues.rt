@@ -33,17 +33,23 @@ fn change<L: Ledger>(dues: &mut DueRows, row: u32, at: Option<u64>, steps: &mut 
     true
 }
 
-/// Rows 0 to 4, of which 1 falls due at 30, and 3 and 4 at 20.
-fn three_dues<L: Ledger>(alloc: Global, steps: &mut Steps<L>) -> Result<DueRows, Fail> {
-    let mut dues = Leases::new(alloc);
+/// Of rows 0 to 4 row 1 falls due at 30, and 3 and 4 at 20.
+fn hold_three<L: Ledger>(dues: &mut DueRows, steps: &mut Steps<L>) -> Result<bool, AllocError> {
     dues.reserve(3, 5)?;
-    let held = hold(&mut dues, 1, 30, steps)
-        && hold(&mut dues, 4, 20, steps)
-        && hold(&mut dues, 3, 20, steps);
-    if held {
-        Ok(dues)
-    } else {
-        Err(Fail::from("no room"))
+    Ok(hold(dues, 1, 30, steps) && hold(dues, 4, 20, steps) && hold(dues, 3, 20, steps))
+}
+
+/// Whether at a moment the first row that is due is this.
+fn is_first<L: Ledger>(
+    dues: &DueRows,
+    at: u64,
+    first: Option<(u64, u32)>,
+    steps: &mut Steps<L>,
+) -> bool {
+    match (dues.first_due(moment(at), steps), first) {
+        (Some((due, row)), Some((millis, wanted))) => due == moment(millis) && row == wanted,
+        (None, None) => true,
+        _ => false,
     }
 }
 
@@ -57,16 +63,27 @@ fn hold_by_room<L: Ledger>(rt: &impl Abort, alloc: Global, blank: Blank) -> Resu
     requires parts { blank.parts ≡ L.parts }
     requires some { 0 < blank.parts }
 {
-    let steps = &mut Steps::<L>::new(blank);
     let mut dues = Deadlines::new(alloc);
-    assert!(rt; !hold(&mut dues, 0, 5, steps));
-    dues.reserve(1, 2)?;
-    assert!(rt; hold(&mut dues, 1, 5, steps));
-    assert!(rt; !hold(&mut dues, 0, 5, steps));
-    assert!(rt; dues.spare() == 0);
-    assert!(rt; change(&mut dues, 1, None, steps));
-    assert!(rt; hold(&mut dues, 0, 5, steps));
+    let is_held = is_held_by_room(&mut dues, &mut Steps::<L>::new(blank));
+    drop(dues);
+    assert!(rt; is_held?);
     Ok(())
+}
+
+fn is_held_by_room<L: Ledger>(
+    dues: &mut DueRows,
+    steps: &mut Steps<L>,
+) -> Result<bool, AllocError> {
+    let is_refused = !hold(dues, 0, 5, steps);
+    dues.reserve(1, 2)?;
+    Ok(
+        is_refused
+            && hold(dues, 1, 5, steps)
+            && !hold(dues, 0, 5, steps)
+            && dues.spare() == 0
+            && change(dues, 1, None, steps)
+            && hold(dues, 0, 5, steps),
+    )
 }
 
 #[test]
@@ -79,17 +96,25 @@ fn ask_first_due<L: Ledger>(rt: &impl Abort, alloc: Global, blank: Blank) -> Res
     requires parts { blank.parts ≡ L.parts }
     requires some { 0 < blank.parts }
 {
-    let steps = &mut Steps::<L>::new(blank);
-    let mut dues = three_dues(alloc, steps)?;
-    assert!(rt; dues.first_due(moment(19), steps) == None);
-    assert!(rt; dues.first_due(moment(20), steps) == Some((moment(20), 3)));
-    assert!(rt; dues.first_due(moment(40), steps) == Some((moment(20), 3)));
-    assert!(rt; change(&mut dues, 3, Some(31), steps));
-    assert!(rt; dues.first_due(moment(40), steps) == Some((moment(20), 4)));
-    assert!(rt; change(&mut dues, 4, None, steps));
-    assert!(rt; dues.first_due(moment(40), steps) == Some((moment(30), 1)));
-    assert!(rt; dues.first_due(moment(29), steps) == None);
+    let mut dues = Leases::new(alloc);
+    let are_first = are_first(&mut dues, &mut Steps::<L>::new(blank));
+    drop(dues);
+    assert!(rt; are_first?);
     Ok(())
+}
+
+fn are_first<L: Ledger>(dues: &mut DueRows, steps: &mut Steps<L>) -> Result<bool, AllocError> {
+    Ok(
+        hold_three(dues, steps)?
+            && is_first(dues, 19, None, steps)
+            && is_first(dues, 20, Some((20, 3)), steps)
+            && is_first(dues, 40, Some((20, 3)), steps)
+            && change(dues, 3, Some(31), steps)
+            && is_first(dues, 40, Some((20, 4)), steps)
+            && change(dues, 4, None, steps)
+            && is_first(dues, 40, Some((30, 1)), steps)
+            && is_first(dues, 29, None, steps),
+    )
 }
 
 /// Lets a row wait in a queue, where there is room for it.
@@ -147,20 +172,32 @@ fn take_best<L: Ledger>(rt: &impl Abort, alloc: Global, blank: Blank) -> Result<
     requires parts { blank.parts ≡ L.parts }
     requires some { 0 < blank.parts }
 {
-    let steps = &mut Steps::<L>::new(blank);
+    let mut pending = Pending::new(alloc);
+    let are_taken = are_taken(alloc, &mut pending, &mut Steps::<L>::new(blank));
+    drop(pending);
+    assert!(rt; are_taken?);
+    Ok(())
+}
+
+fn are_taken<L: Ledger>(
+    alloc: Global,
+    pending: &mut Pending,
+    steps: &mut Steps<L>,
+) -> Result<bool, AllocError> {
     let queue = Text::from_str(alloc, "prov/wt")?;
     let other = Text::from_str(alloc, "prov/other")?;
-    let mut pending = Pending::new(alloc);
-    assert!(rt; pending.best(&queue, steps) == None);
+    let was_empty = pending.best(&queue, steps).is_none();
     pending.reserve(&queue, 3, 4)?;
     pending.reserve(&other, 1, 4)?;
-    assert!(rt; fill(&mut pending, &queue, &other, steps));
-    assert!(rt; takes(&mut pending, &queue, 2, steps));
-    assert!(rt; takes(&mut pending, &queue, 0, steps));
-    assert!(rt; takes(&mut pending, &queue, 1, steps));
-    assert!(rt; pending.best(&queue, steps) == None);
-    assert!(rt; pending.best(&other, steps) == Some(3));
-    Ok(())
+    Ok(
+        was_empty
+            && fill(pending, &queue, &other, steps)
+            && takes(pending, &queue, 2, steps)
+            && takes(pending, &queue, 0, steps)
+            && takes(pending, &queue, 1, steps)
+            && pending.best(&queue, steps).is_none()
+            && pending.best(&other, steps) == Some(3),
+    )
 }
 
 /// In one queue wait rows 0 to 9, of every priority and added in no order; in another row 10.
@@ -193,24 +230,52 @@ fn walk_ten<L: Ledger>(rt: &impl Abort, alloc: Global, blank: Blank) -> Result<(
     requires parts { blank.parts ≡ L.parts }
     requires some { 0 < blank.parts }
 {
-    let steps = &mut Steps::<L>::new(blank);
+    let mut pending = Pending::new(alloc);
+    let are_walked = are_walked(alloc, &mut pending, &mut Steps::<L>::new(blank));
+    drop(pending);
+    assert!(rt; are_walked?);
+    Ok(())
+}
+
+fn are_walked<L: Ledger>(
+    alloc: Global,
+    pending: &mut Pending,
+    steps: &mut Steps<L>,
+) -> Result<bool, AllocError> {
     let queue = Text::from_str(alloc, "prov/wt")?;
     let other = Text::from_str(alloc, "prov/other")?;
-    let mut pending = Pending::new(alloc);
-    assert!(rt; pending.count(&queue) == 0);
-    assert!(rt; pending.firsts(&queue).next(steps) == None);
+    let was_empty = pending.count(&queue) == 0 && are_firsts(pending, &queue, [].as_slice(), steps);
     pending.reserve(&queue, 10, 11)?;
     pending.reserve(&other, 1, 11)?;
-    assert!(rt; fill_ten(&mut pending, &queue, &other, steps));
-    let mut firsts = pending.firsts(&queue);
-    for row in [4, 1, 7, 6, 8, 3, 9, 0, 2, 5] {
-        assert!(rt; firsts.next(steps) == Some(row));
+    Ok(
+        was_empty
+            && fill_ten(pending, &queue, &other, steps)
+            && are_firsts(
+                pending,
+                &queue,
+                [4, 1, 7, 6, 8, 3, 9, 0, 2, 5].as_slice(),
+                steps,
+            )
+            && pending.count(&queue) == 10
+            && pending.best(&queue, steps) == Some(4)
+            && are_firsts(pending, &other, [10].as_slice(), steps),
+    )
+}
+
+/// Whether the rows of a queue come in this order, and no others.
+fn are_firsts<L: Ledger>(
+    pending: &Pending,
+    queue: &Text,
+    rows: &[u32],
+    steps: &mut Steps<L>,
+) -> bool {
+    let mut firsts = pending.firsts(queue);
+    for row in rows {
+        if firsts.next(steps) != Some(*row) {
+            return false;
+        }
     }
-    assert!(rt; firsts.next(steps) == None);
-    assert!(rt; pending.count(&queue) == 10);
-    assert!(rt; pending.best(&queue, steps) == Some(4));
-    assert!(rt; pending.firsts(&other).next(steps) == Some(10));
-    Ok(())
+    firsts.next(steps).is_none()
 }
 
 #[test]
@@ -223,18 +288,27 @@ fn wait_by_room<L: Ledger>(rt: &impl Abort, alloc: Global, blank: Blank) -> Resu
     requires parts { blank.parts ≡ L.parts }
     requires some { 0 < blank.parts }
 {
-    let steps = &mut Steps::<L>::new(blank);
+    let mut pending = Pending::new(alloc);
+    let is_kept = waits_by_room(alloc, &mut pending, &mut Steps::<L>::new(blank));
+    drop(pending);
+    assert!(rt; is_kept?);
+    Ok(())
+}
+
+fn waits_by_room<L: Ledger>(
+    alloc: Global,
+    pending: &mut Pending,
+    steps: &mut Steps<L>,
+) -> Result<bool, AllocError> {
     let queue = Text::from_str(alloc, "prov/wt")?;
     let other = Text::from_str(alloc, "prov/other")?;
-    let mut pending = Pending::new(alloc);
     pending.reserve(&queue, 1, 9)?;
-    assert!(rt; !wait(&mut pending, 0, &other, Priority::Low, 0, steps));
-    assert!(rt; wait(&mut pending, 0, &queue, Priority::Low, 0, steps));
-    assert!(rt; pending.spare(&queue) == 0);
-    assert!(rt; !wait(&mut pending, 1, &queue, Priority::Low, 1, steps));
+    let is_full = !wait(pending, 0, &other, Priority::Low, 0, steps)
+        && wait(pending, 0, &queue, Priority::Low, 0, steps)
+        && pending.spare(&queue) == 0
+        && !wait(pending, 1, &queue, Priority::Low, 1, steps);
     pending.reserve(&queue, 2, 9)?;
-    assert!(rt; pending.spare(&queue) == 2);
-    Ok(())
+    Ok(is_full && pending.spare(&queue) == 2)
 }
 
 /// Rows of which each falls due before all those that were added before it rise to the top, and leave in their order.
@@ -248,20 +322,28 @@ fn rise_to_the_top<L: Ledger>(rt: &impl Abort, alloc: Global, blank: Blank) -> R
     requires parts { blank.parts ≡ L.parts }
     requires some { 0 < blank.parts }
 {
-    let steps = &mut Steps::<L>::new(blank);
     let mut dues = Leases::new(alloc);
+    let do_rise = do_rise(&mut dues, &mut Steps::<L>::new(blank));
+    drop(dues);
+    assert!(rt; do_rise?);
+    Ok(())
+}
+
+fn do_rise<L: Ledger>(dues: &mut DueRows, steps: &mut Steps<L>) -> Result<bool, AllocError> {
     dues.reserve(9, 9)?;
     for row in 0..9 {
-        assert!(rt; hold(&mut dues, row, 90 - 10 * row as u64, steps));
-        assert!(rt; dues.first_due(moment(90), steps) == Some((moment(90 - 10 * row as u64), row)));
+        let due = 90 - 10 * row as u64;
+        if !hold(dues, row, due, steps) || !is_first(dues, 90, Some((due, row)), steps) {
+            return Ok(false);
+        }
     }
     for left in 0..9 {
-        let first = (moment(10 + 10 * left as u64), 8 - left);
-        assert!(rt; dues.first_due(moment(90), steps) == Some(first));
-        assert!(rt; change(&mut dues, 8 - left, None, steps));
+        let first = (10 + 10 * left as u64, 8 - left);
+        if !is_first(dues, 90, Some(first), steps) || !change(dues, 8 - left, None, steps) {
+            return Ok(false);
+        }
     }
-    assert!(rt; dues.first_due(moment(90), steps) == None);
-    Ok(())
+    Ok(is_first(dues, 90, None, steps))
 }
 
 /// The first row that is added takes no step.
