@@ -1,14 +1,11 @@
 //! A definition from its document.
-ghost use Rattle.std.specs.Prelude.{◌≡◌, ℕ, ◌<◌, ◌↔◌, IsTrue, Some, None, codes, length, IfOk, MatchBool, MatchOption, MatchResult};
-ghost use Rattle.std.specs.List.{filter_map};
-ghost use Rattle.farm_text.specs.Slug.{slug_of};
+ghost use Rattle.std.specs.Prelude.{◌≡◌, ℕ, ◌<◌, ◌↔◌, IsTrue, codes, length, IfOk, MatchBool, MatchResult};
 ghost use Rattle.farm_text.specs.Document.{get, document_text};
 ghost use Rattle.farm_text.specs.Doc.{document};
 ghost use Rattle.task_defs.specs.Faults.{Refuses};
-ghost use Rattle.task_defs.specs.Values.{text_or, texts_in, slug_or, requires_in, priority_in, retries_in, members_or_none};
-ghost use Rattle.task_defs.specs.Parts.{HeadHolds, TermsHold, SpanHolds, RestHolds, IsOnlyAt, IsOnlyDefinition, IsLongForm};
-ghost use Rattle.task_defs.specs.Rules.{IsExpires, metadata_doc};
-ghost use Rattle.task_defs.specs.Definitions.{IsQueueOf, Says, rules};
+ghost use Rattle.task_defs.specs.Parts.{HeadHolds, TermsHold, SpanHolds, IsHead, AreTerms, IsOnlyAt, IsRest, AreMaps, IsOnlyDefinition, IsLongForm};
+ghost use Rattle.task_defs.specs.Rules.{IsExpires};
+ghost use Rattle.task_defs.specs.Definitions.{Says, rules};
 ghost use Rattle.task_defs.specs.declared.task_def.TaskDef.{TaskDef as TaskDefinition};
 
 use crate::choices::{Priority, Requires};
@@ -41,13 +38,7 @@ struct Head {
 
 /// The keys, and whom the task is for: rules 1 to 4.
 fn read_head(alloc: Global, doc: &Doc, id: SlugId) -> Result<Head, DefError>
-    ensures { MatchResult result
-        (λ h. HeadHolds (document doc.now)
-        × IsQueueOf (get (codes "provisionerId") (document doc.now)) (get (codes "taskQueueId") (document doc.now)) (get (codes "workerType") (document doc.now)) h.queue
-        × (h.project_id ≡ text_or (codes "none") (get (codes "projectId") (document doc.now)))
-        × (h.scheduler_id ≡ text_or (codes "-") (get (codes "schedulerId") (document doc.now)))
-        × (h.task_group_id ≡ slug_or id (get (codes "taskGroupId") (document doc.now))))
-        (Refuses (rules (document doc.now) id)) }
+    ensures { MatchResult result (IsHead (document doc.now) id) (Refuses (rules (document doc.now) id)) }
 {
     match check_keys(alloc, doc) {
         Ok(()) => {}
@@ -111,14 +102,7 @@ struct Terms {
 /// Rules 5 to 9.
 fn read_terms(alloc: Global, doc: &Doc, id: SlugId) -> Result<Terms, DefError>
     requires { HeadHolds (document doc.now) }
-    ensures { MatchResult result
-        (λ t. TermsHold (document doc.now)
-        × (t.dependencies ≡ filter_map slug_of (texts_in (get (codes "dependencies") (document doc.now))))
-        × (t.requires_ ≡ requires_in (get (codes "requires") (document doc.now)))
-        × (t.routes ≡ texts_in (get (codes "routes") (document doc.now)))
-        × (t.priority ≡ priority_in (get (codes "priority") (document doc.now)))
-        × (t.retries ≡ retries_in (get (codes "retries") (document doc.now))))
-        (Refuses (rules (document doc.now) id)) }
+    ensures { MatchResult result (AreTerms (document doc.now)) (Refuses (rules (document doc.now) id)) }
 {
     let dependencies = match stages::dependencies(alloc, doc) {
         Ok(dependencies) => dependencies,
@@ -198,11 +182,7 @@ fn read_rest(alloc: Global, doc: &Doc, id: SlugId) -> Result<Rest, DefError>
     requires head { HeadHolds (document doc.now) }
     requires terms { TermsHold (document doc.now) }
     requires span { SpanHolds (document doc.now) }
-    ensures { MatchResult result
-        (λ r. RestHolds (document doc.now) × (r.scopes ≡ texts_in (get (codes "scopes") (document doc.now)))
-        × (get (codes "metadata") (document doc.now) ≡ Some (metadata_doc r.metadata))
-        × (r.tags ≡ members_or_none (get (codes "tags") (document doc.now))))
-        (Refuses (rules (document doc.now) id)) }
+    ensures { MatchResult result (IsRest (document doc.now)) (Refuses (rules (document doc.now) id)) }
 {
     let scopes = match stages::scopes(alloc, doc) {
         Ok(scopes) => scopes,
@@ -226,54 +206,88 @@ struct Maps {
 }
 
 fn read_maps(alloc: Global, doc: &Doc) -> Result<Maps, AllocError>
-    ensures { IfOk result (λ m. (m.extra ≡ members_or_none (get (codes "extra") (document doc.now)))
-        × (m.payload ≡ members_or_none (get (codes "payload") (document doc.now)))) }
+    ensures { IfOk result (AreMaps (document doc.now)) }
 {
     let extra = object(alloc, doc.get("extra"))?;
     let payload = object(alloc, doc.get("payload"))?;
     Ok(Maps { extra, payload })
 }
 
-/// The definition that a document says, but for its length: rules 1 to 14.
-fn read_parts(alloc: Global, doc: &Doc, id: SlugId) -> Result<TaskDef, DefError>
-    ensures { MatchResult result (IsOnlyDefinition (document doc.now) id) (Refuses (rules (document doc.now) id)) }
+/// Whom a task is for, and how it is run.
+#[derive(Drop)]
+struct Front {
+    head: Head,
+    terms: Terms,
+}
+
+/// Rules 1 to 9.
+fn read_front(alloc: Global, doc: &Doc, id: SlugId) -> Result<Front, DefError>
+    ensures { MatchResult result (λ f. IsHead (document doc.now) id f.head × AreTerms (document doc.now) f.terms) (Refuses (rules (document doc.now) id)) }
 {
     let head = match read_head(alloc, doc, id) {
         Ok(head) => head,
         Err(error) => return Err(error),
     };
-    let terms = match read_terms(alloc, doc, id) {
-        Ok(terms) => terms,
+    match read_terms(alloc, doc, id) {
+        Ok(terms) => Ok(Front { head, terms }),
         Err(error) => {
             drop(head);
-            return Err(error);
+            Err(error)
         }
+    }
+}
+
+/// What the task may do, what is told of it, and what is left to its worker.
+#[derive(Drop)]
+struct Back {
+    rest: Rest,
+    maps: Maps,
+}
+
+/// Rules 13 and 14, but for the length, and what no other rule speaks of.
+fn read_back(alloc: Global, doc: &Doc, id: SlugId) -> Result<Back, DefError>
+    requires head { HeadHolds (document doc.now) }
+    requires terms { TermsHold (document doc.now) }
+    requires span { SpanHolds (document doc.now) }
+    ensures { MatchResult result (λ b. IsRest (document doc.now) b.rest × AreMaps (document doc.now) b.maps) (Refuses (rules (document doc.now) id)) }
+{
+    let rest = match read_rest(alloc, doc, id) {
+        Ok(rest) => rest,
+        Err(error) => return Err(error),
+    };
+    match read_maps(alloc, doc) {
+        Ok(maps) => Ok(Back { rest, maps }),
+        Err(_) => {
+            drop(rest);
+            Err(DefError::NoMemory)
+        }
+    }
+}
+
+/// The definition that a document says, but for its length: rules 1 to 14.
+fn read_parts(alloc: Global, doc: &Doc, id: SlugId) -> Result<TaskDef, DefError>
+    ensures { MatchResult result (IsOnlyDefinition (document doc.now) id) (Refuses (rules (document doc.now) id)) }
+{
+    let front = match read_front(alloc, doc, id) {
+        Ok(front) => front,
+        Err(error) => return Err(error),
     };
     let span = match read_span(alloc, doc, id) {
         Ok(span) => span,
         Err(error) => {
-            drop(terms);
-            drop(head);
+            drop(front);
             return Err(error);
         }
     };
-    let rest = match read_rest(alloc, doc, id) {
-        Ok(rest) => rest,
+    let back = match read_back(alloc, doc, id) {
+        Ok(back) => back,
         Err(error) => {
-            drop(terms);
-            drop(head);
+            drop(front);
             return Err(error);
         }
     };
-    let maps = match read_maps(alloc, doc) {
-        Ok(maps) => maps,
-        Err(_) => {
-            drop(rest);
-            drop(terms);
-            drop(head);
-            return Err(DefError::NoMemory);
-        }
-    };
+    let Front { head, terms } = front;
+    let Back { rest, maps } = back;
     Ok(TaskDef {
         created: span.created,
         deadline: span.deadline,

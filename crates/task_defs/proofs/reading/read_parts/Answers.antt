@@ -7,11 +7,11 @@ use Rattle.task_defs.proofs.reading.read_parts.Goals as goal
 pub returns : goal.returns
 returns c =
     let d = document c.args.doc.now in
-    let head = c.in-Ok.ensures in
-    let terms = c.in-Ok-read_terms.ensures in
+    let head = c.in-Ok.ensures.0 in
+    let terms = c.in-Ok.ensures.1 in
     let span = c.in-Ok-read_span.ensures in
-    let rest = c.in-Ok-read_rest.ensures in
-    let maps = c.in-Ok-read_maps.ensures in
+    let rest = c.in-Ok-read_back.ensures.0 in
+    let maps = c.in-Ok-read_back.ensures.1 in
     only_definition d c.args.id _ head.0 terms.0 span.0 rest.0 span.1 span.2 span.4 record {
       created = only_is (codes "created") d _ span.1;
       deadline = only_is (codes "deadline") d _ span.2;
