@@ -1,5 +1,4 @@
-//! Tests of disks, of journals, of the farm over them, of one connection, and of many workers: of `disk_base`, `disk_journal`, `farm_core`,
-//! `farm_server`, `farm_serving`.
+//! Tests of one connection to a farm in memory: of `farm_server`, and of the calls of a farm in their order.
 //!
 //! They stand in a crate of their own since the gate proves a crate's tests together with the crate: here it proves the tests alone.
 #![tactic(auto)]
@@ -8,13 +7,3 @@
 mod configs;
 #[cfg(test)]
 mod connections;
-#[cfg(test)]
-mod disks;
-#[cfg(test)]
-mod files;
-#[cfg(test)]
-mod journals;
-#[cfg(test)]
-mod sockets;
-#[cfg(test)]
-mod workers;

@@ -1,5 +1,5 @@
 //! Stops and failed calls of the disk, in each of its calls: what was acknowledged is there when the farm is opened again.
-use crate::disks::calls::{config, question};
+use crate::farms::calls::{config, question};
 use disk_base::{Disk, MemoryDisk};
 use disk_journal::OpenFault;
 use farm_core::{Counts, Farm};
