@@ -1,0 +1,115 @@
+#!/usr/bin/env python3
+"""Reckons the clock of `rt ci` from nothing, from what its checks take: which crates hold it up, and what a change of their sizes would save.
+
+    python3 bench/gate_model.py [SLOW [FREE]]
+
+Run it at the top of the repository. It spreads the checks as the kit's `rt ci` does: one a processor, as many as memory holds by the kit's own estimate, each
+once the crates below are proved, first those with the longest chain of others behind them; edits where no proof waits for memory. What each check takes is
+TIMES, in minutes of a processor of a slow machine; SLOW (1 if left out) is how slow a machine is beside it: 0.57 for the fastest so far. FREE (23.8
+if left out) is the free memory at the start, in GB: so much has a machine of 24 GiB. It proves nothing, and takes a second. What it says is reckoned, not measured.
+"""
+import glob
+import importlib.machinery
+import importlib.util
+import os
+import sys
+
+# `rattle build` of each library and of each crate's tests, 30 November 2026, on a machine of 2.5 GHz whose host took up to a quarter of its processors away at times
+# (role_expand 5.6); task_tests and farm_tests by several jobs, which cost more than one. A crate that is not here takes a few seconds.
+TIMES = {
+    "causes": 0.3, "scope_sets": 1.2, "jsone_expr": 2.8, "dep_graph": 2.2, "farm_text": 5.1, "role_expand": 5.6, "http_wire": 3.2, "disk_base": 2.2,
+    "disk_journal": 1.5, "route_table": 1.3, "shared_desk": 2.4, "task_groups": 1.2, "slug_places": 0.4, "scope_lines": 1.0, "plain_text": 0.6,
+    "farm_desk": 0.3, "task_defs": 10.2, "hawk_auth": 4.7, "jsone_values": 4.9, "jsone_eval": 3.1, "command_line": 6.3, "claim_queue": 3.3,
+    "run_states": 3.1, "farm_record": 3.4, "call_rules": 2.6, "task_statuses": 1.7, "jsone_render": 12.9, "hook_fire": 2.1, "farm_rows": 15.0,
+    "farm_machine": 15.2, "api_routes": 4.6, "farm_files": 7.9, "farm_core": 3.9, "farm_server": 2.5, "farm_serving": 3.6, "farm_bulk": 4.5,
+    "farm_cli": 10.1, "farm": 0.9,
+}
+TESTS = {
+    "text_tests": 11.3, "expression_tests": 6.3, "task_tests": 19.2, "farm_tests": 12.1, "disk_tests": 9.8, "server_tests": 12.3, "serving_tests": 6.9,
+    "cli_tests": 8.4, "shared_desk": 3.7, "farm_desk": 0.7, "history": 0.4,
+}
+# An edit over what its crate's seed, a proof of the crate, has left.
+EDIT = 0.7
+# What a check gains from more jobs.
+GAIN = {1: 1, 2: 1.6, 3: 2.0, 4: 2.3}
+
+
+def kit():
+    """The kit's `rt`, as a module."""
+    loader = importlib.machinery.SourceFileLoader("kit", os.path.realpath("/usr/local/bin/rt"))
+    module = importlib.util.module_from_spec(importlib.util.spec_from_loader("kit", loader))
+    sys.modules["kit"] = module
+    loader.exec_module(module)
+    return module
+
+
+def tasks_of(crates, needs, slow):
+    """Each check: what it waits for, its work in lines, its memory, and its minutes."""
+    tasks = {}
+    for it in crates:
+        name, waits, lines = it.name, [(b.name, "proof") for b in it.below()], it.count(rb"\n")
+        tasks[name, "proof"] = (waits, lines, needs[name], TIMES.get(name, 0.2) * slow)
+        tasks[name, "tests"] = (waits, lines * (name in TESTS), needs[name], TESTS.get(name, 0.02) * slow)
+        edits, both = len(glob.glob(f"crates/{name}/must-fail/*.edit")), [(name, "proof"), (name, "tests")]
+        if edits:
+            tasks[name, "seed"] = (both, 0, needs[name], TIMES.get(name, 0.2) * slow)
+        for number in range(edits):
+            tasks[name, "edits", number] = ([*waits, (name, "seed")], lines, 0.7 * needs[name], EDIT * slow)
+    return tasks
+
+
+def clock(tasks, lanes, memory):
+    """When the last check ends, and each check's start, end and jobs."""
+    behind = dict.fromkeys(tasks, 0)
+    for key in reversed([*tasks]):
+        behind[key] += tasks[key][1]
+        for below in tasks[key][0]:
+            behind[below] = max(behind[below], behind[key])
+    left = sorted(tasks, key=lambda it: (it[1] in ("edits", "seed"), -behind[it]))
+    running, given, rows, now = {}, set(), [], 0.0
+    while left or running:
+        ready = [it for it in left if all(below in given for below in tasks[it][0])]
+        proofs, lacks = [it for it in ready if it[1] in ("proof", "tests")], False
+        for at, key in enumerate(ready):
+            if lacks and key not in proofs:
+                break
+            _, _, need, minutes = tasks[key]
+            room = memory - sum(it[1] for it in running.values())
+            idle = lanes - sum(it[2] for it in running.values())
+            if idle > 0 and (not running or need <= room):
+                left.remove(key)
+                others = len(proofs) - proofs.index(key) if key in proofs else len(ready) - at
+                spare = min(4, idle // others, 1 + int((room / need - 1) / 0.6)) if key in proofs or key[1] == "seed" else 1
+                jobs = max(1, spare)
+                running[key] = now + minutes / GAIN[jobs], need * (1 + 0.6 * (jobs - 1)), jobs
+                rows.append((now, now + minutes / GAIN[jobs], key, jobs))
+            else:
+                lacks = lacks or idle > 0 and key in proofs
+        now = min(it[0] for it in running.values())
+        for key in [it for it in running if running[it][0] <= now + 1e-9]:
+            running.pop(key)
+            given.add(key)
+    return now, rows
+
+
+def main():
+    slow = float(sys.argv[1]) if sys.argv[1:] else 1.0
+    free = float(sys.argv[2]) if sys.argv[2:] else 23.8
+    rt = kit()
+    crates = rt.crates_of(os.getcwd())
+    needs = {it.name: rt.need(it) for it in crates}
+    tasks, memory = tasks_of(crates, needs, slow), 0.85 * free * 1e9
+    end, rows = clock(tasks, 4, memory)
+    for begins, ends, key, jobs in rows:
+        if ends - begins > 1 and key[1] != "edits":
+            print(f"{begins:6.1f} to {ends:6.1f}  {key[0]} {key[1]}, {needs[key[0]] / 1e9:.1f} GB by the estimate, jobs {jobs}")
+    work = sum(it[3] for it in tasks.values())
+    edits = sum(it[3] for key, it in tasks.items() if key[1] in ("edits", "seed"))
+    print(f"{work:.0f} minutes of a processor, {edits:.0f} of them for edits")
+    print(f"on 4 processors, with {free:g} GB free: {end:.0f} minutes")
+    print(f"if memory did not count: {clock(tasks, 4, 1e15)[0]:.0f} minutes")
+    print(f"on 2 processors: {clock(tasks, 2, memory)[0]:.0f} minutes")
+
+
+if __name__ == "__main__":
+    main()
