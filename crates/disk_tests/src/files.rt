@@ -2,7 +2,7 @@
 
 use causes::Failed;
 use disk_base::{Disk, FileDisk, MemoryDisk};
-use std::alloc::Global;
+use std::alloc::{AllocError, Global};
 use std::fs;
 use std::process::Abort;
 use std::test::Fail;
@@ -34,43 +34,59 @@ fn work<D: Disk>(disk: &mut D, buf: &mut [u8]) -> Result<usize, Failed> {
 
 const PATH: &str = "disk_base_test";
 
+/// Whether a new file holds nothing, and then what the work leaves, and refuses the places that no file has.
+fn is_made<D: Disk>(disk: &mut D, buf: &mut [u8; 8]) -> bool {
+    disk.read(0, buf) == Ok(0)
+        && work(disk, buf) == Ok(6)
+        && *buf == [98, 99, 100, 0, 0, 103, 9, 9]
+        && disk.write_at(u64::MAX - 1, b"abcd") == Err(Failed)
+        && disk.write_at((1 << 63) - 3, b"abcd") == Err(Failed)
+        && disk.read(u64::MAX, buf) == Ok(0)
+}
+
 #[test]
 fn a_file_is_made_and_kept(rt: HostRuntime) -> Result<(), Fail> {
     let mut buf = [9; 8];
     let mut disk = FileDisk::open(&rt, PATH)?;
-    assert_eq!(rt; disk.read(0, &mut buf), Ok(0));
-    assert_eq!(rt; work(&mut disk, &mut buf), Ok(6));
-    assert_eq!(rt; buf, [98, 99, 100, 0, 0, 103, 9, 9]);
-    assert_eq!(rt; disk.write_at(u64::MAX - 1, b"abcd"), Err(Failed));
-    assert_eq!(rt; disk.write_at((1 << 63) - 3, b"abcd"), Err(Failed));
-    assert_eq!(rt; disk.read(u64::MAX, &mut buf), Ok(0));
+    let made = is_made(&mut disk, &mut buf);
     drop(disk);
+    assert!(rt; made);
     let mut again = FileDisk::open(&rt, PATH)?;
-    assert_eq!(rt; again.read(5, &mut buf), Ok(2));
-    assert_eq!(rt; buf, [0, 103, 100, 0, 0, 103, 9, 9]);
+    let read = again.read(5, &mut buf);
     drop(again);
+    assert_eq!(rt; read, Ok(2));
+    assert_eq!(rt; buf, [0, 103, 100, 0, 0, 103, 9, 9]);
     fs::remove_file(&rt, PATH)?;
     Ok(())
+}
+
+/// Whether the work goes well over a disk that has room for it, and for no other call that changes anything.
+fn has_room(disk: &mut MemoryDisk) -> bool {
+    work(disk, &mut [9; 8]) == Ok(6)
+        && disk.bytes() == b"abcd\0\0g".as_slice()
+        && disk.sync() == Err(Failed)
+        && disk.faults() == 1
+}
+
+/// Whether the work fails over such a disk where the call of this number does, and one fault is counted.
+fn fails_once(alloc: Global, failing: u64) -> Result<bool, AllocError> {
+    let mut chosen = Vec::new(alloc);
+    chosen.push(failing)?;
+    let mut disk = MemoryDisk::new(alloc, b"", 8, 5, chosen)?;
+    let fails = work(&mut disk, &mut [9; 8]) == Err(Failed) && disk.faults() == 1;
+    drop(disk);
+    Ok(fails)
 }
 
 #[test]
 fn a_disk_in_memory_fails_as_told(rt: HostRuntime) -> Result<(), Fail> {
     let alloc = rt.alloc();
-    let mut buf = [9; 8];
     let mut disk = MemoryDisk::new(alloc, b"", 8, 5, Vec::new(alloc))?;
-    assert_eq!(rt; work(&mut disk, &mut buf), Ok(6));
-    assert_eq!(rt; disk.bytes(), b"abcd\0\0g".as_slice());
-    // There is room for no other call that changes anything.
-    assert_eq!(rt; disk.sync(), Err(Failed));
-    assert_eq!(rt; disk.faults(), 1);
+    let has_room = has_room(&mut disk);
     drop(disk);
+    assert!(rt; has_room);
     for failing in 0..6 {
-        let mut chosen = Vec::new(alloc);
-        chosen.push(failing)?;
-        let mut disk = MemoryDisk::new(alloc, b"", 8, 5, chosen)?;
-        assert_eq!(rt; work(&mut disk, &mut buf), Err(Failed));
-        assert_eq!(rt; disk.faults(), 1);
-        drop(disk);
+        assert!(rt; fails_once(alloc, failing)?, "call {failing}");
     }
     Ok(())
 }

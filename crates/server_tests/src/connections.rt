@@ -112,50 +112,70 @@ fn both(alloc: Global, first: &[u8], second: &[u8]) -> Result<Vec<u8>, AllocErro
     Ok(bytes)
 }
 
+/// Whether serving the input over an empty farm ends so, with this written.
+fn ends_so(alloc: Global, input: &Input, served: Served, written: &[u8]) -> Result<bool, Fail> {
+    let output = serve(alloc, input)?;
+    Ok(output.served == served && output.written.as_slice() == written)
+}
+
 #[test]
 fn a_ping_and_a_status(rt: HostRuntime) -> Result<(), Fail> {
     let alloc = rt.alloc();
     let input = both(alloc, PING, STATUS)?;
     let replies = both(alloc, ALIVE, NO_TASK)?;
-    let output = serve(alloc, &Input::of(&input))?;
-    assert_eq!(rt; output.served, Served::Closed);
-    assert_eq!(rt; output.written, replies);
+    assert!(rt; ends_so(alloc, &Input::of(&input), Served::Closed, &replies)?);
     Ok(())
+}
+
+/// Whether a ping and a status of which the write of this number fails end so.
+fn writes_so(alloc: Global, failing: u64, wanted: &[u8]) -> Result<bool, Fail> {
+    let bytes = both(alloc, PING, STATUS)?;
+    let input = Input {
+        bytes: &bytes,
+        failing_reads: &[],
+        failing_writes: &[failing],
+    };
+    ends_so(alloc, &input, Served::WriteFault, wanted)
 }
 
 #[test]
 fn a_failed_write_leaves_a_front(rt: HostRuntime) -> Result<(), Fail> {
-    let alloc = rt.alloc();
-    let bytes = both(alloc, PING, STATUS)?;
-    for (failing, wanted) in [(0, b"".as_slice()), (1, ALIVE)] {
-        let input = Input {
-            bytes: &bytes,
-            failing_reads: &[],
-            failing_writes: &[failing],
-        };
-        let output = serve(alloc, &input)?;
-        assert_eq!(rt; output.served, Served::WriteFault);
-        assert_eq!(rt; output.written.as_slice(), wanted);
-    }
+    assert!(rt; writes_so(rt.alloc(), 0, b"")?);
+    assert!(rt; writes_so(rt.alloc(), 1, ALIVE)?);
     Ok(())
+}
+
+/// Whether a ping and a status of which the read of this number fails end so.
+fn reads_so(alloc: Global, failing: u64, wanted: &[u8]) -> Result<bool, Fail> {
+    let bytes = both(alloc, PING, STATUS)?;
+    let input = Input {
+        bytes: &bytes,
+        failing_reads: &[failing],
+        failing_writes: &[],
+    };
+    ends_so(alloc, &input, Served::ReadFault, wanted)
 }
 
 #[test]
 fn a_failed_read_ends_what_was_answered(rt: HostRuntime) -> Result<(), Fail> {
-    let alloc = rt.alloc();
-    let bytes = both(alloc, PING, STATUS)?;
-    let replies = both(alloc, ALIVE, NO_TASK)?;
-    for (failing, wanted) in [(0, b"".as_slice()), (1, replies.as_slice())] {
-        let input = Input {
-            bytes: &bytes,
-            failing_reads: &[failing],
-            failing_writes: &[],
-        };
-        let output = serve(alloc, &input)?;
-        assert_eq!(rt; output.served, Served::ReadFault);
-        assert_eq!(rt; output.written.as_slice(), wanted);
-    }
+    let replies = both(rt.alloc(), ALIVE, NO_TASK)?;
+    assert!(rt; reads_so(rt.alloc(), 0, b"")?);
+    assert!(rt; reads_so(rt.alloc(), 1, &replies)?);
     Ok(())
+}
+
+/// Whether the front of a ping and a status that ends here is served as it has to be.
+fn is_cut_well(alloc: Global, input: &[u8], end: usize) -> Result<bool, Fail> {
+    let served = if end == 0 || end == PING.len() {
+        Served::Closed
+    } else {
+        Served::EndedInside
+    };
+    let replies = if end < PING.len() { b"" } else { ALIVE };
+    match input.get(..end) {
+        Some(front) => ends_so(alloc, &Input::of(front), served, replies),
+        None => Ok(false),
+    }
 }
 
 #[test]
@@ -163,19 +183,7 @@ fn a_stream_may_end_at_each_byte(rt: HostRuntime) -> Result<(), Fail> {
     let alloc = rt.alloc();
     let input = both(alloc, PING, STATUS)?;
     for end in 0..input.len() {
-        let output = serve(alloc, &Input::of(&input[..end]))?;
-        let served = if end == 0 || end == PING.len() {
-            Served::Closed
-        } else {
-            Served::EndedInside
-        };
-        let replies = if end < PING.len() {
-            b"".as_slice()
-        } else {
-            ALIVE
-        };
-        assert_eq!(rt; output.served, served, "cut at {end}");
-        assert_eq!(rt; output.written.as_slice(), replies, "cut at {end}");
+        assert!(rt; is_cut_well(alloc, &input, end)?, "cut at {end}");
     }
     Ok(())
 }
@@ -211,9 +219,7 @@ fn each_stream_ends_as_it_has_to(rt: HostRuntime) -> Result<(), Fail> {
         ),
     ];
     for (input, served, written) in rows {
-        let output = serve(rt.alloc(), &Input::of(input))?;
-        assert_eq!(rt; output.served, served);
-        assert_eq!(rt; output.written.as_slice(), written);
+        assert!(rt; ends_so(rt.alloc(), &Input::of(input), served, written)?);
     }
     Ok(())
 }

@@ -21,29 +21,64 @@ fn text_of(alloc: Global, address: SocketAddr) -> Result<String, AllocError> {
     format!(in alloc; "127.0.0.1:{port}")
 }
 
+/// Whether an ask comes over the link, and its answer goes back.
+fn talks<L: Link>(link: &mut L, peer: &mut TcpStream) -> bool {
+    let mut piece = [0u8; 8];
+    matches!(peer.write(b"ask"), Ok(3))
+        && matches!(link.read(&mut piece), Ok(3))
+        && matches!(link.write(b"answer"), Ok(6))
+        && matches!(peer.read(&mut piece), Ok(6))
+        && &piece[..6] == b"answer".as_slice()
+}
+
+/// Whether a link of a peer that went away at once is at its end.
+fn ends_at_once<D: Listener>(rt: &HostRuntime, door: &mut D, address: SocketAddr) -> bool {
+    let Ok(peer) = TcpStream::connect(rt, address) else {
+        return false;
+    };
+    let Ok(mut link) = door.accept() else {
+        return false;
+    };
+    drop(peer);
+    let is_at_end = matches!(link.read(&mut [0u8; 8]), Ok(0));
+    door.done(link, 0);
+    is_at_end
+}
+
+/// Whether a peer talks at one door while another comes to the other, and is at its end once its link is done.
+fn talks_beside<D: Listener>(
+    rt: &HostRuntime,
+    door: &mut D,
+    other: &mut D,
+    address: SocketAddr,
+) -> bool
+where
+    D::Peer: Send,
+{
+    let Ok(mut peer) = TcpStream::connect(rt, address) else {
+        return false;
+    };
+    let Ok(mut link) = door.accept() else {
+        return false;
+    };
+    is_sent(&link);
+    let talks = talks(&mut link, &mut peer);
+    let ends = ends_at_once(rt, other, address);
+    door.done(link, 1);
+    talks && ends && matches!(peer.read(&mut [0u8; 8]), Ok(0))
+}
+
 #[test]
 fn peers_come_over_sockets(rt: HostRuntime) -> Result<(), Fail> {
     let address = free_address(&rt)?;
     let text = text_of(rt.alloc(), address)?;
     let mut door = HostListener::bind(rt, text.as_str())?;
     let mut other = door.twin()?;
-    let mut first = TcpStream::connect(&rt, address)?;
-    let mut link = door.accept()?;
     is_sent(&door);
-    is_sent(&link);
-    assert_eq!(rt; first.write(b"ask")?, 3);
-    let mut piece = [0u8; 8];
-    assert_eq!(rt; link.read(&mut piece)?, 3);
-    assert_eq!(rt; link.write(b"answer")?, 6);
-    assert_eq!(rt; first.read(&mut piece)?, 6);
-    assert_eq!(rt; &piece[..6], b"answer".as_slice());
-    let second = TcpStream::connect(&rt, address)?;
-    let mut twins_link = other.accept()?;
-    drop(second);
-    assert_eq!(rt; twins_link.read(&mut piece)?, 0);
-    door.done(link, 1);
-    other.done(twins_link, 0);
-    assert_eq!(rt; first.read(&mut piece)?, 0);
+    let talks = talks_beside(&rt, &mut door, &mut other, address);
+    drop(other);
+    drop(door);
+    assert!(rt; talks);
     Ok(())
 }
 
