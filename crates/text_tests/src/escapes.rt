@@ -14,12 +14,14 @@ fn comes_to(alloc: Global, text: &str, line: &str, lines: &str) -> Result<bool, 
 #[test]
 fn texts_are_escaped(rt: HostRuntime) -> Result<(), Fail> {
     let alloc = rt.alloc();
-    assert!(rt; comes_to(alloc, "", "", "")?);
-    assert!(rt; comes_to(alloc, "a ~", "a ~", "a ~")?);
-    assert!(rt; comes_to(alloc, "a\nb", "a\\x0ab", "a\nb")?);
-    let escaped = "\\x1b[31m\\x0d\\x09";
-    assert!(rt; comes_to(alloc, "\u{1b}[31m\r\t", escaped, escaped)?);
-    let escaped = "\\x7f\\xc3\\xa9";
-    assert!(rt; comes_to(alloc, "\u{7f}\u{e9}", escaped, escaped)?);
+    let (colour, others) = ("\\x1b[31m\\x0d\\x09", "\\x7f\\xc3\\xa9");
+    let told = [
+        comes_to(alloc, "", "", "")?,
+        comes_to(alloc, "a ~", "a ~", "a ~")?,
+        comes_to(alloc, "a\nb", "a\\x0ab", "a\nb")?,
+        comes_to(alloc, "\u{1b}[31m\r\t", colour, colour)?,
+        comes_to(alloc, "\u{7f}\u{e9}", others, others)?,
+    ];
+    assert_eq!(rt; told, [true; 5]);
     Ok(())
 }

@@ -62,11 +62,14 @@ fn sink_writes(alloc: Global) -> bool {
 
 #[test]
 fn host_objects(rt: HostRuntime) {
-    assert!(rt; reads_hello(rt.alloc(), b"hello\0\0\0"));
-    assert!(rt; !reads_hello(rt.alloc(), b"help!\0\0\0"));
-    assert!(rt; reads_and_writes(rt.alloc(), b"hi\0\0\0\0\0\0"));
-    assert!(rt; !reads_and_writes(rt.alloc(), b"ho\0\0\0\0\0\0"));
-    assert!(rt; sink_writes(rt.alloc()));
+    let told = [
+        reads_hello(rt.alloc(), b"hello\0\0\0"),
+        reads_hello(rt.alloc(), b"help!\0\0\0"),
+        reads_and_writes(rt.alloc(), b"hi\0\0\0\0\0\0"),
+        reads_and_writes(rt.alloc(), b"ho\0\0\0\0\0\0"),
+        sink_writes(rt.alloc()),
+    ];
+    assert_eq!(rt; told, [true, false, true, false, true]);
 }
 
 fn source_keeps_its_reason() -> bool {
@@ -85,8 +88,8 @@ fn sink_keeps_its_reason() -> bool {
 
 #[test]
 fn the_reason_of_a_fault_is_kept(rt: HostRuntime) {
-    assert!(rt; source_keeps_its_reason());
-    assert!(rt; sink_keeps_its_reason());
+    let told = [source_keeps_its_reason(), sink_keeps_its_reason()];
+    assert_eq!(rt; told, [true; 2]);
 }
 
 /// A stream whose next reads and writes, so many, are interrupted by a signal. Then a read gives `x`, and a write takes all.
@@ -157,8 +160,11 @@ fn link_writes_again() -> bool {
 
 #[test]
 fn what_a_signal_interrupts_is_made_again(rt: HostRuntime) {
-    assert!(rt; source_reads_again());
-    assert!(rt; sink_writes_again());
-    assert!(rt; link_reads_again());
-    assert!(rt; link_writes_again());
+    let told = [
+        source_reads_again(),
+        sink_writes_again(),
+        link_reads_again(),
+        link_writes_again(),
+    ];
+    assert_eq!(rt; told, [true; 4]);
 }

@@ -12,9 +12,19 @@ fn scopes(alloc: Global, lines: &[&str]) -> Result<Vec<Scope>, Fail> {
     Ok(scopes)
 }
 
+/// Whether these are the scopes of these lines.
+fn is_list(alloc: Global, read: &[Scope], lines: &[&str]) -> Result<bool, Fail> {
+    let wanted = scopes(alloc, lines)?;
+    let is_so = read == wanted.as_slice();
+    drop(wanted);
+    Ok(is_so)
+}
+
 fn says(alloc: Global, text: &str, lines: &[&str]) -> Result<bool, Fail> {
     let read = read_scopes(alloc, text.as_bytes())?;
-    Ok(read.as_slice() == scopes(alloc, lines)?.as_slice())
+    let says = is_list(alloc, &read, lines);
+    drop(read);
+    says
 }
 
 fn fault(alloc: Global, text: &[u8]) -> Option<LineFault> {
@@ -24,39 +34,39 @@ fn fault(alloc: Global, text: &[u8]) -> Option<LineFault> {
 #[test]
 fn lines_of_texts(rt: HostRuntime) -> Result<(), Fail> {
     let alloc = rt.alloc();
-    assert!(rt; says(alloc, "b\na\nb\n", ["b", "a", "b"].as_slice())?);
-    assert!(rt; says(alloc, "b\na", ["b", "a"].as_slice())?);
-    assert!(rt; says(alloc, "\n", [""].as_slice())?);
-    assert!(rt; says(alloc, "a\n\nb\n", ["a", "", "b"].as_slice())?);
-    assert!(rt; read_scopes(alloc, b"".as_slice())?.is_empty());
+    let told = [
+        says(alloc, "b\na\nb\n", &["b", "a", "b"])?,
+        says(alloc, "b\na", &["b", "a"])?,
+        says(alloc, "\n", &[""])?,
+        says(alloc, "a\n\nb\n", &["a", "", "b"])?,
+        says(alloc, "", &[])?,
+    ];
+    assert_eq!(rt; told, [true; 5]);
     Ok(())
 }
 
 #[test]
-fn bad_lines(rt: HostRuntime) -> Result<(), Fail> {
+fn bad_lines(rt: HostRuntime) {
     let alloc = rt.alloc();
-    assert_eq!(rt;
-        fault(alloc, b"a\r\n".as_slice()),
-        Some(LineFault::BadLine(0))
-    );
-    assert_eq!(rt;
-        fault(alloc, b"a\nb**\nc".as_slice()),
-        Some(LineFault::BadLine(1))
-    );
-    assert_eq!(rt;
-        fault(alloc, b"a\n\n\xff".as_slice()),
-        Some(LineFault::BadLine(2))
-    );
-    Ok(())
+    let told = [
+        fault(alloc, b"a\r\n"),
+        fault(alloc, b"a\nb**\nc"),
+        fault(alloc, b"a\n\n\xff"),
+    ];
+    let bad = [
+        Some(LineFault::BadLine(0)),
+        Some(LineFault::BadLine(1)),
+        Some(LineFault::BadLine(2)),
+    ];
+    assert_eq!(rt; told, bad);
 }
 
 #[test]
 fn long_lines(rt: HostRuntime) -> Result<(), Fail> {
     let alloc = rt.alloc();
-    let longest = vec![in alloc; b'a'; 4096]?;
-    assert_eq!(rt; read_scopes(alloc, &longest)?.len(), 1);
-    let longer = vec![in alloc; b'a'; 4097]?;
-    assert_eq!(rt; fault(alloc, &longer), Some(LineFault::BadLine(0)));
+    let line = vec![in alloc; b'a'; 4097]?;
+    let told = [fault(alloc, &line[..4096]), fault(alloc, &line)];
+    assert_eq!(rt; told, [None, Some(LineFault::BadLine(0))]);
     Ok(())
 }
 

@@ -185,6 +185,9 @@ fn count_of_numbers(alloc: Global, count: usize) -> Option<usize> {
 
 #[test]
 fn as_many_scopes_as_may_be(rt: HostRuntime) {
-    assert!(rt; count_of_numbers(rt.alloc(), 10_000) == Some(10_000));
-    assert!(rt; count_of_numbers(rt.alloc(), 10_001).is_none());
+    let told = [
+        count_of_numbers(rt.alloc(), 10_000) == Some(10_000),
+        count_of_numbers(rt.alloc(), 10_001).is_none(),
+    ];
+    assert_eq!(rt; told, [true; 2]);
 }

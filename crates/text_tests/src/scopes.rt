@@ -125,32 +125,52 @@ fn lacks_nothing(alloc: Global, held: &ScopeSet) -> Option<bool> {
     is_lack
 }
 
+/// How many scopes a caller with those between spaces has, and whether it lacks nothing but one of the priority, or nothing at all.
+fn held_and_lacking(alloc: Global, texts: &str, priority: bool) -> Option<(usize, bool)> {
+    let held = set(alloc, texts)?;
+    let count = held.list().len();
+    let lacks = if priority {
+        lacks_a_priority(alloc, &held)
+    } else {
+        lacks_nothing(alloc, &held)
+    };
+    drop(held);
+    Some((count, lacks?))
+}
+
+const LOWEST: &str =
+    "queue:scheduler-id:- queue:create-task:project:none queue:create-task:lowest:prov/wt queue:scheduler-id:-";
+
 /// A task of priority high, made by a caller that may make only tasks of the lowest.
 #[test]
-fn create_scopes_of_a_high_priority(rt: HostRuntime) -> Result<(), Fail> {
-    let alloc = rt.alloc();
-    let lowest = set(
-        alloc,
-        "queue:scheduler-id:- queue:create-task:project:none queue:create-task:lowest:prov/wt queue:scheduler-id:-",
-    )
-    .ok_or("no set")?;
-    assert_eq!(rt; lowest.list().len(), 3);
-    assert_eq!(rt; lacks_a_priority(alloc, &lowest), Some(true));
-    let all = set(alloc, "*").ok_or("no set")?;
-    assert_eq!(rt; lacks_nothing(alloc, &all), Some(true));
-    Ok(())
+fn create_scopes_of_a_high_priority(rt: HostRuntime) {
+    let told = [
+        held_and_lacking(rt.alloc(), LOWEST, true),
+        held_and_lacking(rt.alloc(), "*", false),
+    ];
+    assert_eq!(rt; told, [Some((3, true)), Some((1, true))]);
+}
+
+/// Whether a text is a scope as it may be handed in, if it is a scope at all.
+fn is_handed_in(alloc: Global, text: &str) -> Option<bool> {
+    let scope = scope(alloc, text)?;
+    let is_so = scope.has_handed_in_form();
+    drop(scope);
+    Some(is_so)
 }
 
 #[test]
 fn stars(rt: HostRuntime) {
     let alloc = rt.alloc();
-    assert_eq!(rt; covers(alloc, "a*c ab*", "ab"), Some(true));
-    assert_eq!(rt; covers(alloc, "a*c ab*", "a*c"), Some(true));
-    assert_eq!(rt; covers(alloc, "a*c ab*", "acc"), Some(false));
-    assert!(rt; scope(alloc, "tab\t").is_none());
-    let form = match scope(alloc, "a**") {
-        Some(scope) => Some(scope.has_handed_in_form()),
-        None => None,
-    };
-    assert_eq!(rt; form, Some(false));
+    let told = [
+        covers(alloc, "a*c ab*", "ab"),
+        covers(alloc, "a*c ab*", "a*c"),
+        covers(alloc, "a*c ab*", "acc"),
+        is_handed_in(alloc, "a**"),
+        is_handed_in(alloc, "tab\t"),
+    ];
+    assert_eq!(rt;
+        told,
+        [Some(true), Some(true), Some(false), Some(false), None]
+    );
 }

@@ -292,11 +292,14 @@ fn for_all(alloc: Global, wanted: &str) -> bool {
 
 #[test]
 fn credentials(rt: HostRuntime) {
-    assert!(rt; for_all(rt.alloc(), "Oversteps *"));
-    assert!(rt; !for_all(rt.alloc(), "Oversteps a"));
-    assert!(rt; sent(rt.alloc(), None, 0, "let in 2"));
-    assert!(rt; sent(rt.alloc(), Some(SIGNED.as_bytes()), 2, "BadHeader"));
-    assert!(rt; sent(rt.alloc(), Some(SIGNED.as_bytes()), 1, "UnknownClient"));
+    let told = [
+        for_all(rt.alloc(), "Oversteps *"),
+        for_all(rt.alloc(), "Oversteps a"),
+        sent(rt.alloc(), None, 0, "let in 2"),
+        sent(rt.alloc(), Some(SIGNED.as_bytes()), 2, "BadHeader"),
+        sent(rt.alloc(), Some(SIGNED.as_bytes()), 1, "UnknownClient"),
+    ];
+    assert_eq!(rt; told, [true, false, true, true, true]);
 }
 
 fn clients_of(alloc: Global, ids: &str) -> Option<Vec<Client>> {
@@ -329,13 +332,14 @@ fn is_book(alloc: Global, ids: &str, wanted: Option<BookFault>) -> bool {
 
 #[test]
 fn books(rt: HostRuntime) {
-    assert!(rt; is_book(rt.alloc(), "a,b/@!:.+|_-9", None));
-    assert!(rt;
+    let told = [
+        is_book(rt.alloc(), "a,b/@!:.+|_-9", None),
         is_book(
             rt.alloc(),
             "a,b,a,b",
-            Some(BookFault::DuplicateClient(0, 2))
-        )
-    );
-    assert!(rt; is_book(rt.alloc(), "a,a,b c", Some(BookFault::BadClient(2))));
+            Some(BookFault::DuplicateClient(0, 2)),
+        ),
+        is_book(rt.alloc(), "a,a,b c", Some(BookFault::BadClient(2))),
+    ];
+    assert_eq!(rt; told, [true; 3]);
 }

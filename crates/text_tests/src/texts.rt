@@ -112,12 +112,15 @@ fn is_told(text: &Result<Text, AllocError>, wanted: &str) -> bool {
 
 #[test]
 fn slugids(rt: HostRuntime) {
-    assert!(rt; is_slug(rt.alloc(), 0, "AAAAAAAAQACAAAAAAAAAAA"));
-    assert!(rt; is_slug(rt.alloc(), 1, "AAAAAAAAQACAAAAAAAAAAQ"));
-    assert!(rt; is_slug(rt.alloc(), 2, "AAAAAAAAQACAAAAAAAAAAg"));
-    assert!(rt; is_slug(rt.alloc(), 3, "AAAAAAAAQACAAAAAAAAAAw"));
-    assert!(rt; !is_slug(rt.alloc(), 0, "AAAAAAAAQACAAAAAAAAAAQ"));
-    assert!(rt; SlugId::read(b"AAAAAAAAQACAAAAAAAAAAB").is_none());
+    let told = [
+        is_slug(rt.alloc(), 0, "AAAAAAAAQACAAAAAAAAAAA"),
+        is_slug(rt.alloc(), 1, "AAAAAAAAQACAAAAAAAAAAQ"),
+        is_slug(rt.alloc(), 2, "AAAAAAAAQACAAAAAAAAAAg"),
+        is_slug(rt.alloc(), 3, "AAAAAAAAQACAAAAAAAAAAw"),
+        is_slug(rt.alloc(), 0, "AAAAAAAAQACAAAAAAAAAAQ"),
+        SlugId::read(b"AAAAAAAAQACAAAAAAAAAAB").is_none(),
+    ];
+    assert_eq!(rt; told, [true, true, true, true, false, true]);
 }
 
 /// Whether the moment at so many milliseconds has this text.
@@ -130,11 +133,14 @@ fn is_moment(alloc: Global, millis: u64, wanted: &str) -> bool {
 
 #[test]
 fn moments(rt: HostRuntime) {
-    assert!(rt; is_moment(rt.alloc(), 0, "1970-01-01T00:00:00.000Z"));
-    assert!(rt; is_moment(rt.alloc(), 951_782_400_000, "2000-02-29T00:00:00.000Z"));
-    assert!(rt; is_moment(rt.alloc(), 1_704_067_200_000, "2024-01-01T00:00:00.000Z"));
-    assert!(rt; is_moment(rt.alloc(), LAST_MOMENT, "9999-12-31T23:59:59.999Z"));
-    assert!(rt; !is_moment(rt.alloc(), 1, "1970-01-01T00:00:00.000Z"));
+    let told = [
+        is_moment(rt.alloc(), 0, "1970-01-01T00:00:00.000Z"),
+        is_moment(rt.alloc(), 951_782_400_000, "2000-02-29T00:00:00.000Z"),
+        is_moment(rt.alloc(), 1_704_067_200_000, "2024-01-01T00:00:00.000Z"),
+        is_moment(rt.alloc(), LAST_MOMENT, "9999-12-31T23:59:59.999Z"),
+        is_moment(rt.alloc(), 1, "1970-01-01T00:00:00.000Z"),
+    ];
+    assert_eq!(rt; told, [true, true, true, true, false]);
 }
 
 /// Whether the text after a row's bar is read as the number of milliseconds before it.

@@ -149,9 +149,12 @@ fn are_empty(alloc: Global, lines: usize, count: u64, wire: Wire) -> bool {
 
 #[test]
 fn long_heads(rt: HostRuntime) {
-    assert!(rt; is_long(rt.alloc(), 16384, 1, Wire::End));
-    assert!(rt; is_long(rt.alloc(), 16385, 0, Wire::HeadTooLarge));
-    assert!(rt; are_empty(rt.alloc(), 8192, 0, Wire::HeadTooLarge));
+    let told = [
+        is_long(rt.alloc(), 16384, 1, Wire::End),
+        is_long(rt.alloc(), 16385, 0, Wire::HeadTooLarge),
+        are_empty(rt.alloc(), 8192, 0, Wire::HeadTooLarge),
+    ];
+    assert_eq!(rt; told, [true; 3]);
 }
 
 #[test]
@@ -231,8 +234,8 @@ fn parts_of_a_message(rt: HostRuntime) {
     assert!(rt; begins_so(rt.alloc(), input));
     let other =
         b"\r\nPUT /a?b HTTP/1.1\r\nAuthorization: Hawk x\r\nauthorization: y\r\nContent-Type:text/plain\r\nConnection: keep-alive\r\nContent-Length: 2\r\n\r\nhi";
-    assert!(rt; !begins_so(rt.alloc(), other));
-    assert!(rt; !begins_so(rt.alloc(), PING));
+    let told = [begins_so(rt.alloc(), other), begins_so(rt.alloc(), PING)];
+    assert_eq!(rt; told, [false, false]);
 }
 
 const TWO: &[u8] = b"GET /a HTTP/1.1\r\n\r\nGET /b HTTP/1.1\r\nConnection: Close\r\n\r\nGET";
@@ -269,10 +272,13 @@ fn lists_so(alloc: Global, room: usize, count: usize, end: ListEnd) -> bool {
 
 #[test]
 fn lists_end_as_their_stream_does(rt: HostRuntime) {
-    assert!(rt; lists_so(rt.alloc(), 1, 1, ListEnd::Full));
-    assert!(rt; lists_so(rt.alloc(), 2, 2, ListEnd::Full));
-    assert!(rt; lists_so(rt.alloc(), 3, 2, ListEnd::Closed));
-    assert!(rt; !lists_so(rt.alloc(), 3, 2, ListEnd::Full));
+    let told = [
+        lists_so(rt.alloc(), 1, 1, ListEnd::Full),
+        lists_so(rt.alloc(), 2, 2, ListEnd::Full),
+        lists_so(rt.alloc(), 3, 2, ListEnd::Closed),
+        lists_so(rt.alloc(), 3, 2, ListEnd::Full),
+    ];
+    assert_eq!(rt; told, [true, true, true, false]);
 }
 
 /// What the reading of all answers: the bytes that are wanted, or others, that there are more, or a fault.
@@ -321,9 +327,12 @@ fn left_of(
 
 #[test]
 fn all_that_is_left(rt: HostRuntime) {
-    assert!(rt; left_of(rt.alloc(), 4_000, &[], 20_000, true) == "same");
-    assert!(rt; left_of(rt.alloc(), 4_000, &[], 20_000, false) == "other");
-    assert!(rt; left_of(rt.alloc(), 4_000, &[], 19_999, true) == "more");
-    assert!(rt; left_of(rt.alloc(), 4_000, &[1], 20_000, true) == "failed");
-    assert!(rt; left_of(rt.alloc(), 0, &[], 0, true) == "same");
+    let told = [
+        left_of(rt.alloc(), 4_000, &[], 20_000, true) == "same",
+        left_of(rt.alloc(), 4_000, &[], 20_000, false) == "other",
+        left_of(rt.alloc(), 4_000, &[], 19_999, true) == "more",
+        left_of(rt.alloc(), 4_000, &[1], 20_000, true) == "failed",
+        left_of(rt.alloc(), 0, &[], 0, true) == "same",
+    ];
+    assert_eq!(rt; told, [true; 5]);
 }

@@ -74,8 +74,11 @@ fn is_reply(alloc: Global, name: &str, wanted: &str) -> bool {
 fn a_reply(rt: HostRuntime) {
     let wanted =
         "{\"code\":\"ResourceNotFound\",\"details\":{\"kind\":\"task\",\"name\":\"a\\\"b\\\\\\n\\u0001é\"},\"message\":\"There is none.\"}";
-    assert!(rt; is_reply(rt.alloc(), "a\"b\\\n\u{1}é", wanted));
-    assert!(rt; !is_reply(rt.alloc(), "other", wanted));
+    let told = [
+        is_reply(rt.alloc(), "a\"b\\\n\u{1}é", wanted),
+        is_reply(rt.alloc(), "other", wanted),
+    ];
+    assert_eq!(rt; told, [true, false]);
 }
 
 fn list(alloc: Global) -> Result<Doc, AllocError> {
@@ -185,8 +188,11 @@ fn documents_are_read(rt: HostRuntime) {
     for row in READ.split('\n') {
         assert!(rt; is_row(rt.alloc(), row), "{row}");
     }
-    assert!(rt; !is_row(rt.alloc(), "01|1"));
-    assert!(rt; is_read(rt.alloc(), b"\"\xff\"", b"no JSON"));
+    let told = [
+        is_row(rt.alloc(), "01|1"),
+        is_read(rt.alloc(), b"\"\xff\"", b"no JSON"),
+    ];
+    assert_eq!(rt; told, [false, true]);
 }
 
 /// Whether lists inside each other are read and written again as they are.
@@ -207,8 +213,8 @@ fn is_too_deep(alloc: Global, depth: usize) -> bool {
 
 #[test]
 fn documents_nest(rt: HostRuntime) {
-    assert!(rt; is_nested(rt.alloc(), 127));
-    assert!(rt; is_too_deep(rt.alloc(), 128));
+    let told = [is_nested(rt.alloc(), 127), is_too_deep(rt.alloc(), 128)];
+    assert_eq!(rt; told, [true; 2]);
 }
 
 /// Whether `a` is a map with 7 at `b` and nothing at `a`.
@@ -233,9 +239,12 @@ fn is_of_seven(alloc: Global, text: &str) -> bool {
 
 #[test]
 fn keys_are_found(rt: HostRuntime) {
-    assert!(rt; is_of_seven(rt.alloc(), r#"{"a":{"b":7}}"#));
-    assert!(rt; !is_of_seven(rt.alloc(), r#"{"a":{"a":7,"b":7}}"#));
-    assert!(rt; !is_of_seven(rt.alloc(), r#"{"a":{"b":8}}"#));
+    let told = [
+        is_of_seven(rt.alloc(), r#"{"a":{"b":7}}"#),
+        is_of_seven(rt.alloc(), r#"{"a":{"a":7,"b":7}}"#),
+        is_of_seven(rt.alloc(), r#"{"a":{"b":8}}"#),
+    ];
+    assert_eq!(rt; told, [true, false, false]);
     let null = Doc::Null;
     assert!(rt; null.get("a").is_none());
     drop(null);
