@@ -346,8 +346,11 @@ fn texts_go_wrong_at_their_places(rt: HostRuntime) {
     for row in FAULTS.lines() {
         assert!(rt; is_fault_row(rt.alloc(), row), "{row}");
     }
-    assert!(rt; is_fault(rt.alloc(), b"1\n+\r*", 4));
-    assert!(rt; is_fault(rt.alloc(), b"a\xff", 1));
+    let told = [
+        is_fault(rt.alloc(), b"1\n+\r*", 4),
+        is_fault(rt.alloc(), b"a\xff", 1),
+    ];
+    assert_eq!(rt; told, [true; 2]);
 }
 
 /// Whether these are the places of the nodes behind left sides.

@@ -35,10 +35,13 @@ range(0,499998) ~ too much";
 #[test]
 fn values_are_paid_for(rt: HostRuntime) {
     let names = r#"{"s":"abcd","l":[1,2]}"#;
-    assert_eq!(rt; first_other(rt.alloc(), names, 0, COSTS), "none");
-    assert_eq!(rt; first_other(rt.alloc(), "{}", 999_997, NEAR), "none");
-    assert_eq!(rt; first_other(rt.alloc(), "{}", 999_998, NEARER), "none");
-    assert_eq!(rt; first_other(rt.alloc(), "{}", 500_000, HALF), "none");
+    let told = [
+        first_other(rt.alloc(), names, 0, COSTS),
+        first_other(rt.alloc(), "{}", 999_997, NEAR),
+        first_other(rt.alloc(), "{}", 999_998, NEARER),
+        first_other(rt.alloc(), "{}", 500_000, HALF),
+    ];
+    assert_eq!(rt; told, ["none"; 4]);
 }
 
 /// Expressions over a text of 300,000 `a` and one of 200,000 with a `b` behind them, and what is paid for each, or that it is too much.
