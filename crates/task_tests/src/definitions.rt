@@ -232,8 +232,11 @@ fn has_words(alloc: Global, row: &str, wanted: &str) -> bool {
 #[test]
 fn what_is_said_of_faults(rt: HostRuntime) {
     let retries = "retries: it is 0 to 49 (rule 9)";
-    assert!(rt; has_words(rt.alloc(), ",\"retries\":50", retries));
-    assert!(rt; !has_words(rt.alloc(), ",\"retries\":49", retries));
+    let told = [
+        has_words(rt.alloc(), ",\"retries\":50", retries),
+        has_words(rt.alloc(), ",\"retries\":49", retries),
+    ];
+    assert_eq!(rt; told, [true, false]);
     let whole =
         "the definition: a definition is a map of known keys, each of its kind, that nests at most 127 deep (rule 1)";
     assert!(rt; has_words(rt.alloc(), "[]", whole));
@@ -262,8 +265,11 @@ fn says(alloc: Global, row: &str, part: &str) -> bool {
 
 #[test]
 fn the_plain_definition_in_full_form(rt: HostRuntime) {
-    assert!(rt; says(rt.alloc(), "", PLAIN_IN_FULL));
-    assert!(rt; says(rt.alloc(), PLAIN_IN_FULL, PLAIN_IN_FULL));
+    let told = [
+        says(rt.alloc(), "", PLAIN_IN_FULL),
+        says(rt.alloc(), PLAIN_IN_FULL, PLAIN_IN_FULL),
+    ];
+    assert_eq!(rt; told, [true; 2]);
 }
 
 /// A member of the full form, and the members that the smallest definition gains for it.

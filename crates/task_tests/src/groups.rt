@@ -56,45 +56,49 @@ fn keeps(alloc: Global, groups: &mut Groups, group: SlugId, scheduler: &str, kep
     }
 }
 
-#[test]
-fn the_whole_list_is_in_order_of_creation(rt: HostRuntime) -> Result<(), Fail> {
-    let nine = group(9)?;
-    let groups = two_groups(rt.alloc())?;
-    assert!(rt; is_page(groups.list(nine, None, 1000), &[0, 2, 3, 5], false));
-    assert!(rt; is_page(groups.list(nine, None, 4), &[0, 2, 3, 5], false));
-    drop(groups);
-    Ok(())
+/// Whether the whole list of this group is in order of creation.
+fn lists_all(groups: &Groups, nine: SlugId) -> bool {
+    is_page(groups.list(nine, None, 1000), &[0, 2, 3, 5], false)
+        && is_page(groups.list(nine, None, 4), &[0, 2, 3, 5], false)
+}
+
+/// Whether its pages begin behind their tokens.
+fn begins_behind_tokens(groups: &Groups, nine: SlugId) -> bool {
+    is_page(groups.list(nine, None, 2), &[0, 2], true)
+        && is_page(groups.list(nine, Some(2), 2), &[3, 5], false)
+        && is_page(groups.list(nine, Some(5), 2), &[], false)
+}
+
+/// Whether another group has its own tasks, and a third none.
+fn lists_others(groups: &Groups, seven: SlugId, eight: SlugId) -> bool {
+    is_page(groups.list(seven, None, 1), &[1], true)
+        && is_page(groups.list(seven, Some(1), 1), &[4], false)
+        && groups.list(eight, None, 1).is_none()
+}
+
+/// Whether a group keeps its scheduler.
+fn keeps_its_own(alloc: Global, groups: &mut Groups, nine: SlugId) -> bool {
+    keeps(alloc, groups, nine, "other", "ci")
+        && add(alloc, groups, nine, "ci", 6)
+        && is_page(groups.list(nine, Some(3), 3), &[5, 6], false)
+}
+
+/// What of this is so, in this order.
+fn told_of(alloc: Global, groups: &mut Groups) -> Result<[bool; 4], Fail> {
+    let (seven, eight, nine) = (group(7)?, group(8)?, group(9)?);
+    Ok([
+        lists_all(groups, nine),
+        begins_behind_tokens(groups, nine),
+        lists_others(groups, seven, eight),
+        keeps_its_own(alloc, groups, nine),
+    ])
 }
 
 #[test]
-fn a_page_begins_behind_its_token(rt: HostRuntime) -> Result<(), Fail> {
-    let nine = group(9)?;
-    let groups = two_groups(rt.alloc())?;
-    assert!(rt; is_page(groups.list(nine, None, 2), &[0, 2], true));
-    assert!(rt; is_page(groups.list(nine, Some(2), 2), &[3, 5], false));
-    assert!(rt; is_page(groups.list(nine, Some(5), 2), &[], false));
-    drop(groups);
-    Ok(())
-}
-
-#[test]
-fn each_group_has_its_own_tasks(rt: HostRuntime) -> Result<(), Fail> {
-    let (seven, eight) = (group(7)?, group(8)?);
-    let groups = two_groups(rt.alloc())?;
-    assert!(rt; is_page(groups.list(seven, None, 1), &[1], true));
-    assert!(rt; is_page(groups.list(seven, Some(1), 1), &[4], false));
-    assert!(rt; groups.list(eight, None, 1).is_none());
-    drop(groups);
-    Ok(())
-}
-
-#[test]
-fn a_group_keeps_its_scheduler(rt: HostRuntime) -> Result<(), Fail> {
-    let nine = group(9)?;
+fn each_group_has_its_own_tasks_pages_and_scheduler(rt: HostRuntime) -> Result<(), Fail> {
     let mut groups = two_groups(rt.alloc())?;
-    assert!(rt; keeps(rt.alloc(), &mut groups, nine, "other", "ci"));
-    assert!(rt; add(rt.alloc(), &mut groups, nine, "ci", 6));
-    assert!(rt; is_page(groups.list(nine, Some(3), 3), &[5, 6], false));
+    let told = told_of(rt.alloc(), &mut groups);
     drop(groups);
+    assert_eq!(rt; told?, [true; 4]);
     Ok(())
 }

@@ -189,15 +189,22 @@ fn are_taken<L: Ledger>(
     let was_empty = pending.best(&queue, steps).is_none();
     pending.reserve(&queue, 3, 4)?;
     pending.reserve(&other, 1, 4)?;
-    Ok(
-        was_empty
-            && fill(pending, &queue, &other, steps)
-            && takes(pending, &queue, 2, steps)
-            && takes(pending, &queue, 0, steps)
-            && takes(pending, &queue, 1, steps)
-            && pending.best(&queue, steps).is_none()
-            && pending.best(&other, steps) == Some(3),
-    )
+    Ok(was_empty && takes_four(pending, &queue, &other, steps))
+}
+
+/// Whether two queues that are filled so give up their rows in this order.
+fn takes_four<L: Ledger>(
+    pending: &mut Pending,
+    queue: &Text,
+    other: &Text,
+    steps: &mut Steps<L>,
+) -> bool {
+    fill(pending, queue, other, steps)
+        && takes(pending, queue, 2, steps)
+        && takes(pending, queue, 0, steps)
+        && takes(pending, queue, 1, steps)
+        && pending.best(queue, steps).is_none()
+        && pending.best(other, steps) == Some(3)
 }
 
 /// In one queue wait rows 0 to 9, of every priority and added in no order; in another row 10.
@@ -207,17 +214,24 @@ fn fill_ten<L: Ledger>(
     other: &Text,
     steps: &mut Steps<L>,
 ) -> bool {
+    let rows = [
+        (0, Priority::Low, 12),
+        (1, Priority::Highest, 30),
+        (2, Priority::VeryLow, 1),
+        (3, Priority::Medium, 7),
+        (4, Priority::Highest, 5),
+        (5, Priority::Lowest, 0),
+        (6, Priority::High, 40),
+        (7, Priority::VeryHigh, 41),
+        (8, Priority::Medium, 6),
+        (9, Priority::Low, 11),
+    ];
+    for (row, priority, number) in rows {
+        if !wait(pending, row, queue, priority, number, steps) {
+            return false;
+        }
+    }
     wait(pending, 10, other, Priority::Highest, 2, steps)
-        && wait(pending, 0, queue, Priority::Low, 12, steps)
-        && wait(pending, 1, queue, Priority::Highest, 30, steps)
-        && wait(pending, 2, queue, Priority::VeryLow, 1, steps)
-        && wait(pending, 3, queue, Priority::Medium, 7, steps)
-        && wait(pending, 4, queue, Priority::Highest, 5, steps)
-        && wait(pending, 5, queue, Priority::Lowest, 0, steps)
-        && wait(pending, 6, queue, Priority::High, 40, steps)
-        && wait(pending, 7, queue, Priority::VeryHigh, 41, steps)
-        && wait(pending, 8, queue, Priority::Medium, 6, steps)
-        && wait(pending, 9, queue, Priority::Low, 11, steps)
 }
 
 #[test]
@@ -247,19 +261,26 @@ fn are_walked<L: Ledger>(
     let was_empty = pending.count(&queue) == 0 && are_firsts(pending, &queue, [].as_slice(), steps);
     pending.reserve(&queue, 10, 11)?;
     pending.reserve(&other, 1, 11)?;
-    Ok(
-        was_empty
-            && fill_ten(pending, &queue, &other, steps)
-            && are_firsts(
-                pending,
-                &queue,
-                [4, 1, 7, 6, 8, 3, 9, 0, 2, 5].as_slice(),
-                steps,
-            )
-            && pending.count(&queue) == 10
-            && pending.best(&queue, steps) == Some(4)
-            && are_firsts(pending, &other, [10].as_slice(), steps),
-    )
+    Ok(was_empty && walks_ten(pending, &queue, &other, steps))
+}
+
+/// Whether two queues that are filled so have their rows in this order.
+fn walks_ten<L: Ledger>(
+    pending: &mut Pending,
+    queue: &Text,
+    other: &Text,
+    steps: &mut Steps<L>,
+) -> bool {
+    fill_ten(pending, queue, other, steps)
+        && are_firsts(
+            pending,
+            queue,
+            [4, 1, 7, 6, 8, 3, 9, 0, 2, 5].as_slice(),
+            steps,
+        )
+        && pending.count(queue) == 10
+        && pending.best(queue, steps) == Some(4)
+        && are_firsts(pending, other, [10].as_slice(), steps)
 }
 
 /// Whether the rows of a queue come in this order, and no others.

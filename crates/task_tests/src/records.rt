@@ -259,6 +259,9 @@ fn may_claim(alloc: Global, number: &str, runs: u32, is_good: bool) -> bool {
 
 #[test]
 fn claims_of_many_runs(rt: HostRuntime) {
-    assert!(rt; may_claim(rt.alloc(), "00000020", 32, true));
-    assert!(rt; may_claim(rt.alloc(), "00000021", 33, false));
+    let told = [
+        may_claim(rt.alloc(), "00000020", 32, true),
+        may_claim(rt.alloc(), "00000021", 33, false),
+    ];
+    assert_eq!(rt; told, [true; 2]);
 }

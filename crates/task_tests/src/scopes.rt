@@ -200,8 +200,9 @@ fn is_one(member: &Expr, word: &str) -> bool {
 
 #[test]
 fn what_calls_ask(rt: HostRuntime) {
-    let other = first_other(rt.alloc(), SCOPED, ASKED);
-    assert!(rt; other == "none", "{other}");
-    let other = first_other(rt.alloc(), GROUPED, ASKED_OF_GROUPED);
-    assert!(rt; other == "none", "{other}");
+    let others = [
+        first_other(rt.alloc(), SCOPED, ASKED),
+        first_other(rt.alloc(), GROUPED, ASKED_OF_GROUPED),
+    ];
+    assert_eq!(rt; others, ["none"; 2]);
 }

@@ -153,16 +153,22 @@ fn so_many(rt: HostRuntime) {
 /// The smallest definition has 487 bytes in full form, and 493 with the member `"a":""` in its payload, so 8,388,115 bytes are left.
 #[test]
 fn so_long(rt: HostRuntime) {
-    assert!(rt; super::PLAIN_IN_FULL.len() == 487);
-    assert!(rt; is_so(rt.alloc(), "ok", "payload", 1, 8_388_115));
-    assert!(rt; is_so(rt.alloc(), "14 ", "payload", 1, 8_388_116));
+    let told = [
+        super::PLAIN_IN_FULL.len() == 487,
+        is_so(rt.alloc(), "ok", "payload", 1, 8_388_115),
+        is_so(rt.alloc(), "14 ", "payload", 1, 8_388_116),
+    ];
+    assert_eq!(rt; told, [true; 3]);
 }
 
 /// No document that is read nests deeper than 127.
 #[test]
 fn so_deep(rt: HostRuntime) {
-    assert!(rt; is_deep(rt.alloc(), 125, "ok"));
-    assert!(rt; is_deep(rt.alloc(), 126, "1 payload"));
-    assert!(rt; !is_none(rt.alloc(), 126));
-    assert!(rt; is_none(rt.alloc(), 127));
+    let told = [
+        is_deep(rt.alloc(), 125, "ok"),
+        is_deep(rt.alloc(), 126, "1 payload"),
+        is_none(rt.alloc(), 126),
+        is_none(rt.alloc(), 127),
+    ];
+    assert_eq!(rt; told, [true, true, false, true]);
 }
