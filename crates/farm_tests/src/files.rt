@@ -26,7 +26,7 @@ fn file_of(alloc: Global, text: &str) -> Result<Vec<u8>, AllocError> {
 }
 
 /// The first fault of a file, its table, the place of its row and the number of its rule, or `none`.
-pub(crate) fn fault_of(alloc: Global, bytes: &[u8]) -> Result<String, AllocError> {
+fn fault_of(alloc: Global, bytes: &[u8]) -> Result<String, AllocError> {
     match read_farm(alloc, bytes).err() {
         Some(FileFault::Fault(fault)) => {
             format!(in alloc; "{:?} {} {}", fault.table, fault.row, fault.rule.number())
@@ -36,12 +36,17 @@ pub(crate) fn fault_of(alloc: Global, bytes: &[u8]) -> Result<String, AllocError
     }
 }
 
+/// Whether this is the first fault of a file.
+pub(crate) fn is_fault(alloc: Global, bytes: &[u8], wanted: &str) -> Result<bool, AllocError> {
+    let fault = fault_of(alloc, bytes)?;
+    Ok(fault.as_str() == wanted)
+}
+
 /// Whether the first fault of a row's file, before its bar, is the one behind it.
 fn has_fault(alloc: Global, row: &str) -> Result<bool, Fail> {
     let (text, wanted) = row.split_once('|').ok_or("a row")?;
     let bytes = file_of(alloc, text)?;
-    let fault = fault_of(alloc, &bytes)?;
-    Ok(fault.as_str() == wanted)
+    Ok(is_fault(alloc, &bytes, wanted)?)
 }
 
 /// The first of some rows whose file has another fault, or `none`.
@@ -176,12 +181,14 @@ fn numbered_roles(alloc: Global, count: u32) -> Result<String, AllocError> {
 #[test]
 fn what_is_too_long_is_told(rt: HostRuntime) -> Result<(), Fail> {
     let spaces = vec![in rt.alloc(); b' '; LONGEST_FILE + 1]?;
-    assert_eq!(rt; fault_of(rt.alloc(), &spaces)?.as_str(), "File 0 9");
-    let line = "it has more than 4194304 bytes";
-    assert!(rt; is_told(rt.alloc(), &spaces, line)?);
     let rows = numbered_roles(rt.alloc(), 10_001)?;
-    let line = "[[role]] row 10001 (id \"10000\"): there may be 10000 rows";
-    assert!(rt; is_told(rt.alloc(), rows.as_bytes(), line)?);
+    let row = "[[role]] row 10001 (id \"10000\"): there may be 10000 rows";
+    let told = [
+        is_fault(rt.alloc(), &spaces, "File 0 9")?,
+        is_told(rt.alloc(), &spaces, "it has more than 4194304 bytes")?,
+        is_told(rt.alloc(), rows.as_bytes(), row)?,
+    ];
+    assert_eq!(rt; told, [true; 3]);
     Ok(())
 }
 

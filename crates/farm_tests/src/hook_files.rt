@@ -1,5 +1,5 @@
 //! Hooks in farm files: the first rule that each breaks, and what is told of that.
-use crate::files::{fault_of, first_other_fault, first_other_line};
+use crate::files::{first_other_fault, first_other_line, is_fault};
 use std::alloc::{AllocError, Global};
 use std::test::Fail;
 
@@ -43,23 +43,29 @@ hook = [{ group = 'g', id = 'i', task = '[1.5]' }]|[[hook]] row 1 (id "i") task 
 
 #[test]
 fn faults_of_hooks_are_found_and_told(rt: HostRuntime) -> Result<(), Fail> {
-    assert_eq!(rt; first_other_fault(rt.alloc(), FAULTS)?, "none");
-    assert_eq!(rt; first_other_line(rt.alloc(), LINES)?, "none");
+    let told = [
+        first_other_fault(rt.alloc(), FAULTS)?,
+        first_other_line(rt.alloc(), LINES)?,
+    ];
+    assert_eq!(rt; told, ["none"; 2]);
     Ok(())
 }
 
-/// The first fault of a file with one hook, whose group has so many bytes, and whose id.
-fn fault_at_lengths(alloc: Global, group: usize, id: usize) -> Result<String, AllocError> {
+/// Whether this is the first fault of a file with one hook, whose group and whose id have so many bytes.
+fn has_fault_at(alloc: Global, group: usize, id: usize, wanted: &str) -> Result<bool, AllocError> {
     let group = "g".repeat(alloc, group)?;
     let id = "/".repeat(alloc, id)?;
     let text = format!(in alloc; "hook = [{{ group = '{group}', id = '{id}', task = '{{}}' }}]")?;
-    fault_of(alloc, text.as_bytes())
+    is_fault(alloc, text.as_bytes(), wanted)
 }
 
 #[test]
 fn names_have_a_thousand_bytes_at_most(rt: HostRuntime) -> Result<(), Fail> {
-    assert_eq!(rt; fault_at_lengths(rt.alloc(), 1000, 1000)?.as_str(), "none");
-    assert_eq!(rt; fault_at_lengths(rt.alloc(), 1001, 1)?.as_str(), "Hook 0 5");
-    assert_eq!(rt; fault_at_lengths(rt.alloc(), 1, 1001)?.as_str(), "Hook 0 5");
+    let told = [
+        has_fault_at(rt.alloc(), 1000, 1000, "none")?,
+        has_fault_at(rt.alloc(), 1001, 1, "Hook 0 5")?,
+        has_fault_at(rt.alloc(), 1, 1001, "Hook 0 5")?,
+    ];
+    assert_eq!(rt; told, [true; 3]);
     Ok(())
 }

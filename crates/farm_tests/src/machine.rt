@@ -246,25 +246,35 @@ const TOO_MANY: &str =
 
 #[test]
 fn replies_are_those_of_the_reference(rt: HostRuntime) -> Result<(), Fail> {
-    assert_eq!(rt; first_other_with(rt.alloc(), 9_998, ROWS)?, "none");
-    assert_eq!(rt; first_other_with(rt.alloc(), 9_999, TOO_MANY)?, "none");
+    let told = [
+        first_other_with(rt.alloc(), 9_998, ROWS)?,
+        first_other_with(rt.alloc(), 9_999, TOO_MANY)?,
+    ];
+    assert_eq!(rt; told, ["none"; 2]);
     Ok(())
 }
 
+/// Whether this is told of a reply: its status and its body.
+fn is_told(alloc: Global, reply: Reply, wanted: &str) -> Result<bool, AllocError> {
+    let told = told(alloc, &reply);
+    drop(reply);
+    Ok(told?.as_str() == wanted)
+}
+
+const NO_MEMORY: &str = r#"503|{"code":"OutOfMemory","details":{},"message":"no memory"}"#;
+
+const FAULT: &str = r#"500|{"code":"DiskFault","details":{},"message":"the disk failed"}"#;
+
+const HALTED: &str = r#"500|{"code":"Halted","details":{},"message":"the disk failed earlier"}"#;
+
 #[test]
 fn want_of_memory_and_faults_of_the_disk_are_told(rt: HostRuntime) -> Result<(), Fail> {
-    assert_eq!(rt;
-        told(rt.alloc(), &Reply::OutOfMemory)?.as_str(),
-        r#"503|{"code":"OutOfMemory","details":{},"message":"no memory"}"#
-    );
-    assert_eq!(rt;
-        told(rt.alloc(), &Reply::DiskFault)?.as_str(),
-        r#"500|{"code":"DiskFault","details":{},"message":"the disk failed"}"#
-    );
-    assert_eq!(rt;
-        told(rt.alloc(), &Reply::Halted)?.as_str(),
-        r#"500|{"code":"Halted","details":{},"message":"the disk failed earlier"}"#
-    );
+    let told = [
+        is_told(rt.alloc(), Reply::OutOfMemory, NO_MEMORY)?,
+        is_told(rt.alloc(), Reply::DiskFault, FAULT)?,
+        is_told(rt.alloc(), Reply::Halted, HALTED)?,
+    ];
+    assert_eq!(rt; told, [true; 3]);
     Ok(())
 }
 
@@ -317,7 +327,7 @@ fn last_moment(alloc: Global) -> Option<u64> {
 #[test]
 fn a_task_is_made_once_and_the_last_moment_never_falls(rt: HostRuntime) -> Result<(), Fail> {
     let file = file_with(rt.alloc(), 0)?;
-    assert_eq!(rt; made_twice(rt.alloc(), file.as_str())?, [1, 1, 0, 1]);
-    assert_eq!(rt; last_moment(rt.alloc()), Some(5));
+    let counts = made_twice(rt.alloc(), file.as_str())?;
+    assert_eq!(rt; (counts, last_moment(rt.alloc())), ([1, 1, 0, 1], Some(5)));
     Ok(())
 }

@@ -45,9 +45,15 @@ fn first_other_of<'a>(alloc: Global, farm: &Config, rows: &'a str) -> Result<&'a
     Ok("none")
 }
 
-/// The same of a farm that this file sets up.
-fn first_other<'a>(alloc: Global, file: &str, rows: &'a str) -> Result<&'a str, Fail> {
-    let farm = farm_of(alloc, file)?;
+/// The same of a farm whose hook `g/h` has these scopes, and makes tasks of this queue.
+fn first_other<'a>(
+    alloc: Global,
+    scopes: &str,
+    queue: &str,
+    rows: &'a str,
+) -> Result<&'a str, Fail> {
+    let file = file(alloc, scopes, queue)?;
+    let farm = farm_of(alloc, file.as_str())?;
     let other = first_other_of(alloc, &farm, rows);
     drop(farm);
     other
@@ -73,11 +79,11 @@ const NO_QUEUE: &str =
 
 #[test]
 fn a_hook_has_its_own_scopes_and_what_it_renders_is_judged(rt: HostRuntime) -> Result<(), Fail> {
-    let three = file(rt.alloc(), THREE, "prov/wt")?;
-    assert_eq!(rt; first_other(rt.alloc(), three.as_str(), REFUSED)?, "none");
-    let four = file(rt.alloc(), FOUR, "prov/wt")?;
-    assert_eq!(rt; first_other(rt.alloc(), four.as_str(), GRANTED)?, "none");
-    let none = file(rt.alloc(), FOUR, "prov")?;
-    assert_eq!(rt; first_other(rt.alloc(), none.as_str(), NO_QUEUE)?, "none");
+    let others = [
+        first_other(rt.alloc(), THREE, "prov/wt", REFUSED)?,
+        first_other(rt.alloc(), FOUR, "prov/wt", GRANTED)?,
+        first_other(rt.alloc(), FOUR, "prov", NO_QUEUE)?,
+    ];
+    assert_eq!(rt; others, ["none"; 3]);
     Ok(())
 }

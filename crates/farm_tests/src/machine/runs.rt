@@ -35,9 +35,12 @@ const LAST: &str = r#"
 
 #[test]
 fn lost_runs_are_told_and_a_task_has_fifty(rt: HostRuntime) -> Result<(), Fail> {
-    assert_eq!(rt; first_other_with(rt.alloc(), 0, LOST)?, "none");
-    assert_eq!(rt; first_other_with(rt.alloc(), 0, LATE)?, "none");
     let rows = fifty(rt.alloc())?;
-    assert_eq!(rt; first_other_with(rt.alloc(), 0, rows.as_str())?, "none");
+    let others = [
+        first_other_with(rt.alloc(), 0, LOST)?,
+        first_other_with(rt.alloc(), 0, LATE)?,
+        first_other_with(rt.alloc(), 0, rows.as_str())?,
+    ];
+    assert_eq!(rt; others, ["none"; 3]);
     Ok(())
 }
