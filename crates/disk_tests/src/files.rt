@@ -4,7 +4,6 @@ use causes::Failed;
 use disk_base::{Disk, FileDisk, MemoryDisk};
 use std::alloc::{AllocError, Global};
 use std::fs;
-use std::process::Abort;
 use std::test::Fail;
 
 /// Writes, cuts and syncs, and reads what is there.
@@ -91,36 +90,57 @@ fn a_disk_in_memory_fails_as_told(rt: HostRuntime) -> Result<(), Fail> {
     Ok(())
 }
 
+/// How many images a disk has, of which a byte is as it was, 0 or 255.
+fn count(alloc: Global, disk: &MemoryDisk) -> usize {
+    match disk.images(alloc, &[0, 255]) {
+        Ok(images) => {
+            let count = images.len();
+            drop(images);
+            count
+        }
+        Err(AllocError) => 0,
+    }
+}
+
+/// Whether the image of this place has these bytes.
+fn is_image(alloc: Global, disk: &MemoryDisk, place: usize, bytes: &[u8]) -> bool {
+    match disk.images(alloc, &[0, 255]) {
+        Ok(images) => {
+            let is_so = place < images.len() && images[place].as_slice() == bytes;
+            drop(images);
+            is_so
+        }
+        Err(AllocError) => false,
+    }
+}
+
+/// Whether a disk with the bytes `ab` has one image, and those of a write over a byte: it is as it was, or one of the choices.
+fn lists_writes_over(alloc: Global, disk: &mut MemoryDisk) -> bool {
+    count(alloc, disk) == 1
+        && is_image(alloc, disk, 0, b"ab")
+        && disk.write_at(1, b"z") == Ok(())
+        && count(alloc, disk) == 3
+        && is_image(alloc, disk, 1, &[97, 0])
+        && disk.sync() == Ok(())
+}
+
+/// Whether it has those of a write at its end, none, one or two bytes more, and then those of a cut, one, two, three or four in all.
+fn lists_lengths(alloc: Global, disk: &mut MemoryDisk) -> bool {
+    disk.write_at(2, b"yy") == Ok(())
+        && count(alloc, disk) == 7
+        && disk.cut(1) == Ok(())
+        && count(alloc, disk) == 2 + 2 * 3 + 4 * 4
+        && disk.sync() == Ok(())
+        && count(alloc, disk) == 1
+        && is_image(alloc, disk, 0, b"a")
+}
+
 #[test]
 fn images_are_listed(rt: HostRuntime) -> Result<(), Fail> {
     let alloc = rt.alloc();
     let mut disk = MemoryDisk::new(alloc, b"ab", 8, 8, Vec::new(alloc))?;
-    let listed = list_images(&rt, alloc, &mut disk);
+    let listed = lists_writes_over(alloc, &mut disk) && lists_lengths(alloc, &mut disk);
     drop(disk);
-    listed
-}
-
-/// Lists the images of a disk with the bytes `ab`, call by call.
-fn list_images(rt: &impl Abort, alloc: Global, disk: &mut MemoryDisk) -> Result<(), Fail> {
-    let nothing = disk.images(alloc, &[0, 255])?;
-    assert_eq!(rt; nothing.len(), 1);
-    assert_eq!(rt; nothing[0].as_slice(), b"ab".as_slice());
-    drop(nothing);
-    // The byte is as it was, or one of the choices.
-    assert_eq!(rt; disk.write_at(1, b"z"), Ok(()));
-    let over = disk.images(alloc, &[0, 255])?;
-    assert_eq!(rt; over.len(), 3);
-    assert_eq!(rt; over[1].as_slice(), [97, 0].as_slice());
-    drop(over);
-    assert_eq!(rt; disk.sync(), Ok(()));
-    // None, one or two bytes more, and then one, two, three or four in all.
-    assert_eq!(rt; disk.write_at(2, b"yy"), Ok(()));
-    assert_eq!(rt; disk.images(alloc, &[0, 255])?.len(), 7);
-    assert_eq!(rt; disk.cut(1), Ok(()));
-    assert_eq!(rt; disk.images(alloc, &[0, 255])?.len(), 2 + 2 * 3 + 4 * 4);
-    assert_eq!(rt; disk.sync(), Ok(()));
-    let cut = disk.images(alloc, &[0, 255])?;
-    assert_eq!(rt; cut.len(), 1);
-    assert_eq!(rt; cut[0].as_slice(), b"a".as_slice());
+    assert!(rt; listed);
     Ok(())
 }

@@ -122,70 +122,156 @@ fn every_byte(alloc: Global) -> Result<Vec<u8>, AllocError> {
     Ok(all)
 }
 
+/// Whether an append of the tick fails where this call does, and how many images of the disk that it leaves open to no body, and to one.
+fn append_leaves(
+    alloc: Global,
+    failing: Option<u64>,
+    choices: &[u8],
+) -> Result<(bool, u64, u64), AllocError> {
+    let disk = memory(alloc, &[0], failing)?;
+    let (fault, stopped) = append(alloc, disk, &frame_tick(TICK));
+    let (none, one) = counts_of(alloc, stopped, choices)?;
+    Ok((fault == Some(DiskFault), none, one))
+}
+
+/// Whether an append that no call stops leaves the record alone.
+fn append_is_whole(alloc: Global) -> Result<bool, AllocError> {
+    let disk = memory(alloc, &[0], None)?;
+    let (fault, done) = append(alloc, disk, &frame_tick(TICK));
+    let is_whole = fault.is_none() && done.bytes() == WHOLE.as_slice();
+    drop(done);
+    Ok(is_whole)
+}
+
 // The opening of a file of one closed gate is a sync and two reads, so the calls of the append are the third to the sixth.
 #[test]
 fn an_append_is_stopped_in_each_call(rt: HostRuntime) -> Result<(), Fail> {
     let alloc = rt.alloc();
     let all = every_byte(alloc)?;
-    let tick = frame_tick(TICK);
-    for call in 3..5 {
-        let (fault, stopped) = append(alloc, memory(alloc, &[0], Some(call))?, &tick);
-        assert_eq!(rt; fault, Some(DiskFault));
-        assert_eq!(rt; counts_of(alloc, stopped, &[0xa5])?, (15, 0));
+    for call in 3..7 {
+        let (choices, none, one): (&[u8], u64, u64) = if call < 5 {
+            (&[0xa5], 15, 0)
+        } else {
+            (&all, 255, 1)
+        };
+        assert_eq!(rt;
+            append_leaves(alloc, Some(call), choices)?,
+            (true, none, one),
+            "call {call}"
+        );
     }
-    for call in 5..7 {
-        let (fault, stopped) = append(alloc, memory(alloc, &[0], Some(call))?, &tick);
-        assert_eq!(rt; fault, Some(DiskFault));
-        assert_eq!(rt; counts_of(alloc, stopped, &all)?, (255, 1));
-    }
-    let (fault, done) = append(alloc, memory(alloc, &[0], None)?, &tick);
-    assert_eq!(rt; fault, None);
-    assert_eq!(rt; done.bytes(), WHOLE.as_slice());
-    assert_eq!(rt; counts_of(alloc, done, &all)?, (0, 1));
-    assert_eq!(rt; reopen(alloc, &[0xa5])?, Outcome::Bodies(0));
-    assert_eq!(rt;
-        reopen(alloc, &WHOLE[..7])?,
-        Outcome::Fault(OpenFault::Damaged(0))
-    );
+    assert_eq!(rt; append_leaves(alloc, None, &all)?, (false, 0, 1));
     Ok(())
 }
 
-// A body of one byte on an empty disk, in every way that three values of a byte make.
+#[test]
+fn an_append_leaves_its_record(rt: HostRuntime) -> Result<(), Fail> {
+    let alloc = rt.alloc();
+    let is_whole = append_is_whole(alloc)?;
+    let opened = [reopen(alloc, &[0xa5])?, reopen(alloc, &WHOLE[..7])?];
+    let wanted = [Outcome::Bodies(0), Outcome::Fault(OpenFault::Damaged(0))];
+    assert_eq!(rt; (is_whole, opened), (true, wanted));
+    Ok(())
+}
+
+/// Whether the opening of an empty disk fails where this call does, and how many images it leaves.
+fn opening_leaves(alloc: Global, call: u64, choices: &[u8]) -> Result<(bool, u64), AllocError> {
+    let disk = memory(alloc, &[], Some(call))?;
+    let (outcome, stopped) = open(alloc, disk);
+    let (none, one) = counts_of(alloc, stopped, choices)?;
+    Ok((outcome == Outcome::Fault(OpenFault::Disk) && one == 0, none))
+}
+
+/// The images of an empty disk to which a body of one byte was appended, and whose call of this number failed.
+fn images_after(alloc: Global, call: u64, choices: &[u8]) -> Result<Vec<Vec<u8>>, AllocError> {
+    let body = frame(alloc, &[7])?;
+    let disk = memory(alloc, &[], Some(call))?;
+    let (_, stopped) = append(alloc, disk, &body);
+    drop(body);
+    images_of(alloc, stopped, choices)
+}
+
+/// How many of them open to no body, and how many to one.
+fn counts_after(alloc: Global, call: u64, choices: &[u8]) -> Result<(u64, u64), AllocError> {
+    let images = images_after(alloc, call, choices)?;
+    let counted = counts(alloc, &images);
+    drop(images);
+    counted
+}
+
+/// How many images an opening that this call stops leaves, to no body, and to one.
+fn counts_again(
+    alloc: Global,
+    image: &[u8],
+    call: u64,
+    choices: &[u8],
+) -> Result<(u64, u64), AllocError> {
+    let disk = memory(alloc, image, Some(call))?;
+    let (_, again) = open(alloc, disk);
+    counts_of(alloc, again, choices)
+}
+
+/// Whether an image whose gate was being written opens as its gate tells, whichever call stops an opening before.
+// A sync, two reads, and the closing of a gate that is neither open nor closed.
+fn opens_again(alloc: Global, image: &[u8], choices: &[u8]) -> Result<bool, AllocError> {
+    let gate = first_byte(image);
+    for call in 0..5 {
+        let wanted = if call > 2 && gate != 0 && gate != 0xa5 {
+            (255, 1)
+        } else if gate == 0xa5 {
+            (0, 1)
+        } else {
+            (1, 0)
+        };
+        if counts_again(alloc, image, call, choices)? != wanted {
+            return Ok(false);
+        }
+    }
+    Ok(true)
+}
+
+/// Whether each of them does.
+fn all_open_again(alloc: Global, images: &[Vec<u8>], choices: &[u8]) -> Result<bool, AllocError> {
+    for image in images {
+        if !opens_again(alloc, image, choices)? {
+            return Ok(false);
+        }
+    }
+    Ok(true)
+}
+
+// The opening of an empty disk: a sync, a read, and the closing of its gate.
 #[test]
 fn openings_are_stopped_in_each_call(rt: HostRuntime) -> Result<(), Fail> {
     let alloc = rt.alloc();
     let all = every_byte(alloc)?;
-    let body = frame(alloc, &[7])?;
-    // The opening of an empty disk: a sync, a read, and the closing of its gate.
     for call in 0..4 {
-        let (outcome, stopped) = open(alloc, memory(alloc, &[], Some(call))?);
-        assert_eq!(rt; outcome, Outcome::Fault(OpenFault::Disk));
         let count = if call < 2 { 1 } else { 257 };
-        assert_eq!(rt; counts_of(alloc, stopped, &all)?, (count, 0));
+        assert_eq!(rt;
+            opening_leaves(alloc, call, &all)?,
+            (true, count),
+            "call {call}"
+        );
     }
+    Ok(())
+}
+
+// A body of one byte on an empty disk, in every way that three values of a byte make, and then each value of its gate.
+#[test]
+fn first_appends_are_stopped_in_each_call(rt: HostRuntime) -> Result<(), Fail> {
+    let alloc = rt.alloc();
     for call in 4..6 {
-        let (_, stopped) = append(alloc, memory(alloc, &[], Some(call))?, &body);
-        assert_eq!(rt; counts_of(alloc, stopped, &[0, 1, 0xa5])?, (1093, 0));
+        assert_eq!(rt;
+            counts_after(alloc, call, &[0, 1, 0xa5])?,
+            (1093, 0),
+            "call {call}"
+        );
     }
-    let (_, stopped) = append(alloc, memory(alloc, &[], Some(6))?, &body);
-    let images = images_of(alloc, stopped, &all)?;
-    for image in &images {
-        let gate = first_byte(image);
-        // A sync, two reads, and the closing of a gate that is neither open nor closed.
-        for call in 0..5 {
-            let (_, again) = open(alloc, memory(alloc, image, Some(call))?);
-            let (none, one) = counts_of(alloc, again, &all)?;
-            let pending = call > 2 && gate != 0 && gate != 0xa5;
-            let wanted = if pending {
-                (255, 1)
-            } else if gate == 0xa5 {
-                (0, 1)
-            } else {
-                (1, 0)
-            };
-            assert_eq!(rt; (none, one), wanted);
-        }
-    }
+    let all = every_byte(alloc)?;
+    let images = images_after(alloc, 6, &all)?;
+    let open_again = all_open_again(alloc, &images, &all);
+    drop(images);
+    assert!(rt; open_again?);
     Ok(())
 }
 
@@ -194,33 +280,46 @@ const AMPLE: [u8; 21] = [
     0xa5, 0, 0, 0, 9, 1, 0, 0, 1, 0x8c, 0xc2, 0x51, 0xf4, 0, 0, 0, 0, 0, 0, 0, 0,
 ];
 
+/// Whether keeping the tick fails where this call does, and how many images of the disk that it leaves open to no body, and to one.
+fn keep_leaves(
+    alloc: Global,
+    failing: u64,
+    choices: &[u8],
+) -> Result<(bool, u64, u64), AllocError> {
+    let disk = asking(alloc, &[0], failing)?;
+    let (fault, stopped) = keep(alloc, disk, &frame_tick(TICK));
+    let (none, one) = counts_of(alloc, stopped, choices)?;
+    Ok((fault == Some(DiskFault), none, one))
+}
+
+/// Whether a disk of these bytes, of which no call up to this one fails, has the record and the room after the tick is kept.
+fn keep_is_whole(alloc: Global, file: &[u8], failing: u64) -> Result<bool, AllocError> {
+    let disk = asking(alloc, file, failing)?;
+    let (fault, done) = keep(alloc, disk, &frame_tick(TICK));
+    let is_whole = fault.is_none() && done.bytes() == AMPLE.as_slice();
+    drop(done);
+    Ok(is_whole)
+}
+
 // Zeros, the body and its gate are a write and a sync each. Where there is room already, no zeros are written.
 #[test]
 fn a_body_lies_in_room_that_was_made(rt: HostRuntime) -> Result<(), Fail> {
     let alloc = rt.alloc();
     let all = every_byte(alloc)?;
-    let tick = frame_tick(TICK);
     for call in 3..5 {
-        let (fault, stopped) = keep(alloc, asking(alloc, &[0], call)?, &tick);
-        assert_eq!(rt; fault, Some(DiskFault));
-        assert_eq!(rt; counts_of(alloc, stopped, &[0xa5])?, (21, 0));
+        assert_eq!(rt;
+            keep_leaves(alloc, call, &[0xa5])?,
+            (true, 21, 0),
+            "call {call}"
+        );
     }
     for call in 5..9 {
-        let (fault, stopped) = keep(alloc, asking(alloc, &[0], call)?, &tick);
-        assert_eq!(rt; fault, Some(DiskFault));
-        if call > 6 {
-            assert_eq!(rt; counts_of(alloc, stopped, &all)?, (255, 1));
-        } else {
-            drop(stopped);
-        }
+        let (failed, none, one) = keep_leaves(alloc, call, if call > 6 { &all } else { &[] })?;
+        assert!(rt;
+            failed && (call < 7 || (none, one) == (255, 1)),
+            "call {call}"
+        );
     }
-    let (fault, done) = keep(alloc, asking(alloc, &[0], 9)?, &tick);
-    assert_eq!(rt; fault, None);
-    assert_eq!(rt; done.bytes(), AMPLE.as_slice());
-    drop(done);
-    let (fault, again) = keep(alloc, asking(alloc, &[0; 21], 7)?, &tick);
-    assert_eq!(rt; fault, None);
-    assert_eq!(rt; again.bytes(), AMPLE.as_slice());
-    drop(again);
+    assert!(rt; keep_is_whole(alloc, &[0], 9)? && keep_is_whole(alloc, &[0; 21], 7)?);
     Ok(())
 }

@@ -6,7 +6,6 @@ use farm_core::{Counts, Farm};
 use farm_desk::Object;
 use farm_machine::config::Config;
 use std::alloc::{AllocError, Global};
-use std::process::Abort;
 use std::test::Fail;
 
 /// A disk of these bytes, of which the call of this number fails.
@@ -193,25 +192,30 @@ fn stopped(alloc: Global, call: u64) -> Result<(u64, MemoryDisk), Fail> {
     }
 }
 
+/// Whether as many asks are acknowledged before this call fails as there are records then, and each image of the disk opens to them, or to one
+/// more, where the call is one of a gate.
 // The opening of an empty disk is four calls: a sync, a read, and the write and sync of its gate. Each record is four: it is written and
 // synced, and then its gate is.
+fn keeps_what_was_acknowledged(alloc: Global, call: u64) -> Result<bool, Fail> {
+    let records = call.saturating_sub(4) / 4;
+    let is_gate = call >= 4 && call % 4 > 1;
+    let choices: &[u8] = if is_gate { &[0, 0xa5, 0xa6, 0xff] } else { &[] };
+    let most = if is_gate {
+        records.saturating_add(1)
+    } else {
+        records
+    };
+    let (done, disk) = stopped(alloc, call)?;
+    let all_open = all_open_to(alloc, &disk, choices, records, most);
+    drop(disk);
+    Ok(all_open? && done == acknowledged_after(records))
+}
+
 #[test]
 fn nothing_acknowledged_is_lost_in_any_call(rt: HostRuntime) -> Result<(), Fail> {
     let alloc = rt.alloc();
     for call in 0..33u64 {
-        let (done, disk) = stopped(alloc, call)?;
-        let records = call.saturating_sub(4) / 4;
-        assert_eq!(rt; done, acknowledged_after(records));
-        let is_gate = call >= 4 && call % 4 > 1;
-        let choices: &[u8] = if is_gate { &[0, 0xa5, 0xa6, 0xff] } else { &[] };
-        let most = if is_gate {
-            records.saturating_add(1)
-        } else {
-            records
-        };
-        let all_open = all_open_to(alloc, &disk, choices, records, most);
-        drop(disk);
-        assert!(rt; all_open?);
+        assert!(rt; keeps_what_was_acknowledged(alloc, call)?, "call {call}");
     }
     Ok(())
 }
@@ -220,58 +224,96 @@ fn nothing_acknowledged_is_lost_in_any_call(rt: HostRuntime) -> Result<(), Fail>
 const LOST: &str =
     r#"{"status":{"deadline":"2024-01-02T00:00:00.000Z","expires":"2025-01-01T00:00:00.000Z","projectId":"none","provisionerId":"prov","retriesLeft":4,"runs":[{"reasonCreated":"scheduled","reasonResolved":"claim-expired","resolved":"2024-01-01T00:40:09.999Z","runId":0,"scheduled":"2024-01-01T00:00:00.000Z","started":"2024-01-01T00:00:10.000Z","state":"exception","takenUntil":"2024-01-01T00:40:09.999Z","workerGroup":"g","workerId":"w"},{"reasonCreated":"retry","runId":1,"scheduled":"2024-01-01T00:40:09.999Z","state":"pending"}],"schedulerId":"-","state":"pending","taskGroupId":"AAAAAAAAQACAAAAAAAAAAA","taskId":"AAAAAAAAQACAAAAAAAAAAA","taskQueueId":"prov/wt","workerType":"wt"}}"#;
 
-/// Asks up to the report that comes when the claim has ended: the statuses of the replies.
-fn lose<D: Disk>(alloc: Global, farm: &mut Farm<D>) -> Result<[u16; 4], Fail> {
-    let (create, _) = ask(alloc, farm, 0, "create")?;
-    let (claim, _) = ask(alloc, farm, 10_000, "claim")?;
-    let (reclaim, _) = ask(alloc, farm, 1_209_999, "reclaim 0")?;
-    let (report, _) = ask(alloc, farm, 2_409_999, "completed 0")?;
-    Ok([create, claim, reclaim, report])
+/// Whether a farm replies to the question of this word, so many milliseconds after midnight, with this status.
+fn replies<D: Disk>(
+    alloc: Global,
+    farm: &mut Farm<D>,
+    after: u64,
+    word: &str,
+    wanted: u16,
+) -> Result<bool, Fail> {
+    let (status, _) = ask(alloc, farm, after, word)?;
+    Ok(status == wanted)
 }
 
-/// The same, with how the tasks stand then.
-fn lose_one<D: Disk>(rt: &impl Abort, alloc: Global, farm: &mut Farm<D>) -> Result<(), Fail> {
-    assert_eq!(rt; lose(alloc, farm)?, [200, 200, 200, 409]);
+/// Whether it replies so up to the report that comes when the claim has ended.
+fn loses<D: Disk>(alloc: Global, farm: &mut Farm<D>) -> Result<bool, Fail> {
+    Ok(
+        replies(alloc, farm, 0, "create", 200)?
+            && replies(alloc, farm, 10_000, "claim", 200)?
+            && replies(alloc, farm, 1_209_999, "reclaim 0", 200)?
+            && replies(alloc, farm, 2_409_999, "completed 0", 409)?,
+    )
+}
+
+/// The same, and whether the tasks stand so then.
+fn loses_one<D: Disk>(alloc: Global, farm: &mut Farm<D>) -> Result<bool, Fail> {
+    let loses = loses(alloc, farm)?;
     let summary = farm.summary();
-    assert_eq!(rt; [summary.tasks, summary.completed, summary.runs], [1, 0, 2]);
-    Ok(())
+    Ok(loses && [summary.tasks, summary.completed, summary.runs] == [1, 0, 2])
 }
 
-/// The disk of a farm that was asked so.
-fn lost_disk(rt: &impl Abort, alloc: Global) -> Result<MemoryDisk, Fail> {
+/// The images of the disk of a farm that was asked so.
+fn lost_images(alloc: Global) -> Result<Vec<Vec<u8>>, Fail> {
     let mut farm = open_empty(alloc, NONE)?;
-    let lost = lose_one(rt, alloc, &mut farm);
+    let lost = loses_one(alloc, &mut farm);
     let disk = farm.into_disk();
-    match lost {
-        Ok(()) => Ok(disk),
-        Err(error) => {
-            drop(disk);
-            Err(error)
+    let images = disk.images(alloc, &[0, 0xa5]);
+    drop(disk);
+    if !lost? {
+        return Err(Fail::from("the run is not lost"));
+    }
+    Ok(images?)
+}
+
+/// Whether the lost run is told by a farm that opens from an image.
+fn tells_lost(alloc: Global, image: &[u8]) -> Result<bool, Fail> {
+    let (disk, config) = parts(alloc, image, NONE)?;
+    let (opened, body) = reopen(alloc, disk, config)?;
+    let Ok(counts) = opened else {
+        return Ok(false);
+    };
+    Ok(counts.records == 4 && counts.tasks == 1 && body.as_str() == LOST)
+}
+
+/// Whether there is an image, and each tells the lost run.
+fn all_tell_lost(alloc: Global, images: &[Vec<u8>]) -> Result<bool, Fail> {
+    for image in images {
+        if !tells_lost(alloc, image)? {
+            return Ok(false);
         }
     }
+    Ok(!images.is_empty())
 }
 
 #[test]
 fn a_lost_run_is_told_from_any_image(rt: HostRuntime) -> Result<(), Fail> {
     let alloc = rt.alloc();
-    let disk = lost_disk(&rt, alloc)?;
-    let images = disk.images(alloc, &[0, 0xa5]);
-    drop(disk);
-    let images = images?;
-    assert!(rt; !images.is_empty());
-    for image in &images {
-        let (disk, config) = parts(alloc, image, NONE)?;
-        let (opened, body) = reopen(alloc, disk, config)?;
-        assert_eq!(rt;
-            opened,
-            Ok(Counts {
-                records: 4,
-                tasks: 1
-            })
-        );
-        assert_eq!(rt; body.as_str(), LOST);
-    }
+    let images = lost_images(alloc)?;
+    let all_tell = all_tell_lost(alloc, &images);
+    drop(images);
+    assert!(rt; all_tell?);
     Ok(())
+}
+
+const FAULT: &str = r#"{"code":"DiskFault","details":{},"message":"the disk failed"}"#;
+
+const HALTED: &str = r#"{"code":"Halted","details":{},"message":"the disk failed earlier"}"#;
+
+/// Whether a farm replies to the question of this word, at midnight, with the status 500 and this body.
+fn fails<D: Disk>(
+    alloc: Global,
+    farm: &mut Farm<D>,
+    word: &str,
+    wanted: &str,
+) -> Result<bool, Fail> {
+    let (status, body) = ask(alloc, farm, 0, word)?;
+    Ok(status == 500 && body.as_str() == wanted)
+}
+
+/// Whether a farm whose next sync fails tells so, and that it has halted after that.
+fn halts<D: Disk>(alloc: Global, farm: &mut Farm<D>) -> Result<bool, Fail> {
+    Ok(fails(alloc, farm, "create", FAULT)? && fails(alloc, farm, "ping", HALTED)?)
 }
 
 // The fifth call is the first after the opening; the sixth is the first sync.
@@ -279,24 +321,8 @@ fn a_lost_run_is_told_from_any_image(rt: HostRuntime) -> Result<(), Fail> {
 fn a_farm_halts_where_its_disk_fails(rt: HostRuntime) -> Result<(), Fail> {
     let alloc = rt.alloc();
     let mut farm = open_empty(alloc, 5)?;
-    let halted = halt(&rt, alloc, &mut farm);
+    let halts = halts(alloc, &mut farm);
     drop(farm);
-    halted
-}
-
-/// Asks a farm whose next sync fails.
-fn halt<D: Disk>(rt: &impl Abort, alloc: Global, farm: &mut Farm<D>) -> Result<(), Fail> {
-    let (status, body) = ask(alloc, farm, 0, "create")?;
-    assert_eq!(rt; status, 500);
-    assert_eq!(rt;
-        body.as_str(),
-        r#"{"code":"DiskFault","details":{},"message":"the disk failed"}"#
-    );
-    let (status, body) = ask(alloc, farm, 0, "ping")?;
-    assert_eq!(rt; status, 500);
-    assert_eq!(rt;
-        body.as_str(),
-        r#"{"code":"Halted","details":{},"message":"the disk failed earlier"}"#
-    );
+    assert!(rt; halts?);
     Ok(())
 }
