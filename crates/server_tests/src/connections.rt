@@ -140,8 +140,11 @@ fn writes_so(alloc: Global, failing: u64, wanted: &[u8]) -> Result<bool, Fail> {
 
 #[test]
 fn a_failed_write_leaves_a_front(rt: HostRuntime) -> Result<(), Fail> {
-    assert!(rt; writes_so(rt.alloc(), 0, b"")?);
-    assert!(rt; writes_so(rt.alloc(), 1, ALIVE)?);
+    let told = [
+        writes_so(rt.alloc(), 0, b"")?,
+        writes_so(rt.alloc(), 1, ALIVE)?,
+    ];
+    assert_eq!(rt; told, [true; 2]);
     Ok(())
 }
 
@@ -159,8 +162,11 @@ fn reads_so(alloc: Global, failing: u64, wanted: &[u8]) -> Result<bool, Fail> {
 #[test]
 fn a_failed_read_ends_what_was_answered(rt: HostRuntime) -> Result<(), Fail> {
     let replies = both(rt.alloc(), ALIVE, NO_TASK)?;
-    assert!(rt; reads_so(rt.alloc(), 0, b"")?);
-    assert!(rt; reads_so(rt.alloc(), 1, &replies)?);
+    let told = [
+        reads_so(rt.alloc(), 0, b"")?,
+        reads_so(rt.alloc(), 1, &replies)?,
+    ];
+    assert_eq!(rt; told, [true; 2]);
     Ok(())
 }
 
@@ -224,24 +230,25 @@ fn each_stream_ends_as_it_has_to(rt: HostRuntime) -> Result<(), Fail> {
     Ok(())
 }
 
+/// So many copies of these bytes, and others behind them.
+fn repeated(alloc: Global, bytes: &[u8], count: u32, behind: &[u8]) -> Result<Vec<u8>, AllocError> {
+    let mut all = Vec::new(alloc);
+    for _ in 0..count {
+        all.extend_from_slice(bytes)?;
+    }
+    all.extend_from_slice(behind)?;
+    Ok(all)
+}
+
+const LAST_ALIVE: &[u8] =
+    b"HTTP/1.1 200 OK\r\nConnection: close\r\nContent-Length: 14\r\nContent-Type: application/json\r\n\r\n{\"alive\":true}";
+
 #[test]
 fn the_thousandth_reply_closes(rt: HostRuntime) -> Result<(), Fail> {
     let alloc = rt.alloc();
-    let mut input = Vec::new(alloc);
-    let mut replies = Vec::new(alloc);
-    for place in 0..1_001 {
-        input.extend_from_slice(PING)?;
-        if place < 999 {
-            replies.extend_from_slice(ALIVE)?;
-        }
-    }
-    replies.extend_from_slice(
-        b"HTTP/1.1 200 OK\r\nConnection: close\r\nContent-Length: 14\r\nContent-Type: application/json\r\n\r\n{\"alive\":true}",
-    )?;
-    let output = serve(alloc, &Input::of(&input))?;
-    assert_eq!(rt; output.served, Served::Full);
-    assert_eq!(rt; output.written.len(), replies.len());
-    assert!(rt; output.written == replies);
+    let input = repeated(alloc, PING, 1_001, b"")?;
+    let replies = repeated(alloc, ALIVE, 999, LAST_ALIVE)?;
+    assert!(rt; ends_so(alloc, &Input::of(&input), Served::Full, &replies)?);
     Ok(())
 }
 
@@ -297,9 +304,10 @@ fn others_may_ask_between(rt: HostRuntime) -> Result<(), Fail> {
     let left = desk.left();
     drop(desk);
     let output = output?;
-    assert_eq!(rt; output.served, Served::Closed);
-    assert_eq!(rt; output.written.as_slice(), ALIVE);
-    assert_eq!(rt; left, 999);
+    assert_eq!(rt;
+        (output.served, output.written.as_slice(), left),
+        (Served::Closed, ALIVE, 999)
+    );
     Ok(())
 }
 

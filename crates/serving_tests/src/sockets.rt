@@ -82,14 +82,40 @@ fn peers_come_over_sockets(rt: HostRuntime) -> Result<(), Fail> {
     Ok(())
 }
 
+/// Whether nothing else may listen at an address.
+fn is_taken(rt: &HostRuntime, address: SocketAddr) -> bool {
+    match TcpListener::bind(rt, address) {
+        Ok(listener) => {
+            drop(listener);
+            false
+        }
+        Err(_) => true,
+    }
+}
+
+/// Whether no door opens at the address of this text.
+fn is_refused(rt: HostRuntime, text: &str) -> bool {
+    match HostListener::bind(rt, text) {
+        Ok(door) => {
+            drop(door);
+            false
+        }
+        Err(_) => true,
+    }
+}
+
 #[test]
 fn a_port_that_is_taken_is_refused(rt: HostRuntime) -> Result<(), Fail> {
     let address = free_address(&rt)?;
     let text = text_of(rt.alloc(), address)?;
     let door = HostListener::bind(rt, text.as_str())?;
-    assert!(rt; TcpListener::bind(&rt, address).is_err());
-    assert!(rt; HostListener::bind(rt, text.as_str()).is_err());
-    assert!(rt; HostListener::bind(rt, "no address").is_err());
-    assert_eq!(rt; door.why(), None);
+    let is_well = door.why().is_none();
+    let told = [
+        is_taken(&rt, address),
+        is_refused(rt, text.as_str()),
+        is_refused(rt, "no address"),
+    ];
+    drop(door);
+    assert_eq!(rt; (is_well, told), (true, [true; 3]));
     Ok(())
 }

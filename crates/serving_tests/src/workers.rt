@@ -7,13 +7,15 @@ ghost use Rattle.farm_machine.specs.State.{State};
 use farm_core::{Bare, bare_farms_cross_threads};
 use farm_files::read_farm;
 use farm_machine::config::Config;
-use farm_server::NoGate;
+use farm_server::{Gate, NoGate};
 use farm_serving::{Ended, MemoryListener, Returned, Worker, serve};
 use farm_text::{ListClock, ListDraws};
 use http_wire::{Joined, MemoryLink, MemorySink, MemorySource};
 use shared_desk::{Shared, Token};
 use std::alloc::{AllocError, Global};
+use std::sync::Wait;
 use std::test::Fail;
+use std::thread::Threads;
 
 const PING: &[u8] = b"GET /api/queue/v1/ping HTTP/1.1\r\n\r\n";
 
@@ -121,39 +123,56 @@ fn troubled(alloc: Global) -> Result<MemoryWorker, AllocError> {
     }
 }
 
-#[test]
-fn one_worker(rt: HostRuntime) -> Result<(), Fail> {
-    let alloc = rt.alloc();
-    let mut workers = [troubled(alloc)?];
-    let (shared, token) = match desk(alloc) {
-        Ok(made) => made,
-        Err(error) => {
-            drop(workers);
-            return Err(error);
-        }
-    };
+/// Lets workers with doors in memory serve at a desk of an empty farm, each with so many accepts: what came of it, and how many messages
+/// were asked.
+fn served<R: Threads + Wait + Sync, G: Gate + Send>(
+    rt: &R,
+    alloc: Global,
+    workers: &mut [Worker<MemoryListener, ListClock, ListDraws, G>],
+    accepts: u64,
+) -> Result<(Ended, u64), Fail>
+    requires left { length workers.old * (accepts * REQUESTS) ≤ 9223372036854775808 }
+{
+    let (shared, token) = desk(alloc)?;
     bare_farms_cross_threads();
-    let (token, ended) = serve(&rt, alloc, &shared, token, &mut workers, 6);
+    let (token, ended) = serve(rt, alloc, &shared, token, workers, accepts);
     let asked = token.asked();
     drop(token);
     drop(shared);
-    assert_eq!(rt;
-        ended,
-        Ended {
-            served: 6,
-            accept_faults: 2,
-            read_faults: 1,
-            write_faults: 1,
-            wire_faults: 1,
-            no_memory: 0,
-        }
-    );
-    assert_eq!(rt; asked, 6);
-    let back = workers[0].door.returned();
-    assert!(rt; back.len() == 4);
-    assert!(rt; was_alive(&back[0], 3, 2) && was_alive(&back[1], 1, 1));
-    assert!(rt; was_alive(&back[2], 2, 1) && back[3].asked == 0);
+    Ok((ended, asked))
+}
+
+/// Whether the links of such a worker came back as they have to.
+fn were_served(worker: &MemoryWorker) -> bool {
+    let back = worker.door.returned();
+    back.len() == 4
+        && was_alive(&back[0], 3, 2)
+        && was_alive(&back[1], 1, 1)
+        && was_alive(&back[2], 2, 1)
+        && back[3].asked == 0
+}
+
+/// What came of six accepts of such a worker, how many messages were asked, and whether its links came back so.
+fn one_serves<R: Threads + Wait + Sync>(rt: &R, alloc: Global) -> Result<(Ended, u64, bool), Fail> {
+    let mut workers = [troubled(alloc)?];
+    let told = served(rt, alloc, &mut workers, 6);
+    let were_served = were_served(&workers[0]);
     drop(workers);
+    let (ended, asked) = told?;
+    Ok((ended, asked, were_served))
+}
+
+#[test]
+fn one_worker(rt: HostRuntime) -> Result<(), Fail> {
+    let wanted = Ended {
+        served: 6,
+        accept_faults: 2,
+        read_faults: 1,
+        write_faults: 1,
+        wire_faults: 1,
+        no_memory: 0,
+    };
+    assert_eq!(rt; one_serves(&rt, rt.alloc())?, (wanted, 6, true));
     Ok(())
 }
 
@@ -213,37 +232,35 @@ fn was_pinged(worker: &MemoryWorker, pings: u64) -> bool {
     back.len() == 2 && was_alive(&back[0], pings, pings) && was_alive(&back[1], 1, 1)
 }
 
-#[test]
-fn four_workers(rt: HostRuntime) -> Result<(), Fail> {
-    let alloc = rt.alloc();
+/// Whether four workers were.
+fn were_pinged(workers: &[MemoryWorker; 4]) -> bool {
+    was_pinged(&workers[0], 1)
+        && was_pinged(&workers[1], 2)
+        && was_pinged(&workers[2], 3)
+        && was_pinged(&workers[3], 4)
+}
+
+/// What came of three accepts of each of them, how many messages were asked, and whether they were.
+fn four_serve<R: Threads + Wait + Sync>(rt: &R, alloc: Global) -> Result<(Ended, u64, bool), Fail> {
     let ((first, second), (third, fourth)) = four_pinged(alloc)?;
     let mut workers = [first, second, third, fourth];
-    let (shared, token) = match desk(alloc) {
-        Ok(made) => made,
-        Err(error) => {
-            drop(workers);
-            return Err(error);
-        }
-    };
-    bare_farms_cross_threads();
-    let (token, ended) = serve(&rt, alloc, &shared, token, &mut workers, 3);
-    let asked = token.asked();
-    drop(token);
-    drop(shared);
-    assert_eq!(rt;
-        ended,
-        Ended {
-            served: 14,
-            accept_faults: 4,
-            read_faults: 0,
-            write_faults: 0,
-            wire_faults: 0,
-            no_memory: 0,
-        }
-    );
-    assert_eq!(rt; asked, 14);
-    assert!(rt; was_pinged(&workers[0], 1) && was_pinged(&workers[1], 2));
-    assert!(rt; was_pinged(&workers[2], 3) && was_pinged(&workers[3], 4));
+    let told = served(rt, alloc, &mut workers, 3);
+    let were_pinged = were_pinged(&workers);
     drop(workers);
+    let (ended, asked) = told?;
+    Ok((ended, asked, were_pinged))
+}
+
+#[test]
+fn four_workers(rt: HostRuntime) -> Result<(), Fail> {
+    let wanted = Ended {
+        served: 14,
+        accept_faults: 4,
+        read_faults: 0,
+        write_faults: 0,
+        wire_faults: 0,
+        no_memory: 0,
+    };
+    assert_eq!(rt; four_serve(&rt, rt.alloc())?, (wanted, 14, true));
     Ok(())
 }

@@ -55,16 +55,35 @@ fn asked(alloc: Global, desk: &mut Solo<Bare>, request: &str, body: &str) -> Res
     written_at(alloc, desk, text.as_str().as_bytes(), at)
 }
 
-/// Makes the task at a place of the chain: it waits for the one before it, and the first one for none.
+/// The definition of the task at a place of the chain: it waits for the one before it, and the first one for none.
+fn chained_body(alloc: Global, place: u64) -> Result<String, AllocError> {
+    match place.checked_sub(1) {
+        Some(before) => {
+            let before = chained(alloc, before)?;
+            format!(in alloc; "{WAITING}{before}\"]}}")
+        }
+        None => format!(in alloc; "{PLAIN}}}"),
+    }
+}
+
+/// Makes that task.
 fn make_chained(alloc: Global, desk: &mut Solo<Bare>, place: u64) -> Result<(), Fail> {
     let id = chained(alloc, place)?;
     let request = format!(in alloc; "PUT /api/queue/v1/task/{id}")?;
-    let body = match place.checked_sub(1) {
-        Some(before) => format!(in alloc; "{WAITING}{}\"]}}", chained(alloc, before)?)?,
-        None => format!(in alloc; "{PLAIN}}}")?,
-    };
+    let body = chained_body(alloc, place)?;
     let _written = asked(alloc, desk, request.as_str(), body.as_str())?;
     Ok(())
+}
+
+/// The reply that the task of this id is completed.
+fn completed_reply(alloc: Global, id: &str) -> Result<String, AllocError> {
+    let body = format!(in alloc;
+        "{COMPLETED}{id}\",\"taskId\":\"{id}\",\"taskQueueId\":\"prov/wt\",\"workerType\":\"wt\"}}}}"
+    )?;
+    let length = body.len();
+    format!(in alloc;
+        "HTTP/1.1 200 OK\r\nContent-Length: {length}\r\nContent-Type: application/json\r\n\r\n{body}"
+    )
 }
 
 /// Whether a worker that takes one run can report the task at a place of the chain as completed.
@@ -74,13 +93,7 @@ fn runs_chained(alloc: Global, desk: &mut Solo<Bare>, place: u64) -> Result<bool
     let _taken = asked(alloc, desk, "POST /api/queue/v1/claim-work/prov/wt", worker)?;
     let request = format!(in alloc; "POST /api/queue/v1/task/{id}/runs/0/completed")?;
     let written = asked(alloc, desk, request.as_str(), "")?;
-    let body = format!(in alloc;
-        "{COMPLETED}{id}\",\"taskId\":\"{id}\",\"taskQueueId\":\"prov/wt\",\"workerType\":\"wt\"}}}}"
-    )?;
-    let length = body.len();
-    let wanted = format!(in alloc;
-        "HTTP/1.1 200 OK\r\nContent-Length: {length}\r\nContent-Type: application/json\r\n\r\n{body}"
-    )?;
+    let wanted = completed_reply(alloc, id.as_str())?;
     Ok(written.as_slice() == wanted.as_str().as_bytes())
 }
 

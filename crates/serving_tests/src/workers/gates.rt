@@ -1,10 +1,9 @@
 //! Workers whose gates hold one until another has answered: this is so only where they run beside each other.
 ghost use Rattle.std.specs.Prelude.{None};
 
-use super::{PING, desk, link};
-use farm_core::bare_farms_cross_threads;
+use super::{PING, link, served};
 use farm_server::{Gate, When};
-use farm_serving::{Ended, MemoryListener, Worker, serve};
+use farm_serving::{MemoryListener, Worker};
 use farm_text::{ListClock, ListDraws};
 use std::alloc::{AllocError, Global};
 use std::hint;
@@ -45,12 +44,15 @@ fn await_sign(sign: &AtomicBool) -> bool {
     false
 }
 
+/// A worker with a door in memory and such a gate.
+type TurnedWorker<'a> = Worker<MemoryListener, ListClock, ListDraws, Turnstile<'a>>;
+
 /// A worker at whose door one link comes, with one ping, and whose gate is held or gives the sign.
 fn turned<'a>(
     alloc: Global,
     sign: &'a AtomicBool,
     is_held: bool,
-) -> Result<Worker<MemoryListener, ListClock, ListDraws, Turnstile<'a>>, AllocError> {
+) -> Result<TurnedWorker<'a>, AllocError> {
     let coming = vec![in alloc; link(alloc, &[PING], &[], &[])?]?;
     Ok(Worker {
         door: MemoryListener::new(alloc, coming, Vec::new(alloc), Vec::new(alloc))?,
@@ -64,6 +66,22 @@ fn turned<'a>(
     })
 }
 
+/// Two such workers, of which the gate of the first or of the second is held.
+fn two_turned<'a>(
+    alloc: Global,
+    sign: &'a AtomicBool,
+    is_first_held: bool,
+) -> Result<[TurnedWorker<'a>; 2], AllocError> {
+    let first = turned(alloc, sign, is_first_held)?;
+    match turned(alloc, sign, !is_first_held) {
+        Ok(second) => Ok([first, second]),
+        Err(error) => {
+            drop(first);
+            Err(error)
+        }
+    }
+}
+
 /// Lets two workers serve a ping each, the first or the second of which is held until the other has answered: how many messages were
 /// asked, and whether the sign came in time.
 fn ask_through_gates<R: Threads + Wait + Sync>(
@@ -72,29 +90,12 @@ fn ask_through_gates<R: Threads + Wait + Sync>(
     is_first_held: bool,
 ) -> Result<(u64, bool), Fail> {
     let sign = AtomicBool::new(false);
-    let first = turned(alloc, &sign, is_first_held)?;
-    let second = match turned(alloc, &sign, !is_first_held) {
-        Ok(second) => second,
-        Err(error) => {
-            drop(first);
-            return Err(Fail::from(error));
-        }
-    };
-    let mut workers = [first, second];
-    let (shared, token) = match desk(alloc) {
-        Ok(made) => made,
-        Err(error) => {
-            drop(workers);
-            return Err(error);
-        }
-    };
-    bare_farms_cross_threads();
-    let (token, Ended { served, .. }) = serve(rt, alloc, &shared, token, &mut workers, 1);
-    drop(token);
-    drop(shared);
-    let came_in_time = workers.iter().any(|worker| worker.gate.came_in_time);
+    let mut workers = two_turned(alloc, &sign, is_first_held)?;
+    let told = served(rt, alloc, &mut workers, 1);
+    let came_in_time = workers[0].gate.came_in_time || workers[1].gate.came_in_time;
     drop(workers);
-    Ok((served, came_in_time))
+    let (_, asked) = told?;
+    Ok((asked, came_in_time))
 }
 
 #[test]
