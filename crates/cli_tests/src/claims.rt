@@ -155,7 +155,6 @@ fn two_claim(
 fn two_workers_claim_at_once(rt: HostRuntime) -> Result<(), Fail> {
     let bytes = disk_with_a_task(&rt, rt.alloc())?;
     let (is_done, told) = two_claim(&rt, rt.alloc(), &bytes)?;
-    assert!(rt; is_done);
-    assert_eq!(rt; told.as_str(), "1 1");
+    assert_eq!(rt; (is_done, told.as_str()), (true, "1 1"));
     Ok(())
 }

@@ -172,8 +172,8 @@ fn keeps(rt: &(impl Threads + Wait + Sync), alloc: Global) -> Result<[bool; 3], 
 #[test]
 fn a_disk_keeps_what_was_acknowledged(rt: HostRuntime) -> Result<(), Fail> {
     let empty: &[u8] = b"ok roles=1 clients=0 hooks=0 records=0 tasks=0\n";
-    assert!(rt; checked(&rt, rt.alloc(), &[])?.as_slice() == empty);
-    assert_eq!(rt; keeps(&rt, rt.alloc())?, [true, true, true]);
+    let is_empty = checked(&rt, rt.alloc(), &[])?.as_slice() == empty;
+    assert_eq!(rt; (is_empty, keeps(&rt, rt.alloc())?), (true, [true; 3]));
     Ok(())
 }
 

@@ -63,8 +63,7 @@ fn the_system_lends_files_and_draws(rt: HostRuntime) -> Result<(), Fail> {
         Some(ErrorKind::NotFound),
         Some(ErrorKind::IsADirectory),
     ];
-    assert!(rt; files == ["refused", "unread", "empty"]);
-    assert!(rt; reasons == wanted);
-    assert!(rt; is_other);
+    let are_so = files == ["refused", "unread", "empty"];
+    assert_eq!(rt; [are_so, reasons == wanted, is_other], [true; 3]);
     Ok(())
 }

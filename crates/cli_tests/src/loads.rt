@@ -52,14 +52,13 @@ fn loads_end_as_the_model_has_it(rt: HostRuntime) -> Result<(), Fail> {
 /// The greatest seed, and one that leaves the generator as 0 does.
 #[test]
 fn a_seed_may_be_any_number(rt: HostRuntime) -> Result<(), Fail> {
-    assert_eq!(rt;
-        line_of(rt.alloc(), 2_147_483_648, 3)?.as_str(),
-        "tasks=3 completed=2 failed=1 exception=0 unscheduled=0 runs=4\n"
-    );
-    assert_eq!(rt;
-        line_of(rt.alloc(), 9_223_372_036_854_775_807, 50)?.as_str(),
-        "tasks=50 completed=31 failed=12 exception=2 unscheduled=5 runs=61\n"
-    );
+    let three = line_of(rt.alloc(), 2_147_483_648, 3)?;
+    let fifty = line_of(rt.alloc(), 9_223_372_036_854_775_807, 50)?;
+    let wanted = [
+        "tasks=3 completed=2 failed=1 exception=0 unscheduled=0 runs=4\n",
+        "tasks=50 completed=31 failed=12 exception=2 unscheduled=5 runs=61\n",
+    ];
+    assert_eq!(rt; [three.as_str(), fifty.as_str()], wanted);
     Ok(())
 }
 

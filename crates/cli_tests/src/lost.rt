@@ -89,7 +89,6 @@ fn loses(rt: &(impl Threads + Wait + Sync), alloc: Global) -> Result<([bool; 3],
 #[test]
 fn a_lost_run_is_four_records(rt: HostRuntime) -> Result<(), Fail> {
     let (replies, is_kept) = loses(&rt, rt.alloc())?;
-    assert_eq!(rt; replies, [true, true, true]);
-    assert!(rt; is_kept);
+    assert_eq!(rt; (replies, is_kept), ([true; 3], true));
     Ok(())
 }

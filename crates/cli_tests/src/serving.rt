@@ -160,9 +160,10 @@ fn one_serves(
 #[test]
 fn a_worker_serves_its_connections(rt: HostRuntime) -> Result<(), Fail> {
     let (is_so, doors, is_kept) = one_serves(&rt, rt.alloc())?;
-    assert!(rt; is_so);
-    assert_eq!(rt; doors.as_str(), ": alive 2 done 1");
-    assert!(rt; is_kept);
+    assert_eq!(rt;
+        (is_so, doors.as_str(), is_kept),
+        (true, ": alive 2 done 1", true)
+    );
     Ok(())
 }
 
@@ -204,8 +205,10 @@ fn four_serve(rt: &(impl Threads + Wait + Sync), alloc: Global) -> Result<(bool,
 #[test]
 fn four_workers_serve(rt: HostRuntime) -> Result<(), Fail> {
     let (is_so, doors) = four_serve(&rt, rt.alloc())?;
-    assert!(rt; is_so);
-    assert_eq!(rt; doors.as_str(), ": alive 1: alive 2: alive 3: alive 4");
+    assert_eq!(rt;
+        (is_so, doors.as_str()),
+        (true, ": alive 1: alive 2: alive 3: alive 4")
+    );
     Ok(())
 }
 
