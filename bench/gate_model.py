@@ -15,7 +15,7 @@ import os
 import sys
 
 # `rattle build` of each library and of each crate's tests, 30 November 2026, on a machine of 2.5 GHz whose host took up to a quarter of its processors away at times
-# (role_expand 5.6); task_tests and farm_tests by several jobs, which cost more than one. A crate that is not here takes a few seconds.
+# (role_expand 5.6); the tests later that day on another, beside much other work. A crate that is not here takes a few seconds.
 TIMES = {
     "causes": 0.3, "scope_sets": 1.2, "jsone_expr": 2.8, "dep_graph": 2.2, "farm_text": 5.1, "role_expand": 5.6, "http_wire": 3.2, "disk_base": 2.2,
     "disk_journal": 1.5, "route_table": 1.3, "shared_desk": 2.4, "task_groups": 1.2, "slug_places": 0.4, "scope_lines": 1.0, "plain_text": 0.6,
@@ -25,8 +25,8 @@ TIMES = {
     "farm_cli": 10.1, "farm": 0.9,
 }
 TESTS = {
-    "text_tests": 11.3, "expression_tests": 6.3, "task_tests": 19.2, "farm_tests": 12.1, "disk_tests": 9.8, "server_tests": 12.3, "serving_tests": 6.9,
-    "cli_tests": 8.4, "shared_desk": 3.7, "farm_desk": 0.7, "history": 0.4,
+    "text_tests": 10.2, "expression_tests": 5.9, "task_tests": 13.0, "farm_tests": 10.2, "disk_tests": 8.8, "server_tests": 11.5, "serving_tests": 6.4,
+    "cli_tests": 11.0, "shared_desk": 3.7, "farm_desk": 0.7, "history": 0.4,
 }
 # An edit over what its crate's seed, a proof of the crate, has left.
 EDIT = 0.7
