@@ -94,8 +94,8 @@ fn ask_through_gates<R: Threads + Wait + Sync>(
     let told = served(rt, alloc, &mut workers, 1);
     let came_in_time = workers[0].gate.came_in_time || workers[1].gate.came_in_time;
     drop(workers);
-    let (_, asked) = told?;
-    Ok((asked, came_in_time))
+    let (ended, _) = told?;
+    Ok((ended.served, came_in_time))
 }
 
 #[test]
