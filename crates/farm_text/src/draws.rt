@@ -9,8 +9,8 @@ ghost use Rattle.farm_text.specs.Told.{told_by, listed_id, IsNewBeside};
 
 use crate::slug::SlugId;
 use causes::{Failed, FaultCount};
-use rand::SeedableRng;
-use rand::rngs::StdRng;
+use rand_chacha::ChaCha12Rng;
+use rand_core::SeedableRng;
 use std::alloc::AllocError;
 use std::marker::Model;
 use std::random::RandomSource;
@@ -87,7 +87,7 @@ impl Draws for ListDraws {
 /// A contract sees them as that generator.
 #[derive(Drop)]
 pub struct HostDraws {
-    generator: StdRng,
+    generator: ChaCha12Rng,
 }
 
 impl Model for HostDraws {
@@ -104,8 +104,11 @@ impl HostDraws {
         ensures seeded { IfOk result IsSeeded }
         ensures cause { HasCause refused.old refused.new result }
     {
-        match rand::make_rng(rt) {
-            Ok(generator) => Ok(HostDraws { generator }),
+        let mut seed = [0; 32];
+        match rt.fill_bytes(&mut seed) {
+            Ok(()) => Ok(HostDraws {
+                generator: ChaCha12Rng::from_seed(seed),
+            }),
             Err(_) => {
                 refused.raise();
                 Err(Failed)
