@@ -14,6 +14,3 @@ mod view;
 pub use pass::Pass;
 pub use shared::Shared;
 pub use token::Token;
-
-#[cfg(test)]
-mod tests;

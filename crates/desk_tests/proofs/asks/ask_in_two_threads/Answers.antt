@@ -1,0 +1,23 @@
+-- Two asks in each of two threads are four calls.
+use Rattle.std.proofs.Common.{◌≡◌, length, ap, ◌∙◌, arith, length-append}
+use Rattle.std.proofs.lemmas.List.Sorted.{length_permutation}
+use Rattle.desk_tests.proofs.asks.ask_in_two_threads.Goals as goal
+
+pub returns : goal.returns
+returns g c =
+    let ends = c.close-object.ensures.ends in
+    let token = c.token-token.result in
+    let first = ap (λ h. h.asks) c.join-first.ensures.first.0 in
+    let second = ap (λ h. h.asks) c.join-first.ensures.second.0 in
+    let began = c.pass-pass.ensures.same ∙ c.requires in
+    let left = ap (λ s. s.left) began in
+    let mine = ap (λ s. length s.mine) began in
+    let split = ap (λ s. s.left) c.split-other.ensures.old in
+    let split_mine = ap (λ s. length s.mine) c.split-other.ensures.old in
+    let new = ap (λ s. s.left) c.split-other.ensures.new in
+    let new_mine = ap (λ s. length s.mine) c.split-other.ensures.new in
+    let both = ap length c.join.ensures.joined.mine ∙ length-append c.join-first.result.0.0.mine c.join-first.result.1.0.mine in
+    let both_left = c.join.ensures.joined.left in
+    let last = ap (λ s. length s.mine) c.token-token.ensures in
+    let own : length token.mine ≡ 4 = omega (arith, c.join-first.ensures.first.1, c.join-first.ensures.second.1) in
+    (token.seen, ends.0, ends.2, length_permutation token.mine ends.0 ends.1 ∙ own)
