@@ -5,8 +5,8 @@ use Rattle.percent_encoding.specs.Percent.{percent_decode}
 use Rattle.http_wire.specs.declared.message.Message.{Message}
 use Rattle.route_table.specs.declared.route.Route.{Route}
 use Rattle.route_table.specs.Fits.{Fits}
-use Rattle.farm_machine.specs.declared.question.Call.{Call}
-use Rattle.farm_machine.specs.declared.question.Call.TheVariants.{NoRoute}
+use Rattle.farm_asks.specs.declared.question.Call.{Call}
+use Rattle.farm_asks.specs.declared.question.Call.TheVariants.{NoRoute}
 use Rattle.api_routes.specs.Calls.{Request, Calls}
 use Rattle.api_routes.specs.Names.{route_name}
 use Rattle.api_routes.specs.Routes.{path_of, query_of, request_of, IsCallOf}

@@ -6,12 +6,12 @@ use Rattle.farm_record.specs.declared.change.Report.TheVariants.{Completed, Fail
 use Rattle.task_defs.specs.Forms.{queue_name}
 use Rattle.task_defs.specs.declared.names.TaskQueue.{TaskQueue}
 use Rattle.http_wire.specs.declared.message.Message.{Message}
-use Rattle.farm_machine.specs.declared.question.Call.{Call}
-use Rattle.farm_machine.specs.declared.question.Call.TheVariants.{CreateTask, Task, Status, ListTaskGroup, ListDependentTasks, ScheduleTask, RerunTask, CancelTask}
-use Rattle.farm_machine.specs.declared.question.PageRequest.{PageRequest}
-use Rattle.farm_machine.specs.declared.question.Parameter.{Parameter}
-use Rattle.farm_machine.specs.declared.question.Parameter.TheVariants.{TaskId, TaskGroupId}
-use Rattle.farm_machine.specs.Written.{IsSaidCall}
+use Rattle.farm_asks.specs.declared.question.Call.{Call}
+use Rattle.farm_asks.specs.declared.question.Call.TheVariants.{CreateTask, Task, Status, ListTaskGroup, ListDependentTasks, ScheduleTask, RerunTask, CancelTask}
+use Rattle.farm_asks.specs.declared.question.PageRequest.{PageRequest}
+use Rattle.farm_asks.specs.declared.question.Parameter.{Parameter}
+use Rattle.farm_asks.specs.declared.question.Parameter.TheVariants.{TaskId, TaskGroupId}
+use Rattle.farm_asks.specs.Questions.{IsSaidCall}
 use Rattle.route_table.specs.declared.route.Route.{Route}
 use Rattle.route_table.specs.declared.route.Route.TheVariants as routes
 use Rattle.api_routes.specs.Bodies.{IsTaskBody, IsCreateCall, IsWorkBody, IsReasonBody, IsTriggerBody}

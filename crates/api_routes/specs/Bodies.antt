@@ -13,12 +13,12 @@ use Rattle.farm_record.specs.declared.change.Creation.{Creation}
 use Rattle.farm_record.specs.declared.change.Report.{Report}
 use Rattle.farm_record.specs.declared.change.Report.TheVariants as reports
 use Rattle.farm_record.specs.declared.change.RunName.{RunName}
-use Rattle.farm_machine.specs.declared.question.BodyFault.{BodyFault}
-use Rattle.farm_machine.specs.declared.question.BodyFault.TheVariants.{NotJson, NotWhole, NoDefinition, NoWork, NoReason, NoPayload}
-use Rattle.farm_machine.specs.declared.question.Call.{Call}
-use Rattle.farm_machine.specs.declared.question.Call.TheVariants.{BadParameter, BadBody, CreateTask, ClaimWork, ReportRun, TriggerHook}
-use Rattle.farm_machine.specs.declared.question.WorkRequest.{WorkRequest}
-use Rattle.farm_machine.specs.declared.question.Parameter.TheVariants.{TaskId}
+use Rattle.farm_asks.specs.declared.question.BodyFault.{BodyFault}
+use Rattle.farm_asks.specs.declared.question.BodyFault.TheVariants.{NotJson, NotWhole, NoDefinition, NoWork, NoReason, NoPayload}
+use Rattle.farm_asks.specs.declared.question.Call.{Call}
+use Rattle.farm_asks.specs.declared.question.Call.TheVariants.{BadParameter, BadBody, CreateTask, ClaimWork, ReportRun, TriggerHook}
+use Rattle.farm_asks.specs.declared.question.WorkRequest.{WorkRequest}
+use Rattle.farm_asks.specs.declared.question.Parameter.TheVariants.{TaskId}
 
 -- the body is JSON of this document, in which each number is whole
 pub record IsDocument (body : List ℕ) (d : Document) : Type 0 where

@@ -9,11 +9,11 @@ use Rattle.task_defs.specs.declared.names.TaskQueue.{TaskQueue}
 use Rattle.farm_record.specs.declared.change.Report.{Report}
 use Rattle.farm_record.specs.declared.change.Report.TheVariants.{Completed, Failed}
 use Rattle.farm_record.specs.declared.change.RunName.{RunName}
-use Rattle.farm_machine.specs.declared.question.Call.{Call}
-use Rattle.farm_machine.specs.declared.question.Call.TheVariants.{BadParameter, Ping, Task, Status, ListTaskGroup, ListDependentTasks, PendingTasks, ReclaimTask, ReportRun, ScheduleTask, RerunTask, CancelTask}
-use Rattle.farm_machine.specs.declared.question.PageRequest.{PageRequest}
-use Rattle.farm_machine.specs.declared.question.Parameter.{Parameter}
-use Rattle.farm_machine.specs.declared.question.Parameter.TheVariants.{TaskId, RunId, TaskGroupId, Queue, HookGroupId, HookId, Limit, ContinuationToken}
+use Rattle.farm_asks.specs.declared.question.Call.{Call}
+use Rattle.farm_asks.specs.declared.question.Call.TheVariants.{BadParameter, Ping, Task, Status, ListTaskGroup, ListDependentTasks, PendingTasks, ReclaimTask, ReportRun, ScheduleTask, RerunTask, CancelTask}
+use Rattle.farm_asks.specs.declared.question.PageRequest.{PageRequest}
+use Rattle.farm_asks.specs.declared.question.Parameter.{Parameter}
+use Rattle.farm_asks.specs.declared.question.Parameter.TheVariants.{TaskId, RunId, TaskGroupId, Queue, HookGroupId, HookId, Limit, ContinuationToken}
 use Rattle.route_table.specs.declared.route.Route.{Route}
 use Rattle.route_table.specs.declared.route.Route.TheVariants as routes
 use Rattle.api_routes.specs.Bodies.{IsCreateCall, IsWorkBody, IsReasonBody, IsTriggerBody}

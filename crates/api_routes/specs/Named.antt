@@ -1,6 +1,6 @@
 -- What a path names for a run, as the code has it; for private clauses.
 use Rattle.std.specs.Prelude.{ℕ, List, Option, Some, None}
-use Rattle.farm_machine.specs.declared.question.Parameter.TheVariants.{TaskId, RunId}
+use Rattle.farm_asks.specs.declared.question.Parameter.TheVariants.{TaskId, RunId}
 use Rattle.api_routes.specs.declared.parts.Named.{Named}
 use Rattle.api_routes.specs.declared.parts.Named.TheVariants.{Run, Bad}
 

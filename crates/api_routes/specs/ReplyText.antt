@@ -4,9 +4,9 @@ use Rattle.http.specs.StatusCode.{reason_phrase}
 use Rattle.http_wire.specs.declared.message.Wire.{Wire}
 use Rattle.http_wire.specs.declared.message.Wire.TheVariants.{End, HeadFault, HeadTooLarge, NoLength, BodyTooLarge, EndedInside, ReadFault, NoMemory}
 use Rattle.farm_text.specs.Document.{no_members}
-use Rattle.farm_machine.specs.declared.reply.Answer.{Answer}
-use Rattle.farm_machine.specs.declared.reply.Reply.{Reply}
-use Rattle.farm_machine.specs.Replies.{answer_of, error_text}
+use Rattle.farm_asks.specs.declared.reply.Answer.{Answer}
+use Rattle.farm_asks.specs.declared.reply.Reply.{Reply}
+use Rattle.farm_asks.specs.Replies.{answer_of, error_text}
 
 -- a line, with its end
 abbrev pub line : List ℕ → List ℕ

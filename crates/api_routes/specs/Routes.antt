@@ -5,12 +5,12 @@ use Rattle.percent_encoding.specs.Percent.{percent_decode}
 use Rattle.http_wire.specs.declared.message.Message.{Message}
 use Rattle.route_table.specs.Fits.{Fits}
 use Rattle.route_table.specs.declared.route.Route.{Route}
-use Rattle.farm_machine.specs.declared.question.Call.{Call}
-use Rattle.farm_machine.specs.declared.question.Call.TheVariants.{NoRoute}
-use Rattle.farm_machine.specs.declared.question.Caller.{Caller}
-use Rattle.farm_machine.specs.declared.question.Caller.TheVariants.{Anonymous, Signed}
-use Rattle.farm_machine.specs.declared.question.Credentials.{Credentials}
-use Rattle.farm_machine.specs.Entry.{Asking}
+use Rattle.farm_asks.specs.declared.question.Call.{Call}
+use Rattle.farm_asks.specs.declared.question.Call.TheVariants.{NoRoute}
+use Rattle.farm_asks.specs.declared.question.Caller.{Caller}
+use Rattle.farm_asks.specs.declared.question.Caller.TheVariants.{Anonymous, Signed}
+use Rattle.farm_asks.specs.declared.question.Credentials.{Credentials}
+use Rattle.farm_asks.specs.Questions.{Asking}
 use Rattle.api_routes.specs.Calls.{Request, Calls}
 use Rattle.api_routes.specs.Names.{route_name}
 

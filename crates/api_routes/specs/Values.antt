@@ -1,6 +1,6 @@
 -- What a query says of a name, as the code has it; for private clauses.
 use Rattle.std.specs.Prelude.{◌≡◌, ℕ, ◌≤◌, List, [], ◌∷◌, length, Option, Some, None}
-use Rattle.farm_machine.specs.declared.question.Parameter.TheVariants.{Limit, ContinuationToken}
+use Rattle.farm_asks.specs.declared.question.Parameter.TheVariants.{Limit, ContinuationToken}
 use Rattle.api_routes.specs.declared.queries.Value.{Value}
 use Rattle.api_routes.specs.declared.queries.Value.TheVariants.{Absent, Once, Repeated}
 use Rattle.api_routes.specs.declared.queries.PageAsked.{PageAsked}

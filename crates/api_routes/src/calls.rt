@@ -13,7 +13,7 @@ use crate::parts::{
 };
 use crate::queries::{PageAsked, page_of};
 use call_rules::HookName;
-use farm_machine::question::{Call, Parameter};
+use farm_asks::question::{Call, Parameter};
 use farm_record::{Report, Resolution};
 use route_table::Route;
 use std::alloc::{AllocError, Global};

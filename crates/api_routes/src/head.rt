@@ -1,9 +1,9 @@
 //! The head of a reply.
 ghost use Rattle.std.specs.Prelude.{◌≡◌, ◌+◌, ◌≤◌, [], ◌++◌, if◌then◌else◌, length, codes, decimal};
-ghost use Rattle.farm_machine.specs.Replies.{answer_of};
+ghost use Rattle.farm_asks.specs.Replies.{answer_of};
 ghost use Rattle.api_routes.specs.ReplyText.{line, phrase, head_text};
 
-use farm_machine::reply::Reply;
+use farm_asks::reply::Reply;
 use http::StatusCode;
 use itoa::Buffer;
 use std::marker::Model;

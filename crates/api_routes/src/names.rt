@@ -2,7 +2,7 @@
 ghost use Rattle.std.specs.Prelude.{◌≡◌, IfOk};
 ghost use Rattle.api_routes.specs.Names as names;
 
-use farm_machine::question::Call;
+use farm_asks::question::Call;
 use farm_text::Text;
 use scope_sets::scopes::is_printable;
 use std::alloc::{AllocError, Global};

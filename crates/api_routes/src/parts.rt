@@ -10,7 +10,7 @@ ghost use Rattle.api_routes.specs.Calls as calls;
 ghost use Rattle.api_routes.specs.Named.{named_of};
 
 use call_rules::{HookGroupId, HookId};
-use farm_machine::question::Parameter;
+use farm_asks::question::Parameter;
 use farm_record::RunName;
 use farm_text::{SlugId, Text};
 use itoa::Buffer;

@@ -5,7 +5,7 @@ ghost use Rattle.api_routes.specs.Queries as queries;
 ghost use Rattle.api_routes.specs.Values.{IsValue, asked_of};
 
 use crate::parts::number_in;
-use farm_machine::question::{PageRequest, Parameter};
+use farm_asks::question::{PageRequest, Parameter};
 use farm_text::SlugId;
 use std::alloc::{AllocError, Global};
 

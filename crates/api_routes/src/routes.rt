@@ -5,7 +5,7 @@ ghost use Rattle.api_routes.specs.Routes as routes;
 use crate::calls::route_call;
 use crate::names::no_route;
 use crate::queries::cut;
-use farm_machine::question::{Call, Caller, Credentials};
+use farm_asks::question::{Call, Caller, Credentials};
 use http_wire::Message;
 use route_table::{Found, Table};
 use std::alloc::{AllocError, Global};

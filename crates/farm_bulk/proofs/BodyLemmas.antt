@@ -1,8 +1,8 @@
 -- The body of a reply is its last line.
 use Rattle.std.proofs.Common.{◌≡◌, ℕ, Bool, List, [], ◌∷◌, ◌++◌, length, codes, decimal, if◌then◌else◌, refl, append_assoc}
 use Rattle.std.specs.List.{Contains}
-use Rattle.farm_machine.specs.Replies.{answer_of}
-use Rattle.farm_machine.specs.declared.reply.Reply.{Reply}
+use Rattle.farm_asks.specs.Replies.{answer_of}
+use Rattle.farm_asks.specs.declared.reply.Reply.{Reply}
 use Rattle.api_routes.specs.ReplyText.{reply_text, line, phrase}
 use Rattle.farm_bulk.specs.Replies.{IsLastLine}
 

@@ -18,15 +18,15 @@ use Rattle.farm_record.specs.declared.change.Report.{Report}
 use Rattle.farm_record.specs.declared.change.Report.TheVariants.{Completed, Failed, Superseded, WorkerShutdown, MalformedPayload, ResourceUnavailable, InternalError, IntermittentTask}
 use Rattle.farm_record.specs.declared.change.Resolution.{Resolution}
 use Rattle.farm_record.specs.declared.change.RunName.{RunName}
-use Rattle.farm_machine.specs.declared.question.BodyFault.{BodyFault}
-use Rattle.farm_machine.specs.declared.question.BodyFault.TheVariants.{NotJson, NotWhole, NoDefinition, NoWork, NoReason, NoPayload}
-use Rattle.farm_machine.specs.declared.question.Call.{Call}
-use Rattle.farm_machine.specs.declared.question.Call.TheVariants.{BadBody, Task, Status, ListTaskGroup, ListDependentTasks, CreateTask, ClaimWork, ReportRun, ScheduleTask, RerunTask, CancelTask, TriggerHook}
-use Rattle.farm_machine.specs.declared.question.Trigger.{Trigger}
-use Rattle.farm_machine.specs.declared.question.WorkRequest.{WorkRequest}
-use Rattle.farm_machine.specs.declared.question.Parameter.{Parameter}
-use Rattle.farm_machine.specs.declared.question.PageRequest.{PageRequest}
-use Rattle.farm_machine.specs.declared.question.Parameter.TheVariants.{TaskId, TaskGroupId}
+use Rattle.farm_asks.specs.declared.question.BodyFault.{BodyFault}
+use Rattle.farm_asks.specs.declared.question.BodyFault.TheVariants.{NotJson, NotWhole, NoDefinition, NoWork, NoReason, NoPayload}
+use Rattle.farm_asks.specs.declared.question.Call.{Call}
+use Rattle.farm_asks.specs.declared.question.Call.TheVariants.{BadBody, Task, Status, ListTaskGroup, ListDependentTasks, CreateTask, ClaimWork, ReportRun, ScheduleTask, RerunTask, CancelTask, TriggerHook}
+use Rattle.farm_asks.specs.declared.question.Trigger.{Trigger}
+use Rattle.farm_asks.specs.declared.question.WorkRequest.{WorkRequest}
+use Rattle.farm_asks.specs.declared.question.Parameter.{Parameter}
+use Rattle.farm_asks.specs.declared.question.PageRequest.{PageRequest}
+use Rattle.farm_asks.specs.declared.question.Parameter.TheVariants.{TaskId, TaskGroupId}
 use Rattle.route_table.specs.Fits.{NoTwoFit}
 use Rattle.route_table.specs.Routes.{path_of as path_form, segments_of}
 use Rattle.route_table.specs.Segments.{parameters_in, parts_of}

@@ -11,15 +11,16 @@ use Rattle.history.proofs.HistoriesLemmas.{end_state-append}
 use Rattle.memchr.specs.Find.{OccursAt}
 use Rattle.farm_text.specs.Told.{told_by, first_uuid}
 use Rattle.farm_machine.specs.Changes.{moment_of}
-use Rattle.farm_machine.specs.Entry.{Asking, Entry, tick}
+use Rattle.farm_asks.specs.Questions.{Asking}
+use Rattle.farm_machine.specs.Entry.{Entry, tick}
 use Rattle.farm_machine.specs.Law.{Opening, opened}
 use Rattle.farm_machine.specs.State.{State}
 use Rattle.farm_machine.specs.Step.{farm_rules}
-use Rattle.farm_machine.specs.declared.reply.Asked.{Asked}
-use Rattle.farm_machine.specs.declared.reply.Reply.{Reply}
-use Rattle.farm_machine.specs.declared.reply.Reply.TheVariants.{OutOfMemory}
+use Rattle.farm_asks.specs.declared.reply.Asked.{Asked}
+use Rattle.farm_asks.specs.declared.reply.Reply.{Reply}
+use Rattle.farm_asks.specs.declared.reply.Reply.TheVariants.{OutOfMemory}
 use Rattle.api_routes.specs.ReplyText.{reply_text, line, phrase}
-use Rattle.farm_machine.specs.Replies.{no_memory}
+use Rattle.farm_asks.specs.Replies.{no_memory}
 use Rattle.farm_core.specs.Diskless.{HasNoDisk, HaveNoDisk}
 use Rattle.farm_server.specs.Served.{Outside, Ask, messages_of, questions_of, reply_texts, EndsAs, Writes, SpokeWithin}
 use Rattle.farm_server.specs.declared.served.Served.{Served}

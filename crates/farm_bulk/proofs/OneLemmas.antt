@@ -13,14 +13,15 @@ use Rattle.farm_rows.specs.Due.{is_due}
 use Rattle.farm_rows.specs.Summary.{summary_of}
 use Rattle.farm_rows.specs.declared.summary.Summary.{Summary}
 use Rattle.farm_machine.specs.Changes.{moment_of}
-use Rattle.farm_machine.specs.Entry.{Asking, finished, out_of_memory, disk_failed, was_halted, Entry, tick, call}
+use Rattle.farm_asks.specs.Questions.{Asking}
+use Rattle.farm_machine.specs.Entry.{finished, out_of_memory, disk_failed, was_halted, Entry, tick, call}
 use Rattle.farm_core.specs.Diskless.{HasNoDisk}
 use Rattle.farm_machine.specs.Judgement.{Judgement}
 use Rattle.farm_machine.specs.State.{State, empty_state}
 use Rattle.farm_machine.specs.Step.{farm_rules, lawful, asked, reply as reply_in}
 use Rattle.farm_machine.specs.Verdict.{IsVerdict}
-use Rattle.farm_machine.specs.declared.reply.Reply.{Reply}
-use Rattle.farm_machine.specs.declared.reply.Reply.TheVariants.{Answered, OutOfMemory}
+use Rattle.farm_asks.specs.declared.reply.Reply.{Reply}
+use Rattle.farm_asks.specs.declared.reply.Reply.TheVariants.{Answered, OutOfMemory}
 use Rattle.farm_server.specs.Served.{Ask, messages_of, questions_of, AreRouted, reply_texts, EndsAs}
 use Rattle.farm_server.specs.declared.served.Served.TheVariants.{Closed, Full}
 use Rattle.farm_server.specs.declared.served.TheConstants.{REQUESTS}

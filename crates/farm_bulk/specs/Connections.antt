@@ -2,11 +2,12 @@
 use Rattle.std.specs.Prelude.{◌≡◌, ◌≢◌, ◌⊎◌, ℕ, Bool, List, [], ◌∷◌}
 use Rattle.history.specs.Asks.{IsAsk}
 use Rattle.farm_text.specs.Told.{first_uuid}
-use Rattle.farm_machine.specs.Entry.{Asking, Entry}
+use Rattle.farm_asks.specs.Questions.{Asking}
+use Rattle.farm_machine.specs.Entry.{Entry}
 use Rattle.farm_machine.specs.State.{State}
 use Rattle.farm_machine.specs.Step.{farm_rules}
-use Rattle.farm_machine.specs.declared.reply.Reply.{Reply}
-use Rattle.farm_machine.specs.declared.reply.Reply.TheVariants.{OutOfMemory}
+use Rattle.farm_asks.specs.declared.reply.Reply.{Reply}
+use Rattle.farm_asks.specs.declared.reply.Reply.TheVariants.{OutOfMemory}
 use Rattle.farm_core.specs.Diskless.{HasNoDisk}
 use Rattle.farm_server.specs.Served.{Ask, messages_of, questions_of, AreRouted, reply_texts, EndsAs}
 use Rattle.farm_server.specs.declared.served.Served.TheVariants.{Closed, Full}

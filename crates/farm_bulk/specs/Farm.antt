@@ -1,7 +1,7 @@
 -- The farm of a load.
 use Rattle.std.specs.Prelude.{[], ◌∷◌, codes}
 use Rattle.role_expand.specs.Roles.{RoleData}
-use Rattle.farm_machine.specs.declared.config.Config.{Config}
+use Rattle.farm_asks.specs.declared.config.Config.{Config}
 
 -- whoever gives no credentials may do all
 abbrev pub open_role : RoleData

@@ -4,9 +4,9 @@ ghost use Rattle.role_expand.specs.Roles.{roles_data};
 ghost use Rattle.farm_machine.specs.State.{empty_state};
 ghost use Rattle.farm_bulk.specs.Farm.{open_role, open_farm};
 
+use farm_asks::config::Config;
+use farm_asks::grants::Grants;
 use farm_core::Bare;
-use farm_machine::config::Config;
-use farm_machine::grants::Grants;
 use farm_text::Text;
 use hawk_auth::ClientBook;
 use hook_fire::HookBook;

@@ -3,9 +3,9 @@ ghost use Rattle.std.specs.Prelude.{◌≡◌, ◌++◌, ℕ, Bool, List, Contai
 ghost use Rattle.http_wire.specs.declared.message.Message.{Message};
 ghost use Rattle.farm_rows.specs.declared.summary.Summary.{Summary};
 ghost use Rattle.farm_machine.specs.State.{State};
-ghost use Rattle.farm_machine.specs.declared.question.Call.{Call};
-ghost use Rattle.farm_machine.specs.Replies.{answer_of};
-ghost use Rattle.farm_machine.specs.declared.reply.Reply.{Reply};
+ghost use Rattle.farm_asks.specs.declared.question.Call.{Call};
+ghost use Rattle.farm_asks.specs.Replies.{answer_of};
+ghost use Rattle.farm_asks.specs.declared.reply.Reply.{Reply};
 ghost use Rattle.api_routes.specs.ReplyText.{reply_text};
 ghost use Rattle.api_routes.specs.Routes.{IsCallOf};
 ghost use Rattle.farm_bulk.specs.Bulk.{IsBulk};

@@ -31,8 +31,8 @@ use Rattle.http_wire.specs.declared.message.Wire.{Wire as Reason}
 use Rattle.http_wire.specs.declared.message.Wire.TheVariants as wire
 use Rattle.http_wire.specs.Stream.{Ending, stopped, closed, full, Messages}
 use Rattle.http_wire.proofs.StreamLaws.{messages_unique}
-use Rattle.farm_machine.specs.declared.config.Config.{Config}
-use Rattle.farm_machine.specs.declared.reply.Reply.{Reply}
+use Rattle.farm_asks.specs.declared.config.Config.{Config}
+use Rattle.farm_asks.specs.declared.reply.Reply.{Reply}
 use Rattle.api_routes.specs.ReplyText.{wire_text}
 use Rattle.farm_server.specs.Served.{Outside, Ask, Spoke, messages_of, reply_texts, is_refused, EndsAs, Writes, IsCaused}
 use Rattle.farm_server.specs.declared.served.Served.{Served}

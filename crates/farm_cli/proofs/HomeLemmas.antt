@@ -5,7 +5,7 @@ use Rattle.command_line.specs.declared.command.Command.TheVariants.{OverFarm, Si
 use Rattle.command_line.specs.declared.command.Work.{Work}
 use Rattle.command_line.specs.declared.command.Work.TheVariants.{Answer, Expand, Check, Serve}
 use Rattle.command_line.specs.declared.service.Service.{Service}
-use Rattle.farm_machine.specs.declared.config.Config.{Config}
+use Rattle.farm_asks.specs.declared.config.Config.{Config}
 use Rattle.farm_cli.specs.declared.lending.Lending.{Lending}
 use Rattle.farm_cli.specs.declared.lending.Lending.TheVariants.{Ready, Out, Back, Untold}
 use Rattle.farm_cli.specs.declared.status.Status.{Status}

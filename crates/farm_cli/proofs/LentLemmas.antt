@@ -9,7 +9,7 @@ use Rattle.http_wire.specs.Calls.{LinkState}
 use Rattle.farm_rows.specs.Contents.{Contents}
 use Rattle.farm_core.specs.Farm.{HoldsHistory, state_of}
 use Rattle.farm_core.specs.Records.{Recorded}
-use Rattle.farm_machine.specs.declared.config.Config.{Config}
+use Rattle.farm_asks.specs.declared.config.Config.{Config}
 use Rattle.farm_machine.specs.Entry.{Entry}
 use Rattle.farm_machine.specs.Law.{Opening, opened}
 use Rattle.farm_machine.specs.State.{State}

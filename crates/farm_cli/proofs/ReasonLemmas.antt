@@ -8,7 +8,7 @@ use Rattle.command_line.specs.declared.command.Work.TheVariants.{Answer, Expand,
 use Rattle.command_line.specs.declared.load.Load.{Load}
 use Rattle.command_line.specs.declared.service.Service.{Service}
 use Rattle.command_line.specs.declared.signing.Signing.{Signing}
-use Rattle.farm_machine.specs.declared.config.Config.{Config}
+use Rattle.farm_asks.specs.declared.config.Config.{Config}
 use Rattle.causes.specs.Causes.{Rose}
 use Rattle.command_line.specs.Words.{disk_of}
 use Rattle.disk_journal.specs.declared.fault.OpenFault.{OpenFault}

@@ -20,20 +20,20 @@ use Rattle.command_line.specs.declared.service.Service.{Service}
 use Rattle.command_line.specs.declared.signing.Signing.{Signing}
 use Rattle.farm_files.specs.declared.reading.TheConstants.{LONGEST_FILE}
 use Rattle.http_wire.specs.Whole.{piece_size, LosesWithin}
-use Rattle.farm_machine.specs.declared.config.Config.{Config}
+use Rattle.farm_asks.specs.declared.config.Config.{Config}
 use Rattle.farm_machine.specs.Entry.{Entry}
 use Rattle.farm_machine.specs.Law.{Opening, opened}
 use Rattle.farm_machine.specs.State.{State}
 use Rattle.farm_machine.specs.Step.{farm_rules}
-use Rattle.farm_machine.specs.declared.reply.Reply.{Reply}
+use Rattle.farm_asks.specs.declared.reply.Reply.{Reply}
 use Rattle.farm_core.specs.Diskless.{HaveNoDisk}
 use Rattle.farm_server.specs.Served.{Ask, questions_of, Spoke}
 use Rattle.farm_server.specs.declared.served.Served.{Served}
 use Rattle.farm_serving.specs.Connections.{Station}
 use Rattle.farm_cli.specs.Checking.{CheckedOver, counts_disk_text}
 use Rattle.farm_cli.specs.Inputs.{Tells}
-use Rattle.farm_machine.specs.Config.{counts_of}
-use Rattle.farm_machine.specs.declared.config.ConfigCounts.{ConfigCounts}
+use Rattle.farm_asks.specs.Config.{counts_of}
+use Rattle.farm_asks.specs.declared.config.ConfigCounts.{ConfigCounts}
 use Rattle.farm_cli.specs.Disks.{BeginsFrom, DiskHolds, HasFarm, IsMissing, IsRefusedFor, LedOver, WasUnopened}
 use Rattle.farm_cli.specs.Heard.{workers_of, ServesLent, IsUnheard, IsHeard, ServedOver}
 use Rattle.farm_cli.specs.Serves.{ServesFarm, NeverServed}

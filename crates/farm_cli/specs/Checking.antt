@@ -1,8 +1,8 @@
 -- What `check` does: it counts what a farm file has.
 use Rattle.std.specs.Prelude.{◌≡◌, ℕ, List, [], ◌++◌, length, codes, decimal}
-use Rattle.farm_machine.specs.declared.config.Config.{Config}
-use Rattle.farm_machine.specs.declared.config.ConfigCounts.{ConfigCounts}
-use Rattle.farm_machine.specs.Config.{counts_of}
+use Rattle.farm_asks.specs.declared.config.Config.{Config}
+use Rattle.farm_asks.specs.declared.config.ConfigCounts.{ConfigCounts}
+use Rattle.farm_asks.specs.Config.{counts_of}
 use Rattle.farm_cli.specs.declared.status.Status.{Status}
 use Rattle.http_wire.specs.Calls.{LinkState}
 use Rattle.farm_machine.specs.Law.{Opening}

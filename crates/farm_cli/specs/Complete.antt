@@ -15,8 +15,8 @@ use Rattle.http_wire.specs.declared.message.Message.{Message}
 use Rattle.http_wire.specs.declared.message.Wire.{Wire as Reason}
 use Rattle.http_wire.specs.declared.message.Wire.TheVariants as wire
 use Rattle.http_wire.specs.Stream.{Ending, stopped, closed, full, Messages}
-use Rattle.farm_machine.specs.declared.config.Config.{Config}
-use Rattle.farm_machine.specs.declared.reply.Reply.{Reply}
+use Rattle.farm_asks.specs.declared.config.Config.{Config}
+use Rattle.farm_asks.specs.declared.reply.Reply.{Reply}
 use Rattle.farm_machine.specs.State.{State, empty_state}
 use Rattle.api_routes.specs.ReplyText.{wire_text}
 use Rattle.farm_core.specs.Diskless.{HaveNoDisk}

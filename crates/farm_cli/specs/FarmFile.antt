@@ -1,7 +1,7 @@
 -- What a farm file is taken for: what it sets, or why it is refused (this project's own format).
 use Rattle.std.specs.Prelude.{◌≡◌, ℕ, List, Option, IfSome}
 use Rattle.causes.specs.Causes.{Rose}
-use Rattle.farm_machine.specs.declared.config.Config.{Config}
+use Rattle.farm_asks.specs.declared.config.Config.{Config}
 use Rattle.farm_files.specs.Farms.{Says}
 use Rattle.farm_files.specs.Files.{Breaks}
 use Rattle.farm_files.specs.declared.fault.Fault.{Fault}

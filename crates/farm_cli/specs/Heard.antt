@@ -5,7 +5,7 @@ use Rattle.history.specs.Asks.{LeadsAlone}
 use Rattle.history.specs.Histories.{end_state}
 use Rattle.http_wire.specs.Calls.{LinkState}
 use Rattle.command_line.specs.declared.service.Service.{Service}
-use Rattle.farm_machine.specs.declared.config.Config.{Config}
+use Rattle.farm_asks.specs.declared.config.Config.{Config}
 use Rattle.farm_machine.specs.Entry.{Entry}
 use Rattle.farm_machine.specs.Law.{Opening}
 use Rattle.farm_machine.specs.State.{State}

@@ -2,13 +2,14 @@
 use Rattle.std.specs.Prelude.{◌≡◌, ℕ, Bool, List, map, Some}
 use Rattle.history.specs.Asks.{AreEntries}
 use Rattle.history.specs.Histories.{IsLegal, end_state, reply_at, asked_at, calls_of}
-use Rattle.farm_machine.specs.declared.config.Config.{Config}
-use Rattle.farm_machine.specs.declared.reply.Asked.{Asked}
-use Rattle.farm_machine.specs.Entry.{Asking, Entry}
+use Rattle.farm_asks.specs.declared.config.Config.{Config}
+use Rattle.farm_asks.specs.declared.reply.Asked.{Asked}
+use Rattle.farm_asks.specs.Questions.{Asking}
+use Rattle.farm_machine.specs.Entry.{Entry}
 use Rattle.farm_machine.specs.State.{State, empty_state}
 use Rattle.farm_machine.specs.Step.{farm_rules}
 use Rattle.farm_machine.specs.Law.{Opening}
-use Rattle.farm_machine.specs.declared.reply.Reply.{Reply}
+use Rattle.farm_asks.specs.declared.reply.Reply.{Reply}
 use Rattle.farm_core.specs.Diskless.{HaveNoDisk}
 use Rattle.farm_server.specs.Served.{Ask, questions_of, Spoke}
 use Rattle.farm_server.specs.declared.served.Served.{Served}

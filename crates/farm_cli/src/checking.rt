@@ -6,8 +6,8 @@ ghost use Rattle.farm_cli.specs.Inputs.{Tells};
 use crate::ended::Ended;
 use crate::status::Status;
 use crate::writing::write_text;
+use farm_asks::config::{Config, ConfigCounts};
 use farm_core::Counts;
-use farm_machine::config::{Config, ConfigCounts};
 use http_wire::Link;
 use std::alloc::{AllocError, Global};
 

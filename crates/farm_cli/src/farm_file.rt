@@ -6,8 +6,8 @@ ghost use Rattle.farm_cli.specs.FarmFile.{SetsUp, BytesRefused, FileRefused};
 
 use crate::ended::Ended;
 use crate::status::Status;
+use farm_asks::config::Config;
 use farm_files::{Fault, FileFault, LONGEST_FILE, Rule, Table, read_farm_with, tell_fault};
-use farm_machine::config::Config;
 use http_wire::{ReadAllFault, Source, read_source};
 use std::alloc::{AllocError, Global};
 

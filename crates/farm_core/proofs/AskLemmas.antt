@@ -7,12 +7,13 @@ use Rattle.disk_base.specs.Contents.{Contents as Disk}
 use Rattle.farm_text.specs.declared.moment.TheConstants.{LAST_TOLD_MOMENT}
 use Rattle.farm_record.specs.declared.change.Change.{Change}
 use Rattle.farm_record.specs.Records.{tick_at}
-use Rattle.farm_machine.specs.declared.config.Config.{Config}
-use Rattle.farm_machine.specs.declared.reply.Asked.{Asked}
-use Rattle.farm_machine.specs.declared.reply.Reply.{Reply}
-use Rattle.farm_machine.specs.declared.reply.Reply.TheVariants.{Answered, OutOfMemory, DiskFault}
+use Rattle.farm_asks.specs.declared.config.Config.{Config}
+use Rattle.farm_asks.specs.declared.reply.Asked.{Asked}
+use Rattle.farm_asks.specs.declared.reply.Reply.{Reply}
+use Rattle.farm_asks.specs.declared.reply.Reply.TheVariants.{Answered, OutOfMemory, DiskFault}
 use Rattle.farm_machine.specs.Changes.{moment_of, reached, changed}
-use Rattle.farm_machine.specs.Entry.{Asking, finished, out_of_memory, disk_failed, call}
+use Rattle.farm_asks.specs.Questions.{Asking}
+use Rattle.farm_machine.specs.Entry.{finished, out_of_memory, disk_failed, call}
 use Rattle.farm_machine.specs.Planned.{Planned, IsPlanOf}
 use Rattle.farm_machine.specs.Replay.{records_by}
 use Rattle.farm_machine.specs.State.{State, working}

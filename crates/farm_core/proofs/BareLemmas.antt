@@ -2,11 +2,12 @@
 use Rattle.std.proofs.Common.{◌≡◌, ℕ, ◌≤◌, Bool, true, false, Some, refl, sym, ap, subst, arith}
 use Rattle.history.specs.Asks.{IsAsk}
 use Rattle.farm_text.specs.declared.moment.TheConstants.{LAST_TOLD_MOMENT}
-use Rattle.farm_machine.specs.declared.config.Config.{Config}
-use Rattle.farm_machine.specs.declared.reply.Reply.{Reply}
+use Rattle.farm_asks.specs.declared.config.Config.{Config}
+use Rattle.farm_asks.specs.declared.reply.Reply.{Reply}
 use Rattle.farm_machine.specs.Changes.{moment_of}
 use Rattle.farm_rows.specs.Due.{is_due, advance}
-use Rattle.farm_machine.specs.Entry.{Asking, Outcome, call}
+use Rattle.farm_asks.specs.Questions.{Asking}
+use Rattle.farm_machine.specs.Entry.{Outcome, call}
 use Rattle.farm_rows.specs.Contents.{Contents}
 use Rattle.farm_machine.specs.State.{State, working}
 use Rattle.farm_machine.specs.Step.{MayTick, MayBecome, after_call, reply_to, farm_rules}

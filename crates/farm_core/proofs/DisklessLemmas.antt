@@ -2,9 +2,10 @@
 use Rattle.std.proofs.Common.{◌≡◌, Bool, true, false, List, [], ◌∷◌, ◌++◌, refl}
 use Rattle.std.specs.Prelude.{if◌then◌else◌}
 use Rattle.history.specs.Histories.{entries, end_state, IsLegal}
-use Rattle.farm_machine.specs.declared.reply.Asked.{Asked}
+use Rattle.farm_asks.specs.declared.reply.Asked.{Asked}
 use Rattle.farm_machine.specs.Changes.{moment_of}
-use Rattle.farm_machine.specs.Entry.{Asking, Outcome, finished, out_of_memory, disk_failed, was_halted, Entry, tick, call}
+use Rattle.farm_asks.specs.Questions.{Asking}
+use Rattle.farm_machine.specs.Entry.{Outcome, finished, out_of_memory, disk_failed, was_halted, Entry, tick, call}
 use Rattle.farm_machine.specs.State.{State}
 use Rattle.farm_machine.specs.Step.{farm_rules}
 use Rattle.farm_core.specs.Diskless.{NeedsNoDisk, HaveNoDisk}

@@ -10,10 +10,11 @@ use Rattle.disk_journal.specs.Images.{IsImage}
 use Rattle.disk_journal.proofs.AppendLemmas.{ready_image}
 use Rattle.farm_record.specs.declared.change.Change.{Change}
 use Rattle.farm_rows.specs.Contents.{Contents}
-use Rattle.farm_machine.specs.declared.config.Config.{Config}
-use Rattle.farm_machine.specs.declared.reply.Asked.{Asked}
-use Rattle.farm_machine.specs.declared.reply.Reply.TheVariants.{Halted}
-use Rattle.farm_machine.specs.Entry.{Asking, Entry, call, disk_failed, was_halted}
+use Rattle.farm_asks.specs.declared.config.Config.{Config}
+use Rattle.farm_asks.specs.declared.reply.Asked.{Asked}
+use Rattle.farm_asks.specs.declared.reply.Reply.TheVariants.{Halted}
+use Rattle.farm_asks.specs.Questions.{Asking}
+use Rattle.farm_machine.specs.Entry.{Entry, call, disk_failed, was_halted}
 use Rattle.farm_machine.specs.Law.{Opening}
 use Rattle.farm_machine.specs.Replay.{records_by, records_of}
 use Rattle.farm_machine.specs.State.{State}

@@ -5,9 +5,9 @@ use Rattle.farm_record.specs.declared.change.Change.{Change}
 use Rattle.farm_rows.specs.Changes.{may_apply}
 use Rattle.farm_rows.specs.Contents.{Contents}
 use Rattle.farm_rows.specs.Plans as tasks
-use Rattle.farm_machine.specs.declared.config.Config.{Config}
+use Rattle.farm_asks.specs.declared.config.Config.{Config}
 use Rattle.farm_machine.specs.Changes.{moment_of}
-use Rattle.farm_machine.specs.Entry.{Asking}
+use Rattle.farm_asks.specs.Questions.{Asking}
 use Rattle.farm_machine.specs.Planned.{Planned, IsPlanOf}
 use Rattle.farm_machine.specs.State.{working}
 use Rattle.farm_machine.specs.Step.{MayCall, MayFinish}

@@ -6,9 +6,10 @@ use Rattle.farm_record.specs.declared.change.Change.{Change}
 use Rattle.farm_record.specs.Records.{tick_at}
 use Rattle.farm_rows.specs.Contents.{Contents}
 use Rattle.farm_rows.specs.Due.{is_due}
-use Rattle.farm_machine.specs.declared.config.Config.{Config}
-use Rattle.farm_machine.specs.declared.reply.Reply.{Reply}
-use Rattle.farm_machine.specs.Entry.{Asking, Outcome, disk_failed, call}
+use Rattle.farm_asks.specs.declared.config.Config.{Config}
+use Rattle.farm_asks.specs.declared.reply.Reply.{Reply}
+use Rattle.farm_asks.specs.Questions.{Asking}
+use Rattle.farm_machine.specs.Entry.{Outcome, disk_failed, call}
 use Rattle.farm_machine.specs.Replay.{records_by}
 use Rattle.farm_machine.specs.State.{working}
 use Rattle.farm_machine.specs.Step.{IsToKeep, MayBecome, after_call, reply_to}

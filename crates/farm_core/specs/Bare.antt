@@ -1,9 +1,10 @@
 -- The two parts of an ask of a farm without a disk: what is due goes, and the call is performed.
 use Rattle.std.specs.Prelude.{◌≡◌, ℕ, Bool, if◌then◌else◌}
-use Rattle.farm_machine.specs.declared.config.Config.{Config}
-use Rattle.farm_machine.specs.declared.reply.Reply.{Reply}
+use Rattle.farm_asks.specs.declared.config.Config.{Config}
+use Rattle.farm_asks.specs.declared.reply.Reply.{Reply}
 use Rattle.farm_rows.specs.Due.{is_due, advance}
-use Rattle.farm_machine.specs.Entry.{Asking, Outcome}
+use Rattle.farm_asks.specs.Questions.{Asking}
+use Rattle.farm_machine.specs.Entry.{Outcome}
 use Rattle.farm_rows.specs.Contents.{Contents}
 use Rattle.farm_machine.specs.State.{working}
 use Rattle.farm_machine.specs.Step.{MayBecome, after_call, reply_to}

@@ -5,9 +5,10 @@ use Rattle.disk_base.specs.Contents.{Contents as Disk}
 use Rattle.farm_record.specs.declared.change.Change.{Change}
 use Rattle.history.specs.Asks.{IsAsk}
 use Rattle.history.specs.Histories.{entries, end_state, Leads}
-use Rattle.farm_machine.specs.declared.config.Config.{Config}
-use Rattle.farm_machine.specs.declared.reply.Asked.{Asked}
-use Rattle.farm_machine.specs.Entry.{Asking, Entry, call, disk_failed}
+use Rattle.farm_asks.specs.declared.config.Config.{Config}
+use Rattle.farm_asks.specs.declared.reply.Asked.{Asked}
+use Rattle.farm_asks.specs.Questions.{Asking}
+use Rattle.farm_machine.specs.Entry.{Entry, call, disk_failed}
 use Rattle.farm_machine.specs.Law.{Opening}
 use Rattle.farm_machine.specs.Replay.{records_of, Restores}
 use Rattle.farm_machine.specs.State.{State}

@@ -6,7 +6,8 @@ use Rattle.disk_journal.specs.Keeping.{IsReady, Keeps}
 use Rattle.farm_record.specs.declared.change.Change.{Change}
 use Rattle.farm_record.specs.Records.{IsRecord}
 use Rattle.history.specs.Histories.{end_state}
-use Rattle.farm_machine.specs.Entry.{Asking, Entry, call, disk_failed}
+use Rattle.farm_asks.specs.Questions.{Asking}
+use Rattle.farm_machine.specs.Entry.{Entry, call, disk_failed}
 use Rattle.farm_machine.specs.State.{State}
 use Rattle.farm_machine.specs.Step.{IsToKeep, farm_rules}
 

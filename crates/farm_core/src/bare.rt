@@ -8,11 +8,11 @@ ghost use Rattle.farm_machine.specs.State.{working, empty_state};
 ghost use Rattle.farm_core.specs.Bare.{IsResolved, IsPerformed};
 ghost use Rattle.farm_core.specs.Diskless.{HaveNoDisk};
 
+use farm_asks::config::Config;
+use farm_asks::question::Question;
+use farm_asks::reply::{Asked, Reply};
 use farm_desk::Object;
-use farm_machine::config::Config;
 use farm_machine::law::Farm;
-use farm_machine::question::Question;
-use farm_machine::reply::{Asked, Reply};
 use farm_machine::step::{apply, moment_of, plan};
 use farm_machine::tables::{Tables, due, tick};
 use farm_rows::Summary;

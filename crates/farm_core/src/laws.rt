@@ -10,7 +10,7 @@ ghost use Rattle.farm_machine.specs.Law.{Opening};
 ghost use Rattle.farm_machine.specs.Replay.{Restores};
 ghost use Rattle.farm_machine.specs.State.{State};
 ghost use Rattle.farm_machine.specs.Step.{farm_rules};
-ghost use Rattle.farm_machine.specs.declared.config.Config.{Config as AnyConfig};
+ghost use Rattle.farm_asks.specs.declared.config.Config.{Config as AnyConfig};
 ghost use Rattle.farm_core.specs.contracts.bare.Bare as bare;
 ghost use Rattle.farm_core.specs.contracts.farm.Farm as farm;
 ghost use Rattle.farm_core.specs.Farm.{HoldsHistory, WasAsked, state_of};

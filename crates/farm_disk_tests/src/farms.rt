@@ -1,7 +1,7 @@
 //! A farm in memory, and farms over disks, asked directly.
+use farm_asks::question::{Call, Caller, Question};
 use farm_core::Bare;
 use farm_desk::Object;
-use farm_machine::question::{Call, Caller, Question};
 use farm_text::{Moment, SlugId};
 use std::test::Fail;
 

@@ -10,7 +10,7 @@ use Rattle.scope_sets.specs.Scopes.{IsPrintable, HasHandedInForm}
 use Rattle.role_expand.specs.Roles.{RoleData, HasHoleForm, HasIdForm, HasRoleForm}
 use Rattle.role_expand.specs.Cycles.{IsCycle, IsAccepted}
 use Rattle.toml.specs.Data.{Data, get_member}
-use Rattle.farm_machine.specs.declared.config.Config.{Config}
+use Rattle.farm_asks.specs.declared.config.Config.{Config}
 use Rattle.farm_files.specs.declared.fault.Table.TheVariants.{Role}
 use Rattle.farm_files.specs.declared.fault.Rule.{Rule}
 use Rattle.farm_files.specs.declared.fault.Rule.TheVariants.{ParameterCycle}

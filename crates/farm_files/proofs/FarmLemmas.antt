@@ -25,7 +25,7 @@ use Rattle.farm_files.specs.Files.{table_names, FarmBreaks, farm_in, TablesBreak
 use Rattle.farm_files.specs.Parts.{IsFirstRow, IsFirstOnCycle, RefusesRows, RefusesCycle}
 use Rattle.farm_files.specs.declared.fault.FileFault.{FileFault}
 use Rattle.farm_files.specs.declared.fault.FileFault.TheVariants as faults
-use Rattle.farm_machine.specs.declared.config.Config.{Config}
+use Rattle.farm_asks.specs.declared.config.Config.{Config}
 use Rattle.farm_files.specs.Farms.{farm_of, SaysTables, Says, Refuses, RefusesTables}
 
 role_turn : (r : Rule) → 4 ≤ turn Role r

@@ -11,7 +11,7 @@ use Rattle.farm_files.specs.Rows.{RowsBreak, rows_in, says_of}
 use Rattle.farm_files.proofs.ClientLemmas.{some_clients}
 use Rattle.farm_files.proofs.HookLemmas.{some_hooks}
 use Rattle.farm_files.proofs.FarmLemmas.{row_form, row_json, rows_sound, said_at}
-use Rattle.farm_machine.specs.declared.config.Config.{Config}
+use Rattle.farm_asks.specs.declared.config.Config.{Config}
 use Rattle.farm_files.specs.declared.fault.Table.TheVariants.{File, Client, Hook}
 use Rattle.farm_files.specs.declared.fault.Rule.{Rule}
 use Rattle.farm_files.specs.declared.fault.Rule.TheVariants.{NotToml}

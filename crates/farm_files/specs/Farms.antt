@@ -1,6 +1,6 @@
 -- What a farm file says as a whole, or the one fault that is told of it (this project's own format, in TOML 1.1).
 use Rattle.std.specs.Prelude.{◌≡◌, ℕ, List, codes}
-use Rattle.farm_machine.specs.declared.config.Config.{Config}
+use Rattle.farm_asks.specs.declared.config.Config.{Config}
 use Rattle.toml.specs.Data.{Members, get_member}
 use Rattle.farm_files.specs.declared.fault.Fault.{Fault}
 use Rattle.farm_files.specs.declared.fault.FileFault.{FileFault}

@@ -2,7 +2,7 @@
 ghost use Rattle.std.specs.Prelude.{◌≡◌, ℕ, List};
 ghost use Rattle.scope_sets.specs.declared.scopes.TheConstants.{LONGEST_SCOPE};
 ghost use Rattle.role_expand.specs.Cycles.{IsAccepted};
-ghost use Rattle.farm_machine.specs.declared.config.Config.{Config as AnyConfig};
+ghost use Rattle.farm_asks.specs.declared.config.Config.{Config as AnyConfig};
 ghost use Rattle.farm_files.specs.Faults.{IsFirst};
 ghost use Rattle.farm_files.specs.Files.{Breaks};
 ghost use Rattle.farm_files.specs.Farms.{Says};

@@ -9,8 +9,8 @@ use crate::hooks::{hook_book, read_hooks};
 use crate::roles::{read_roles, role_set};
 use crate::settings::{Settings, read_settings};
 use crate::values::has_only;
-use farm_machine::config::Config;
-use farm_machine::grants::Grants;
+use farm_asks::config::Config;
+use farm_asks::grants::Grants;
 use std::alloc::Global;
 
 /// The greatest number of bytes of a farm file.

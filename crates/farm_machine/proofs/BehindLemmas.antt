@@ -13,7 +13,7 @@ use Rattle.farm_rows.specs.Due.{is_due, advance}
 use Rattle.farm_rows.specs.Sweep.{all_turns}
 use Rattle.farm_rows.proofs.AdvanceLemmas.{advance-is}
 use Rattle.farm_rows.proofs.TurnLemmas.{with_last, all-last}
-use Rattle.farm_machine.specs.Works.{at_moment}
+use Rattle.farm_asks.specs.Works.{at_moment}
 
 -- the same rows and next number, and a last moment that is no greater
 pub record IsBehind (earlier contents : Contents) : Type 0 where

@@ -10,10 +10,10 @@ use Rattle.farm_record.specs.declared.change.RunName.{RunName}
 use Rattle.farm_rows.specs.Contents.{row_with}
 use Rattle.farm_rows.specs.Picks.{picks}
 use Rattle.task_defs.specs.declared.task_def.TaskDef.{TaskDef}
-use Rattle.farm_machine.specs.declared.question.Call.{Call}
-use Rattle.farm_machine.specs.declared.question.Call.TheVariants.{NoRoute, BadParameter, BadBody, Ping, Task, Status, ListTaskGroup, ListDependentTasks, PendingTasks, CreateTask, ClaimWork, ReclaimTask, ReportRun, ScheduleTask, RerunTask, CancelTask, TriggerHook}
-use Rattle.farm_machine.specs.declared.question.Caller.{Caller}
-use Rattle.farm_machine.specs.declared.reply.Answer.{Answer}
+use Rattle.farm_asks.specs.declared.question.Call.{Call}
+use Rattle.farm_asks.specs.declared.question.Call.TheVariants.{NoRoute, BadParameter, BadBody, Ping, Task, Status, ListTaskGroup, ListDependentTasks, PendingTasks, CreateTask, ClaimWork, ReclaimTask, ReportRun, ScheduleTask, RerunTask, CancelTask, TriggerHook}
+use Rattle.farm_asks.specs.declared.question.Caller.{Caller}
+use Rattle.farm_asks.specs.declared.reply.Answer.{Answer}
 use Rattle.farm_machine.specs.Calls.CreateTask.{standing, create_task}
 use Rattle.farm_machine.specs.Calls.CancelTask.{cancel_task}
 use Rattle.farm_machine.specs.Calls.ListDependentTasks.{list_dependent_tasks}
@@ -27,17 +27,17 @@ use Rattle.farm_machine.specs.Calls.RerunTask.{rerun_task}
 use Rattle.farm_machine.specs.Calls.ScheduleTask.{schedule_task}
 use Rattle.farm_machine.specs.Calls.Status.{status}
 use Rattle.farm_machine.specs.Calls.TriggerHook.{Fired, ComesTo, case_after}
-use Rattle.farm_machine.specs.declared.question.Trigger.{Trigger}
-use Rattle.farm_machine.specs.declared.question.WorkRequest.{WorkRequest}
-use Rattle.farm_machine.specs.Config.{claim_millis}
+use Rattle.farm_asks.specs.declared.question.Trigger.{Trigger}
+use Rattle.farm_asks.specs.declared.question.WorkRequest.{WorkRequest}
+use Rattle.farm_asks.specs.Config.{claim_millis}
 use Rattle.farm_machine.specs.Case.{Setting, Deed, Rule, Case, passing, of_row, of_run, IsFirstRule}
-use Rattle.farm_machine.specs.Entry.{Asking}
+use Rattle.farm_asks.specs.Questions.{Asking}
 use Rattle.farm_machine.specs.Judgement.{Judgement, only_answer}
 use Rattle.farm_machine.specs.Laws.{creation_of}
 use Rattle.farm_machine.specs.Order.{Form, has_no_route, has_bad_parameter, has_bad_body, asks, asks_then, route_of, parameter_of, body_of, case_of, Strikes, full, IsEnded, IsFirst, ending, behind, in_order, done}
 use Rattle.farm_machine.specs.State.{State}
 use Rattle.farm_machine.specs.Verdict.{form_of, setting_of, IsVerdict}
-use Rattle.farm_machine.specs.Written.{IsSaidCall}
+use Rattle.farm_asks.specs.Questions.{IsSaidCall}
 use Rattle.farm_machine.proofs.FiredLemmas.{made-said}
 use Rattle.farm_machine.proofs.OrderLemmas.{last_parts}
 

@@ -31,15 +31,16 @@ use Rattle.farm_rows.proofs.DueLemmas.{change-stays, change-ids}
 use Rattle.farm_rows.proofs.IdLemmas.{created-ids, claimed-ids, after-holds}
 use Rattle.farm_rows.proofs.ReadyLemmas.{settled-stays, settled-ids}
 use Rattle.farm_rows.proofs.ShownLemmas.{pick-one}
-use Rattle.farm_machine.specs.declared.question.Call.{Call}
-use Rattle.farm_machine.specs.declared.question.Call.TheVariants.{NoRoute, BadParameter, BadBody, Ping, Task, Status, ListTaskGroup, ListDependentTasks, PendingTasks, CreateTask, ClaimWork, ReclaimTask, ReportRun, ScheduleTask, RerunTask, CancelTask, TriggerHook}
-use Rattle.farm_machine.specs.declared.question.WorkRequest.{WorkRequest}
+use Rattle.farm_asks.specs.declared.question.Call.{Call}
+use Rattle.farm_asks.specs.declared.question.Call.TheVariants.{NoRoute, BadParameter, BadBody, Ping, Task, Status, ListTaskGroup, ListDependentTasks, PendingTasks, CreateTask, ClaimWork, ReclaimTask, ReportRun, ScheduleTask, RerunTask, CancelTask, TriggerHook}
+use Rattle.farm_asks.specs.declared.question.WorkRequest.{WorkRequest}
 use Rattle.farm_machine.specs.Calls.ClaimWork.{taking}
 use Rattle.farm_machine.specs.Calls.TriggerHook.{Fired, case_after}
 use Rattle.farm_machine.specs.Case.{Setting, Case}
 use Rattle.farm_machine.specs.Changes.{changed, moment_of}
-use Rattle.farm_machine.specs.Config.{claim_millis}
-use Rattle.farm_machine.specs.Entry.{Asking, Entry, tick, call, finished, out_of_memory, disk_failed, was_halted}
+use Rattle.farm_asks.specs.Config.{claim_millis}
+use Rattle.farm_asks.specs.Questions.{Asking}
+use Rattle.farm_machine.specs.Entry.{Entry, tick, call, finished, out_of_memory, disk_failed, was_halted}
 use Rattle.farm_machine.specs.Judgement.{Judgement}
 use Rattle.farm_machine.specs.Laws.{creation_of, creation_of_kind}
 use Rattle.farm_machine.specs.Order.{case_of}
@@ -47,7 +48,7 @@ use Rattle.farm_machine.specs.RunLaws.{is_same_run, claims_by, claims_in, run_in
 use Rattle.farm_machine.specs.State.{State}
 use Rattle.farm_machine.specs.Step.{lawful, after, farm_rules}
 use Rattle.farm_machine.specs.Verdict.{form_of, setting_of, IsVerdict}
-use Rattle.farm_machine.specs.Works.{at_moment}
+use Rattle.farm_asks.specs.Works.{at_moment}
 use Rattle.farm_machine.proofs.ChangeLemmas.{IsOf, IsDoneBy, change-done, verdict-creates}
 use Rattle.farm_machine.proofs.DeedLemmas.{each-task, each-run}
 use Rattle.farm_machine.proofs.OnceLemmas.{changed-stays, entry-stays}

@@ -9,21 +9,22 @@ use Rattle.farm_rows.specs.Waits.{missing_dependency, early_dependency}
 use Rattle.farm_record.specs.declared.change.Change.{Change}
 use Rattle.farm_record.specs.declared.change.Creation.{Creation}
 use Rattle.task_defs.specs.declared.task_def.TaskDef.{TaskDef}
-use Rattle.farm_machine.specs.declared.question.Call.{Call}
-use Rattle.farm_machine.specs.declared.question.Call.TheVariants.{NoRoute, BadParameter, BadBody, Ping, Task, Status, ListTaskGroup, ListDependentTasks, PendingTasks, CreateTask, ClaimWork, ReclaimTask, ReportRun, ScheduleTask, RerunTask, CancelTask, TriggerHook}
-use Rattle.farm_machine.specs.declared.question.Caller.{Caller}
-use Rattle.farm_machine.specs.declared.reply.Answer.{Answer}
-use Rattle.farm_machine.specs.Access.{Has, HasAccess}
+use Rattle.farm_asks.specs.declared.question.Call.{Call}
+use Rattle.farm_asks.specs.declared.question.Call.TheVariants.{NoRoute, BadParameter, BadBody, Ping, Task, Status, ListTaskGroup, ListDependentTasks, PendingTasks, CreateTask, ClaimWork, ReclaimTask, ReportRun, ScheduleTask, RerunTask, CancelTask, TriggerHook}
+use Rattle.farm_asks.specs.declared.question.Caller.{Caller}
+use Rattle.farm_asks.specs.declared.reply.Answer.{Answer}
+use Rattle.farm_asks.specs.Access.{Has, HasAccess}
 use Rattle.call_rules.specs.declared.hook_names.HookName.{HookName}
 use Rattle.hook_fire.specs.Hooks.{HookData}
 use Rattle.farm_machine.specs.Calls.TriggerHook.{hook_at, of_hook}
 use Rattle.farm_machine.specs.Calls.CreateTask.{standing, scheduler_besides, where_found, joining, create_task}
 use Rattle.farm_machine.specs.Case.{Setting, Deed, Rule, Case, of_row, of_run}
-use Rattle.farm_machine.specs.Entry.{Asking, Entry, call, finished}
+use Rattle.farm_asks.specs.Questions.{Asking}
+use Rattle.farm_machine.specs.Entry.{Entry, call, finished}
 use Rattle.farm_machine.specs.Judgement.{Judgement, only_answer}
 use Rattle.farm_machine.specs.Laws.{Finished, setting_behind, where_there, asked_policy, DeniesExactly}
 use Rattle.farm_machine.specs.Order.{Form, has_no_route, has_bad_parameter, has_bad_body, asks, asks_then, case_of, Strikes, full, IsEnded, makes_task, IsFirst, ending, front, in_order}
-use Rattle.farm_machine.specs.Replies.{bad_dependency, other_scheduler, insufficient_scopes, farm_full}
+use Rattle.farm_asks.specs.Replies.{bad_dependency, other_scheduler, insufficient_scopes, farm_full}
 use Rattle.farm_machine.specs.State.{State}
 use Rattle.farm_machine.specs.Verdict.{form_of, IsVerdict}
 use Rattle.farm_machine.proofs.ListedLemmas.{HasNoEmptyAnyOf, reduced-lists, star-holds, call-full}

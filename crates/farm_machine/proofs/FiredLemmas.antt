@@ -21,15 +21,15 @@ use Rattle.jsone_render.proofs.OneRendering.{one_rendering}
 use Rattle.task_defs.specs.Definitions.{Says, rules}
 use Rattle.task_defs.specs.declared.task_def.TaskDef.{TaskDef}
 use Rattle.task_defs.proofs.OneLemmas.{fault_one, no_fault}
-use Rattle.farm_machine.specs.declared.config.Config.{Config}
-use Rattle.farm_machine.specs.declared.question.Call.TheVariants.{TriggerHook}
-use Rattle.farm_machine.specs.declared.question.Trigger.{Trigger}
-use Rattle.farm_machine.specs.declared.reply.Answer.{Answer}
-use Rattle.farm_machine.specs.Access.{Access, Has, Refused, access_by}
+use Rattle.farm_asks.specs.declared.config.Config.{Config}
+use Rattle.farm_asks.specs.declared.question.Call.TheVariants.{TriggerHook}
+use Rattle.farm_asks.specs.declared.question.Trigger.{Trigger}
+use Rattle.farm_asks.specs.declared.reply.Answer.{Answer}
+use Rattle.farm_asks.specs.Access.{Access, Has, Refused, access_by}
 use Rattle.farm_machine.specs.Calls.TriggerHook.{hook_at, of_hook, trigger_hook, Fired, unless_lacking, by_access, HookMay, fault_answer, Follows, ComesTo}
 use Rattle.farm_machine.specs.Case.{Setting}
 use Rattle.farm_machine.specs.Laws.{FiringEnds}
-use Rattle.farm_machine.proofs.AccessLemmas.{expands_once}
+use Rattle.farm_asks.proofs.AccessLemmas.{expands_once}
 
 -- ---- it is one
 

@@ -15,15 +15,15 @@ use Rattle.call_rules.specs.Policy.{create_policy, trigger_policy, hook_start}
 use Rattle.call_rules.specs.declared.hook_names.HookName.{HookName}
 use Rattle.farm_record.specs.declared.change.Creation.{Creation}
 use Rattle.task_defs.specs.declared.task_def.TaskDef.{TaskDef}
-use Rattle.farm_machine.specs.declared.config.Config.{Config}
+use Rattle.farm_asks.specs.declared.config.Config.{Config}
 use Rattle.farm_machine.specs.declared.firing.Firing.{Firing}
-use Rattle.farm_machine.specs.declared.question.Trigger.{Trigger}
-use Rattle.farm_machine.specs.declared.reply.Answer.{Answer}
-use Rattle.farm_machine.specs.Access.{Access, Has, Refused}
+use Rattle.farm_asks.specs.declared.question.Trigger.{Trigger}
+use Rattle.farm_asks.specs.declared.reply.Answer.{Answer}
+use Rattle.farm_asks.specs.Access.{Access, Has, Refused}
 use Rattle.farm_machine.specs.Calls.TriggerHook.{hook_at, of_hook, Fired, unless_lacking, by_access, HookMay, fault_answer, ComesTo}
 use Rattle.farm_machine.specs.Case.{Setting}
 use Rattle.farm_machine.specs.Firings.{outcome_of, fired_by}
-use Rattle.farm_machine.specs.Replies.{not_found, expansion_limit, hook_insufficient_scopes}
+use Rattle.farm_asks.specs.Replies.{not_found, expansion_limit, hook_insufficient_scopes}
 
 -- what is missing of the scopes is told
 pub lacks-so : (creation : Creation) (scopes : List (List ℕ)) (asked lack : Expression) (answer : Answer) → asked ≡ create_policy creation.definition → Some lack ≡ missing scopes asked → answer ≡ hook_insufficient_scopes lack → Err answer ≡ unless_lacking creation (missing scopes (create_policy creation.definition))

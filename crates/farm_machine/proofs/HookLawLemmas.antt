@@ -12,22 +12,23 @@ use Rattle.hook_fire.specs.declared.fault.FireFault.{FireFault}
 use Rattle.hook_fire.specs.declared.fault.FireFault.TheVariants.{Template, TooMuchWork, Definition, NoMemory}
 use Rattle.jsone_values.specs.Faults.{rule_of}
 use Rattle.task_defs.specs.declared.task_def.TaskDef.{TaskDef}
-use Rattle.farm_machine.specs.declared.config.Config.{Config}
-use Rattle.farm_machine.specs.declared.question.BodyFault.TheVariants.{NoDefinition}
-use Rattle.farm_machine.specs.declared.question.Call.{Call}
-use Rattle.farm_machine.specs.declared.question.Call.TheVariants.{TriggerHook}
-use Rattle.farm_machine.specs.declared.question.Trigger.{Trigger}
-use Rattle.farm_machine.specs.declared.reply.Answer.{Answer}
-use Rattle.farm_machine.specs.Access.{Access, Has, Refused, HasAccess, access_by, refusal_of}
+use Rattle.farm_asks.specs.declared.config.Config.{Config}
+use Rattle.farm_asks.specs.declared.question.BodyFault.TheVariants.{NoDefinition}
+use Rattle.farm_asks.specs.declared.question.Call.{Call}
+use Rattle.farm_asks.specs.declared.question.Call.TheVariants.{TriggerHook}
+use Rattle.farm_asks.specs.declared.question.Trigger.{Trigger}
+use Rattle.farm_asks.specs.declared.reply.Answer.{Answer}
+use Rattle.farm_asks.specs.Access.{Access, Has, Refused, HasAccess, access_by, refusal_of}
 use Rattle.farm_machine.specs.Calls.CreateTask.{create_task}
 use Rattle.farm_machine.specs.Calls.TriggerHook.{hook_at, of_hook, trigger_hook, Fired, unless_lacking, by_access, HookMay, fault_answer, Follows, ComesTo, case_after}
 use Rattle.farm_machine.specs.Case.{Setting, Case}
-use Rattle.farm_machine.specs.Entry.{Asking, Entry, call, finished}
+use Rattle.farm_asks.specs.Questions.{Asking}
+use Rattle.farm_machine.specs.Entry.{Entry, call, finished}
 use Rattle.farm_machine.specs.HookLaws.{TellsExactly, DeniesHookExactly, Triggered, Grants}
 use Rattle.farm_machine.specs.Judgement.{Judgement, only_answer}
 use Rattle.farm_machine.specs.Laws.{setting_behind}
 use Rattle.farm_machine.specs.Order.{asks_then, IsFirst, GoesOn, ending, in_order}
-use Rattle.farm_machine.specs.Replies.{insufficient_scopes, hook_insufficient_scopes, expansion_limit, template_fault, too_costly, bad_body}
+use Rattle.farm_asks.specs.Replies.{insufficient_scopes, hook_insufficient_scopes, expansion_limit, template_fault, too_costly, bad_body}
 use Rattle.farm_machine.specs.State.{State}
 use Rattle.farm_machine.specs.Verdict.{form_of, IsVerdict}
 use Rattle.farm_machine.proofs.DenialLemmas.{not_denied, create-other, rules-other, held-first}

@@ -17,14 +17,15 @@ use Rattle.farm_rows.specs.Changes.{may_be, may_apply}
 use Rattle.farm_rows.specs.Contents.{Contents, no_contents, row_with}
 use Rattle.farm_rows.specs.Due.{is_due}
 use Rattle.farm_rows.proofs.EndLemmas.{before-end}
-use Rattle.farm_machine.specs.Entry.{Asking, Entry, call, finished}
+use Rattle.farm_asks.specs.Questions.{Asking}
+use Rattle.farm_machine.specs.Entry.{Entry, call, finished}
 use Rattle.farm_machine.specs.Judgement.{Judgement}
 use Rattle.farm_machine.specs.Laws.{Finished}
 use Rattle.farm_machine.specs.Replay.{replayed, Restores}
 use Rattle.farm_machine.specs.RunLaws.{run_among, reported_run, IsInTime}
 use Rattle.farm_machine.specs.State.{State}
 use Rattle.farm_machine.specs.Step.{farm_rules}
-use Rattle.farm_machine.specs.Works.{at_moment}
+use Rattle.farm_asks.specs.Works.{at_moment}
 use Rattle.farm_machine.proofs.LastRunLemmas.{is_sound, are_sound, Runs, runs-at, open-last, entries-sound}
 use Rattle.farm_machine.proofs.OnceLemmas.{entry-may}
 use Rattle.farm_machine.proofs.ReplayLemmas.{replayed-append}

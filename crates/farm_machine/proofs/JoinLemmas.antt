@@ -10,13 +10,13 @@ use Rattle.farm_rows.specs.Contents.{row_with}
 use Rattle.farm_rows.specs.Waits.{missing_dependency, early_dependency}
 use Rattle.farm_rows.proofs.WaitLemmas.{waits-well}
 use Rattle.farm_machine.specs.declared.case.Done.TheVariants.{Changes}
-use Rattle.farm_machine.specs.declared.reply.Answer.{Answer}
+use Rattle.farm_asks.specs.declared.reply.Answer.{Answer}
 use Rattle.farm_machine.specs.Calls.CreateTask.{standing, scheduler_besides, where_found, joining, create_task}
 use Rattle.farm_machine.specs.Case.{Setting, Rule, when, IsFirstRule}
 use Rattle.farm_machine.specs.Deeds.{IsReady, IsDeed}
 use Rattle.farm_machine.specs.Order.{full}
-use Rattle.farm_machine.specs.Replies.{too_late, bad_dependency, other_scheduler}
-use Rattle.farm_machine.specs.Works.{at_moment}
+use Rattle.farm_asks.specs.Replies.{too_late, bad_dependency, other_scheduler}
+use Rattle.farm_asks.specs.Works.{at_moment}
 use Rattle.farm_machine.proofs.MayLemmas.{no_truth, passed, may-all}
 
 -- ---- a rule of what is found

@@ -1,8 +1,5 @@
-pub mod AccessLemmas
 pub mod ChangeLemmas
 pub mod DenialLemmas
-pub mod ExpressionLemmas
-pub mod FaultLemmas
 pub mod FiredLemmas
 pub mod FiringLemmas
 pub mod HookLawLemmas
@@ -19,7 +16,6 @@ pub mod JoinLemmas
 mod ListedLemmas
 mod ReadyLawLemmas
 mod ServedLemmas
-pub mod WorkLemmas
 mod EqualLemmas
 mod LastRunLemmas
 mod DeedLemmas

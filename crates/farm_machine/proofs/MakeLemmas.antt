@@ -8,14 +8,14 @@ use Rattle.farm_rows.specs.Changes.{applied}
 use Rattle.farm_rows.specs.Contents.{Contents}
 use Rattle.farm_rows.specs.Plans as tasks
 use Rattle.farm_machine.specs.declared.judged.Judged.{Judged}
-use Rattle.farm_machine.specs.declared.works.Telling.{Telling}
+use Rattle.farm_asks.specs.declared.works.Telling.{Telling}
 use Rattle.farm_machine.specs.Case.{Setting, changing}
 use Rattle.farm_machine.specs.Order.{full, makes_task, done}
 use Rattle.farm_machine.specs.Planned.{judgement_of}
 use Rattle.farm_machine.specs.Refused.{IsPlannedSo, IsMade}
-use Rattle.farm_machine.specs.Replies.{ok, farm_full}
-use Rattle.farm_machine.specs.Tellings.{told_by}
-use Rattle.farm_machine.specs.Works.{told_of, at_moment}
+use Rattle.farm_asks.specs.Replies.{ok, farm_full}
+use Rattle.farm_asks.specs.Tellings.{told_by}
+use Rattle.farm_asks.specs.Works.{told_of, at_moment}
 use Rattle.farm_machine.proofs.OrderLemmas.{full-first, done-first, only-judged, only-kept}
 
 -- the change makes a task, and the farm has as many as it takes

@@ -14,9 +14,9 @@ use Rattle.farm_rows.specs.Contents.{Contents, row_with, HaveOwnIds}
 use Rattle.farm_rows.specs.Picks.{picks}
 use Rattle.farm_rows.proofs.ShownLemmas.{picks-few, picks-first}
 use Rattle.farm_machine.specs.declared.case.Done.TheVariants.{Reads, Changes}
-use Rattle.farm_machine.specs.declared.config.Config.{Config}
-use Rattle.farm_machine.specs.declared.question.WorkRequest.{WorkRequest}
-use Rattle.farm_machine.specs.declared.reply.Answer.{Answer}
+use Rattle.farm_asks.specs.declared.config.Config.{Config}
+use Rattle.farm_asks.specs.declared.question.WorkRequest.{WorkRequest}
+use Rattle.farm_asks.specs.declared.reply.Answer.{Answer}
 use Rattle.farm_machine.specs.Calls.CancelTask.{cancel_task}
 use Rattle.farm_machine.specs.Calls.ClaimWork.{claim_work}
 use Rattle.farm_machine.specs.Calls.ReclaimTask.{reclaim_task}
@@ -26,10 +26,10 @@ use Rattle.farm_machine.specs.Calls.ScheduleTask.{schedule_task}
 use Rattle.farm_machine.specs.Absent.{absent_run}
 use Rattle.farm_machine.specs.Case.{Setting, Deed, Rule, when, Case, passing, of_row, of_run, on_run, reading, IsFirstRule}
 use Rattle.farm_machine.specs.Changes.{changed}
-use Rattle.farm_machine.specs.Config.{claim_millis}
+use Rattle.farm_asks.specs.Config.{claim_millis}
 use Rattle.farm_machine.specs.Deeds.{IsReady, IsDeed}
-use Rattle.farm_machine.specs.Replies.{tells_status, conflict}
-use Rattle.farm_machine.specs.Works.{work_body, at_moment}
+use Rattle.farm_asks.specs.Replies.{tells_status, conflict}
+use Rattle.farm_asks.specs.Works.{work_body, at_moment}
 
 -- what is no truth is false
 pub no_truth : (b : Bool) → ¬ IsTrue b → b ≡ false

@@ -18,17 +18,18 @@ use Rattle.farm_rows.specs.Ready.{settled}
 use Rattle.farm_rows.proofs.AdvanceLemmas.{advance-stays}
 use Rattle.farm_rows.proofs.IdLemmas.{applied-stays}
 use Rattle.farm_rows.proofs.ReadyLemmas.{settled-stays}
-use Rattle.farm_machine.specs.declared.question.Call.{Call}
-use Rattle.farm_machine.specs.declared.question.Call.TheVariants.{CreateTask}
-use Rattle.farm_machine.specs.Access.{Has, HasAccess}
+use Rattle.farm_asks.specs.declared.question.Call.{Call}
+use Rattle.farm_asks.specs.declared.question.Call.TheVariants.{CreateTask}
+use Rattle.farm_asks.specs.Access.{Has, HasAccess}
 use Rattle.farm_machine.specs.Calls.CreateTask.{standing, create_task}
 use Rattle.farm_machine.specs.Case.{Rule, IsFirstRule}
 use Rattle.farm_machine.specs.Changes.{changed, moment_of}
-use Rattle.farm_machine.specs.Entry.{Asking, Entry, tick, call, finished, out_of_memory, disk_failed, was_halted}
+use Rattle.farm_asks.specs.Questions.{Asking}
+use Rattle.farm_machine.specs.Entry.{Entry, tick, call, finished, out_of_memory, disk_failed, was_halted}
 use Rattle.farm_machine.specs.Judgement.{Judgement, only_answer}
 use Rattle.farm_machine.specs.Laws.{Finished, setting_behind, created_by, has_id, creations, Stands}
 use Rattle.farm_machine.specs.Order.{IsFirst, in_order}
-use Rattle.farm_machine.specs.Replies.{ok, status_body}
+use Rattle.farm_asks.specs.Replies.{ok, status_body}
 use Rattle.farm_machine.specs.State.{State}
 use Rattle.farm_machine.specs.Step.{lawful, after, farm_rules}
 use Rattle.farm_machine.specs.Verdict.{form_of, setting_of, IsVerdict}

@@ -2,10 +2,10 @@
 use Rattle.std.proofs.Common.{◌≡◌, ◌⊎◌, ℕ, IfSome, IfOk, Result, Ok, Err, inl, inr, List, [], ◌∷◌, ◌++◌, map, Option, Some, None, option_map, refl, sym, ap, ◌∙◌, subst}
 use Rattle.scope_sets.specs.Expressions.{Expression, missing}
 use Rattle.farm_text.specs.Document.{document_text}
-use Rattle.farm_machine.specs.declared.config.Config.{Config}
-use Rattle.farm_machine.specs.declared.question.Caller.{Caller}
-use Rattle.farm_machine.specs.declared.reply.Answer.{Answer}
-use Rattle.farm_machine.specs.Access.{Access, Has, Refused, HasAccess}
+use Rattle.farm_asks.specs.declared.config.Config.{Config}
+use Rattle.farm_asks.specs.declared.question.Caller.{Caller}
+use Rattle.farm_asks.specs.declared.reply.Answer.{Answer}
+use Rattle.farm_asks.specs.Access.{Access, Has, Refused, HasAccess}
 use Rattle.farm_record.specs.declared.change.Kind.{Kind}
 use Rattle.farm_rows.specs.Contents.{Contents}
 use Rattle.farm_rows.specs.Plans as tasks
@@ -16,8 +16,8 @@ use Rattle.farm_machine.specs.Judgement.{Judgement, only_answer}
 use Rattle.farm_machine.specs.Order.{Form, has_no_route, has_bad_parameter, has_bad_body, asks, asks_then, route_of, parameter_of, body_of, case_of, Strikes, HasNoAccess, LacksScopes, IsEnded, full, IsDone, done, IsFirst, ending, GoesOn, behind, front, in_order}
 use Rattle.farm_machine.specs.Planned.{judgement_of}
 use Rattle.farm_machine.specs.Refused.{Passes, IsRefusal, IsJudged, IsFinished, IsMade}
-use Rattle.farm_machine.specs.Replies.{ok, insufficient_scopes}
-use Rattle.farm_machine.proofs.AccessLemmas.{HasAccess-one}
+use Rattle.farm_asks.specs.Replies.{ok, insufficient_scopes}
+use Rattle.farm_asks.proofs.AccessLemmas.{HasAccess-one}
 
 -- ---- where each part strikes
 

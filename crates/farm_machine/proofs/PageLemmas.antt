@@ -8,7 +8,7 @@ use Rattle.farm_rows.specs.Lists.{is_listed, listed, names_listed, page_rows, ha
 use Rattle.farm_rows.specs.declared.lists.Page.{Page}
 use Rattle.farm_rows.specs.declared.lists.TaskList.{TaskList}
 use Rattle.farm_rows.specs.declared.lists.TaskList.TheVariants.{Group}
-use Rattle.farm_machine.specs.declared.question.PageRequest.{PageRequest}
+use Rattle.farm_asks.specs.declared.question.PageRequest.{PageRequest}
 use Rattle.farm_machine.specs.Pages.{page_doc, token_behind, page_body}
 
 -- what is behind a reference is there where the reference is

@@ -2,12 +2,12 @@
 use Rattle.std.proofs.Common.{◌≡◌, ℕ, false, List, refl, subst}
 use Rattle.farm_rows.specs.Contents.{Contents}
 use Rattle.farm_rows.specs.Due.{is_due}
-use Rattle.farm_machine.specs.declared.config.Config.{Config}
+use Rattle.farm_asks.specs.declared.config.Config.{Config}
 use Rattle.farm_machine.specs.declared.judged.Judged.{Judged}
-use Rattle.farm_machine.specs.declared.question.Call.{Call}
-use Rattle.farm_machine.specs.declared.question.Caller.{Caller}
+use Rattle.farm_asks.specs.declared.question.Call.{Call}
+use Rattle.farm_asks.specs.declared.question.Caller.{Caller}
 use Rattle.farm_machine.specs.Changes.{moment_of}
-use Rattle.farm_machine.specs.Entry.{Asking}
+use Rattle.farm_asks.specs.Questions.{Asking}
 use Rattle.farm_machine.specs.Order.{IsFirst, in_order}
 use Rattle.farm_machine.specs.Planned.{judgement_of, IsPlanOf}
 use Rattle.farm_machine.specs.Refused.{setting_at, IsJudged}

@@ -23,7 +23,7 @@ use Rattle.farm_machine.specs.Replay.{may_come, left_by, after_replay, replayed,
 use Rattle.farm_machine.specs.RunLaws.{is_same_run, claims_by_kind, claims_in, claims_among}
 use Rattle.farm_machine.specs.State.{State}
 use Rattle.farm_machine.specs.Step.{farm_rules}
-use Rattle.farm_machine.specs.Works.{at_moment}
+use Rattle.farm_asks.specs.Works.{at_moment}
 use Rattle.farm_machine.proofs.ClaimLawLemmas.{one_if, has_claim, claim-stays, picks-taken, each-stands, Claims, claims-some, at-most, taken-more, claimed-few}
 use Rattle.farm_machine.proofs.SoundLemmas.{left-holds, replayed-first, replay-holds, own-stays, no-ids}
 

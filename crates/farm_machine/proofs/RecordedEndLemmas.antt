@@ -32,7 +32,7 @@ use Rattle.farm_machine.specs.Replay.{may_come, left_by, after_replay, replayed,
 use Rattle.farm_machine.specs.RunLaws.{is_same_run, run_among, run_in, reported_run, reports_by_kind, reports_among}
 use Rattle.farm_machine.specs.State.{State}
 use Rattle.farm_machine.specs.Step.{farm_rules}
-use Rattle.farm_machine.specs.Works.{at_moment}
+use Rattle.farm_asks.specs.Works.{at_moment}
 use Rattle.farm_machine.proofs.ClaimLawLemmas.{one_if, one-few, found-changed}
 use Rattle.farm_machine.proofs.InTimeLemmas.{Reports, reports-run, reported-there}
 use Rattle.farm_machine.proofs.LastRunLemmas.{has_end, Runs}

@@ -14,12 +14,13 @@ use Rattle.farm_rows.specs.Contents.{Contents, no_contents}
 use Rattle.farm_rows.specs.Due.{is_due, advance}
 use Rattle.farm_rows.proofs.TurnLemmas.{with_last}
 use Rattle.farm_machine.specs.Changes.{moment_of, reached, changed}
-use Rattle.farm_machine.specs.Entry.{Asking, Entry, tick, call, finished, out_of_memory, disk_failed, was_halted}
+use Rattle.farm_asks.specs.Questions.{Asking}
+use Rattle.farm_machine.specs.Entry.{Entry, tick, call, finished, out_of_memory, disk_failed, was_halted}
 use Rattle.farm_machine.specs.Replay.{may_tick, may_come, left_by, may_replay, after_replay, replayed, IsTried, records_by, records_of, Restores}
 use Rattle.farm_machine.specs.Replayed.{is_tick, IsTicked}
 use Rattle.farm_machine.specs.State.{State}
 use Rattle.farm_machine.specs.Step.{MayTick, lawful, after, IsToKeep, farm_rules}
-use Rattle.farm_machine.specs.Works.{at_moment}
+use Rattle.farm_asks.specs.Works.{at_moment}
 use Rattle.farm_machine.proofs.BehindLemmas.{IsBehind, behind-is, advance-behind, may_apply-behind, applied-behind, no_tick}
 
 -- ---- contents with an earlier last moment

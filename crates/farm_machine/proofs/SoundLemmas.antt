@@ -17,7 +17,7 @@ use Rattle.farm_rows.proofs.IdLemmas.{may-create, applied-none, applied-ids, app
 use Rattle.farm_rows.proofs.StartLemmas.{once-advance, once-applied}
 use Rattle.farm_machine.specs.Laws.{Stands}
 use Rattle.farm_machine.specs.Replay.{may_come, left_by, may_replay, after_replay, replayed, Restores}
-use Rattle.farm_machine.specs.Works.{at_moment}
+use Rattle.farm_asks.specs.Works.{at_moment}
 use Rattle.farm_machine.proofs.LastRunLemmas.{are_sound, advance-sound, applied-sound}
 use Rattle.farm_machine.proofs.OnceLemmas.{found-later, created-found}
 use Rattle.farm_machine.proofs.ReplayLemmas.{replayed-if, replayed-append, replayed-front}

@@ -1,7 +1,8 @@
 -- In a state a question and a reply have one entry.
 use Rattle.std.proofs.Common.{◌≡◌, Some, refl, ap, ◌∙◌, sym, subst}
 use Rattle.history.specs.Asks.{HasOneEntry}
-use Rattle.farm_machine.specs.Entry.{Asking, Outcome, finished, out_of_memory, disk_failed, was_halted, Entry, tick, call}
+use Rattle.farm_asks.specs.Questions.{Asking}
+use Rattle.farm_machine.specs.Entry.{Outcome, finished, out_of_memory, disk_failed, was_halted, Entry, tick, call}
 use Rattle.farm_machine.specs.State.{State}
 use Rattle.farm_machine.specs.Step.{MayBecome, lawful, asked, reply_to, reply, farm_rules}
 use Rattle.farm_machine.proofs.VerdictLemmas.{IsVerdict-one}

@@ -9,21 +9,21 @@ use Rattle.farm_rows.specs.Changes.{reason_of}
 use Rattle.farm_rows.specs.Contents.{row_with}
 use Rattle.farm_rows.specs.Waits.{missing_dependency, early_dependency}
 use Rattle.task_defs.specs.declared.task_def.TaskDef.{TaskDef}
-use Rattle.farm_machine.specs.declared.question.Call.{Call}
-use Rattle.farm_machine.specs.declared.question.Call.TheVariants.{NoRoute, BadParameter, BadBody, Ping, Task, Status, ListTaskGroup, ListDependentTasks, PendingTasks, CreateTask, ClaimWork, ReclaimTask, ReportRun, ScheduleTask, RerunTask, CancelTask, TriggerHook}
-use Rattle.farm_machine.specs.declared.reply.Answer.{Answer}
-use Rattle.farm_machine.specs.declared.question.Caller.{Caller}
+use Rattle.farm_asks.specs.declared.question.Call.{Call}
+use Rattle.farm_asks.specs.declared.question.Call.TheVariants.{NoRoute, BadParameter, BadBody, Ping, Task, Status, ListTaskGroup, ListDependentTasks, PendingTasks, CreateTask, ClaimWork, ReclaimTask, ReportRun, ScheduleTask, RerunTask, CancelTask, TriggerHook}
+use Rattle.farm_asks.specs.declared.reply.Answer.{Answer}
+use Rattle.farm_asks.specs.declared.question.Caller.{Caller}
 use Rattle.farm_machine.specs.Calls.CreateTask.{standing, scheduler_besides, where_found, joining, create_task}
 use Rattle.farm_machine.specs.Calls.TriggerHook.{hook_at, Fired, case_after}
 use Rattle.farm_machine.specs.Laws.{FiringEnds}
 use Rattle.farm_machine.specs.Case.{Setting, Case, Rule, when, of_row, of_run}
 use Rattle.farm_machine.specs.Changes.{moment_of}
-use Rattle.farm_machine.specs.Entry.{Asking}
+use Rattle.farm_asks.specs.Questions.{Asking}
 use Rattle.farm_machine.specs.Judgement.{Judgement}
-use Rattle.farm_machine.specs.Replies.{too_late, bad_dependency, tells_status, conflict, other_scheduler}
+use Rattle.farm_asks.specs.Replies.{too_late, bad_dependency, tells_status, conflict, other_scheduler}
 use Rattle.farm_machine.specs.State.{State}
 use Rattle.farm_machine.specs.Verdict.{form_of, setting_of, IsVerdict}
-use Rattle.farm_machine.proofs.AccessLemmas.{HasAccess-some}
+use Rattle.farm_asks.proofs.AccessLemmas.{HasAccess-some}
 use Rattle.farm_machine.proofs.EqualLemmas.{definition_decided}
 use Rattle.farm_machine.proofs.FiredLemmas.{ComesTo-one, ComesTo-some, firing-ends}
 use Rattle.farm_machine.proofs.OrderLemmas.{AreDecided, IsDecided, IsDetermined, in_order-one, in_order-some}

@@ -6,14 +6,15 @@ use Rattle.farm_record.specs.declared.change.Kind.TheVariants.{Tick, Create, Sch
 use Rattle.farm_record.specs.Records.{IsSaid}
 use Rattle.farm_rows.specs.Plans.{Planned}
 use Rattle.farm_machine.specs.declared.judged.Judged.{Judged}
-use Rattle.farm_machine.specs.declared.question.Call.{Call}
-use Rattle.farm_machine.specs.Entry.{Asking}
+use Rattle.farm_asks.specs.declared.question.Call.{Call}
+use Rattle.farm_asks.specs.Questions.{Asking}
 use Rattle.farm_machine.specs.Judgement.{Judgement}
 use Rattle.farm_machine.specs.Laws.{creation_of, creation_of_kind}
 use Rattle.farm_machine.specs.Planned.{judgement_of}
 use Rattle.farm_machine.specs.State.{State}
 use Rattle.farm_machine.specs.Verdict.{IsVerdict}
-use Rattle.farm_machine.specs.Written.{IsSaidCall, AreWritten, AreRecorded}
+use Rattle.farm_asks.specs.Questions.{IsSaidCall}
+use Rattle.farm_machine.specs.Written.{AreWritten, AreRecorded}
 use Rattle.farm_machine.proofs.ChangeLemmas.{verdict-creates}
 
 -- the change of a verdict makes no task that was not said

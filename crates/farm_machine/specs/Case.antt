@@ -9,10 +9,10 @@ use Rattle.farm_record.specs.declared.change.Kind.{Kind}
 use Rattle.run_states.specs.Rows.{Row}
 use Rattle.farm_rows.specs.Contents.{Contents, row_with}
 use Rattle.farm_rows.specs.Plans.{named_rows}
-use Rattle.farm_machine.specs.declared.reply.Answer.{Answer}
-use Rattle.farm_machine.specs.Replies.{not_found}
+use Rattle.farm_asks.specs.declared.reply.Answer.{Answer}
+use Rattle.farm_asks.specs.Replies.{not_found}
 use Rattle.farm_machine.specs.State.{State}
-use Rattle.farm_machine.specs.Works.{told_of, at_moment}
+use Rattle.farm_asks.specs.Works.{told_of, at_moment}
 
 -- where a call is judged: the state, its moment, and the id that was drawn for it
 pub record Setting : Type 0 where

@@ -3,7 +3,7 @@ use Rattle.std.specs.Prelude.{ℕ, max, Option, Some, None}
 use Rattle.farm_record.specs.declared.change.Change.{Change}
 use Rattle.farm_rows.specs.Changes.{applied}
 use Rattle.farm_rows.specs.Contents.{Contents}
-use Rattle.farm_machine.specs.Entry.{Asking}
+use Rattle.farm_asks.specs.Questions.{Asking}
 
 -- the moment of a call: the greater of the clock's and the last
 abbrev pub moment_of : Contents → Asking → ℕ

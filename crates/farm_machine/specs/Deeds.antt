@@ -9,7 +9,7 @@ use Rattle.farm_machine.specs.declared.case.Done.TheVariants.{Reads, Changes}
 use Rattle.farm_machine.specs.Case.{Setting, Deed, changing}
 use Rattle.farm_machine.specs.Changes.{changed}
 use Rattle.farm_machine.specs.Order.{full}
-use Rattle.farm_machine.specs.Works.{at_moment}
+use Rattle.farm_asks.specs.Works.{at_moment}
 
 -- the moment is one that a clock tells and not before the last, and nothing is due at it
 pub record IsReady (at : Setting) : Type 0 where

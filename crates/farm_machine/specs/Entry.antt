@@ -1,15 +1,7 @@
 -- What happens to a farm: a tick, or a call and what became of it.
-use Rattle.std.specs.Prelude.{ℕ, List}
-use Rattle.farm_machine.specs.declared.question.Call.{Call}
-use Rattle.farm_machine.specs.declared.question.Caller.{Caller}
+use Rattle.std.specs.Prelude.{ℕ}
+use Rattle.farm_asks.specs.Questions.{Asking}
 use Rattle.farm_machine.specs.Judgement.{Judgement}
-
--- a call as it was asked: the clock's moment, the id drawn for it, who calls, and what
-pub record Asking : Type 0 where
-  pub moment : ℕ
-  pub drawn : List ℕ
-  pub caller : Caller
-  pub call : Call
 
 -- what became of a call: it was judged so, memory ran out, a call of the disk failed in it, or one had failed before it
 pub data Outcome : Type 0 where

@@ -3,7 +3,7 @@ use Rattle.std.specs.Prelude.{Option, Some, None, Ok, Err}
 use Rattle.farm_record.specs.declared.change.Creation.{Creation}
 use Rattle.farm_machine.specs.declared.firing.Firing.{Firing}
 use Rattle.farm_machine.specs.declared.firing.Firing.TheVariants.{Makes, Refuses}
-use Rattle.farm_machine.specs.declared.reply.Answer.{Answer}
+use Rattle.farm_asks.specs.declared.reply.Answer.{Answer}
 use Rattle.farm_machine.specs.Calls.TriggerHook.{Fired}
 
 -- what comes of the hook that is told of

@@ -7,16 +7,17 @@ use Rattle.farm_text.specs.Document.{object}
 use Rattle.hook_fire.specs.Firing.{Defines}
 use Rattle.hook_fire.specs.Hooks.{HookData}
 use Rattle.task_defs.specs.declared.task_def.TaskDef.{TaskDef}
-use Rattle.farm_machine.specs.declared.question.Call.TheVariants.{TriggerHook}
-use Rattle.farm_machine.specs.declared.question.Trigger.{Trigger}
-use Rattle.farm_machine.specs.declared.reply.Answer.{Answer}
-use Rattle.farm_machine.specs.Access.{Has, HasAccess}
+use Rattle.farm_asks.specs.declared.question.Call.TheVariants.{TriggerHook}
+use Rattle.farm_asks.specs.declared.question.Trigger.{Trigger}
+use Rattle.farm_asks.specs.declared.reply.Answer.{Answer}
+use Rattle.farm_asks.specs.Access.{Has, HasAccess}
 use Rattle.farm_machine.specs.Calls.TriggerHook.{hook_at, HookMay}
 use Rattle.farm_machine.specs.Case.{Setting}
-use Rattle.farm_machine.specs.Entry.{Asking, Entry}
+use Rattle.farm_asks.specs.Questions.{Asking}
+use Rattle.farm_machine.specs.Entry.{Entry}
 use Rattle.farm_machine.specs.Judgement.{Judgement}
 use Rattle.farm_machine.specs.Laws.{Finished, setting_behind, IsLack}
-use Rattle.farm_machine.specs.Replies.{insufficient_scopes, hook_insufficient_scopes}
+use Rattle.farm_asks.specs.Replies.{insufficient_scopes, hook_insufficient_scopes}
 use Rattle.farm_machine.specs.State.{State}
 
 -- The answer tells what is missing of the scopes exactly where they do not hold the expression; and that is something.

@@ -1,7 +1,7 @@
 -- What a call is answered, and what it changes.
 use Rattle.std.specs.Prelude.{Option, None}
 use Rattle.farm_record.specs.declared.change.Change.{Change}
-use Rattle.farm_machine.specs.declared.reply.Answer.{Answer}
+use Rattle.farm_asks.specs.declared.reply.Answer.{Answer}
 
 -- what a call is answered, and what it changes
 pub record Judgement : Type 0 where

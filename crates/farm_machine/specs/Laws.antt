@@ -17,17 +17,18 @@ use Rattle.task_defs.specs.declared.task_def.TaskDef.{TaskDef}
 use Rattle.run_states.specs.Rows.{Row}
 use Rattle.farm_rows.specs.Changes.{creating}
 use Rattle.farm_rows.specs.Contents.{Contents, row_with}
-use Rattle.farm_machine.specs.declared.question.Call.{Call}
-use Rattle.farm_machine.specs.declared.question.Call.TheVariants.{CreateTask, TriggerHook}
-use Rattle.farm_machine.specs.declared.reply.Answer.{Answer}
-use Rattle.farm_machine.specs.Access.{Has, HasAccess}
+use Rattle.farm_asks.specs.declared.question.Call.{Call}
+use Rattle.farm_asks.specs.declared.question.Call.TheVariants.{CreateTask, TriggerHook}
+use Rattle.farm_asks.specs.declared.reply.Answer.{Answer}
+use Rattle.farm_asks.specs.Access.{Has, HasAccess}
 use Rattle.farm_machine.specs.Calls.TriggerHook.{hook_at}
 use Rattle.farm_machine.specs.Case.{Setting}
-use Rattle.farm_machine.specs.Entry.{Asking, Entry, call, finished}
+use Rattle.farm_asks.specs.Questions.{Asking}
+use Rattle.farm_machine.specs.Entry.{Entry, call, finished}
 use Rattle.farm_machine.specs.Judgement.{Judgement, only_answer}
 use Rattle.farm_machine.specs.Order.{Form, asks}
 use Rattle.farm_machine.specs.Replay.{Restores}
-use Rattle.farm_machine.specs.Replies.{ok, status_body, insufficient_scopes}
+use Rattle.farm_asks.specs.Replies.{ok, status_body, insufficient_scopes}
 use Rattle.farm_machine.specs.State.{State}
 use Rattle.farm_machine.specs.Step.{farm_rules}
 use Rattle.farm_machine.specs.Verdict.{form_of, setting_of}

@@ -2,17 +2,17 @@
 use Rattle.std.specs.Prelude.{◌≡◌, ◌⊎◌, ℕ, min, nat_le, Bool, true, false, ◌&&◌, List, [], ◌∷◌, ◌++◌, map, length, Option, Some, None, option_map, if◌then◌else◌}
 use Rattle.scope_sets.specs.Expressions.{Expression, missing}
 use Rattle.farm_text.specs.Document.{document_text}
-use Rattle.farm_machine.specs.declared.config.Config.{Config}
-use Rattle.farm_machine.specs.declared.question.Caller.{Caller}
-use Rattle.farm_machine.specs.declared.reply.Answer.{Answer}
-use Rattle.farm_machine.specs.Access.{Has, Refused, HasAccess}
+use Rattle.farm_asks.specs.declared.config.Config.{Config}
+use Rattle.farm_asks.specs.declared.question.Caller.{Caller}
+use Rattle.farm_asks.specs.declared.reply.Answer.{Answer}
+use Rattle.farm_asks.specs.Access.{Has, Refused, HasAccess}
 use Rattle.farm_record.specs.declared.change.Change.{Change}
 use Rattle.farm_record.specs.declared.change.Kind.{Kind}
 use Rattle.farm_record.specs.declared.change.Kind.TheVariants.{Create}
 use Rattle.farm_machine.specs.Case.{Setting, Deed, Rule, Case, passing}
 use Rattle.farm_machine.specs.Changes.{changed}
 use Rattle.farm_machine.specs.Judgement.{Judgement, only_answer}
-use Rattle.farm_machine.specs.Replies.{ok, insufficient_scopes, farm_full}
+use Rattle.farm_asks.specs.Replies.{ok, insufficient_scopes, farm_full}
 use Rattle.farm_machine.specs.State.{State}
 
 -- The form of what is called: it has no route, or a parameter or a body off its form, with that answer, or it asks something; or where nothing

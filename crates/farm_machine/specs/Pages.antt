@@ -8,9 +8,9 @@ use Rattle.farm_rows.specs.Lists.{listed, names_listed, page_rows, has_more, nex
 use Rattle.farm_rows.specs.declared.lists.TaskList.{TaskList}
 use Rattle.farm_rows.specs.declared.lists.TaskList.TheVariants.{Group, Dependants}
 use Rattle.task_statuses.specs.Statuses.{where_some, definition_of, status_of}
-use Rattle.farm_machine.specs.declared.question.PageRequest.{PageRequest}
-use Rattle.farm_machine.specs.declared.reply.Answer.{Answer}
-use Rattle.farm_machine.specs.Replies.{bad_parameter}
+use Rattle.farm_asks.specs.declared.question.PageRequest.{PageRequest}
+use Rattle.farm_asks.specs.declared.reply.Answer.{Answer}
+use Rattle.farm_asks.specs.Replies.{bad_parameter}
 
 -- the answer where the token names no task of the list
 abbrev pub bad_token : TaskList → PageRequest → List Row → Option Answer

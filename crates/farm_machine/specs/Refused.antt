@@ -6,18 +6,18 @@ use Rattle.farm_record.specs.declared.change.Change.{Change}
 use Rattle.farm_record.specs.declared.change.Kind.{Kind}
 use Rattle.farm_rows.specs.Contents.{Contents}
 use Rattle.farm_rows.specs.Plans as tasks
-use Rattle.farm_machine.specs.declared.config.Config.{Config}
+use Rattle.farm_asks.specs.declared.config.Config.{Config}
 use Rattle.farm_machine.specs.declared.judged.Judged.{Judged}
-use Rattle.farm_machine.specs.declared.question.Caller.{Caller}
-use Rattle.farm_machine.specs.declared.reply.Answer.{Answer}
-use Rattle.farm_machine.specs.Access.{Has, HasAccess}
+use Rattle.farm_asks.specs.declared.question.Caller.{Caller}
+use Rattle.farm_asks.specs.declared.reply.Answer.{Answer}
+use Rattle.farm_asks.specs.Access.{Has, HasAccess}
 use Rattle.farm_machine.specs.Case.{Setting, Case, changing}
 use Rattle.farm_machine.specs.Judgement.{only_answer}
 use Rattle.farm_machine.specs.Order.{Form, asks, Strikes, full, IsDone, front, ending, in_order, IsFirst}
 use Rattle.farm_machine.specs.Planned.{judgement_of}
-use Rattle.farm_machine.specs.Replies.{ok}
+use Rattle.farm_asks.specs.Replies.{ok}
 use Rattle.farm_machine.specs.State.{working}
-use Rattle.farm_machine.specs.Works.{told_of}
+use Rattle.farm_asks.specs.Works.{told_of}
 
 -- where a call is judged over these tables
 abbrev pub setting_at : Config → Contents → ℕ → List ℕ → Setting

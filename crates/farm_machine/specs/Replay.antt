@@ -13,10 +13,11 @@ use Rattle.farm_rows.specs.Contents.{Contents, no_contents, HaveOwnIds}
 use Rattle.farm_rows.specs.Due.{is_due, advance}
 use Rattle.farm_rows.specs.Ready.{has_ready}
 use Rattle.farm_rows.specs.Starts.{starts_once}
-use Rattle.farm_machine.specs.Entry.{Asking, Entry, tick, call, finished}
+use Rattle.farm_asks.specs.Questions.{Asking}
+use Rattle.farm_machine.specs.Entry.{Entry, tick, call, finished}
 use Rattle.farm_machine.specs.State.{State}
 use Rattle.farm_machine.specs.Step.{IsToKeep, farm_rules}
-use Rattle.farm_machine.specs.Works.{at_moment}
+use Rattle.farm_asks.specs.Works.{at_moment}
 
 -- a tick may come at a moment that is not before the last, that a clock may tell, and at which something is due
 abbrev pub may_tick : Contents → ℕ → Bool

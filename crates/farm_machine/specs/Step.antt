@@ -4,13 +4,14 @@ use Rattle.history.specs.Rules.{Rules}
 use Rattle.farm_record.specs.declared.change.Change.{Change}
 use Rattle.farm_record.specs.Records.{tick_at}
 use Rattle.farm_text.specs.declared.moment.TheConstants.{LAST_TOLD_MOMENT}
-use Rattle.farm_machine.specs.declared.reply.Asked.{Asked}
-use Rattle.farm_machine.specs.declared.reply.Reply.{Reply}
-use Rattle.farm_machine.specs.declared.reply.Reply.TheVariants.{Answered, OutOfMemory, DiskFault, Halted}
+use Rattle.farm_asks.specs.declared.reply.Asked.{Asked}
+use Rattle.farm_asks.specs.declared.reply.Reply.{Reply}
+use Rattle.farm_asks.specs.declared.reply.Reply.TheVariants.{Answered, OutOfMemory, DiskFault, Halted}
 use Rattle.farm_rows.specs.Changes.{may_apply}
 use Rattle.farm_rows.specs.Due.{is_due, advance}
 use Rattle.farm_machine.specs.Changes.{moment_of, reached, changed}
-use Rattle.farm_machine.specs.Entry.{Asking, Outcome, finished, out_of_memory, disk_failed, was_halted, Entry, tick, call}
+use Rattle.farm_asks.specs.Questions.{Asking}
+use Rattle.farm_machine.specs.Entry.{Outcome, finished, out_of_memory, disk_failed, was_halted, Entry, tick, call}
 use Rattle.farm_machine.specs.Judgement.{Judgement}
 use Rattle.farm_machine.specs.State.{State}
 use Rattle.farm_machine.specs.Verdict.{IsVerdict}

@@ -1,9 +1,7 @@
 -- What a call is answered and what it changes: the table of calls, and the verdict in the one order of refusals.
 use Rattle.std.specs.Prelude.{ℕ, List, codes}
-use Rattle.farm_machine.specs.declared.question.Call.{Call}
-use Rattle.farm_machine.specs.declared.question.Call.TheVariants.{NoRoute, BadParameter, BadBody, Ping, Task, Status, ListTaskGroup, ListDependentTasks, PendingTasks, CreateTask, ClaimWork, ReclaimTask, ReportRun, ScheduleTask, RerunTask, CancelTask, TriggerHook}
-use Rattle.farm_machine.specs.declared.question.Parameter.{Parameter}
-use Rattle.farm_machine.specs.declared.question.Parameter.TheVariants.{TaskId, RunId, TaskGroupId, Queue, HookGroupId, HookId, Limit, ContinuationToken}
+use Rattle.farm_asks.specs.declared.question.Call.{Call}
+use Rattle.farm_asks.specs.declared.question.Call.TheVariants.{NoRoute, BadParameter, BadBody, Ping, Task, Status, ListTaskGroup, ListDependentTasks, PendingTasks, CreateTask, ClaimWork, ReclaimTask, ReportRun, ScheduleTask, RerunTask, CancelTask, TriggerHook}
 use Rattle.farm_machine.specs.Calls.CancelTask.{cancel_task}
 use Rattle.farm_machine.specs.Calls.ClaimWork.{claim_work}
 use Rattle.farm_machine.specs.Calls.CreateTask.{create_task}
@@ -20,22 +18,11 @@ use Rattle.farm_machine.specs.Calls.Task.{task}
 use Rattle.farm_machine.specs.Calls.TriggerHook.{Fired, trigger_hook, ComesTo, case_after}
 use Rattle.farm_machine.specs.Case.{Setting}
 use Rattle.farm_machine.specs.Changes.{moment_of}
-use Rattle.farm_machine.specs.Entry.{Asking}
+use Rattle.farm_asks.specs.Questions.{Asking, parameter_name}
 use Rattle.farm_machine.specs.Judgement.{Judgement}
 use Rattle.farm_machine.specs.Order.{Form, has_no_route, has_bad_parameter, has_bad_body, asks, asks_then, in_order, IsFirst}
-use Rattle.farm_machine.specs.Replies.{not_found, bad_parameter, bad_body}
+use Rattle.farm_asks.specs.Replies.{not_found, bad_parameter, bad_body}
 use Rattle.farm_machine.specs.State.{State}
-
--- the name by which a reply tells of a parameter
-abbrev pub parameter_name : Parameter → List ℕ
-parameter_name TaskId = codes "taskId"
-parameter_name RunId = codes "runId"
-parameter_name TaskGroupId = codes "taskGroupId"
-parameter_name Queue = codes "queue"
-parameter_name HookGroupId = codes "hookGroupId"
-parameter_name HookId = codes "hookId"
-parameter_name Limit = codes "limit"
-parameter_name ContinuationToken = codes "continuationToken"
 
 -- the table of calls
 abbrev pub form_of : Call → Form

@@ -1,16 +1,8 @@
 -- The record of what a call changes: its text, which is read again where some document says the definition of a task that it makes.
 use Rattle.std.specs.Prelude.{ℕ, List, Option, Some, None}
 use Rattle.farm_record.specs.declared.change.Change.{Change}
-use Rattle.farm_record.specs.declared.change.Kind.TheVariants.{Create}
 use Rattle.farm_record.specs.Records.{IsSpelled, IsRecord, IsSaid}
 use Rattle.farm_rows.specs.Plans.{Planned}
-use Rattle.farm_machine.specs.declared.question.Call.{Call}
-use Rattle.farm_machine.specs.declared.question.Call.TheVariants.{CreateTask}
-
--- some document says the definition of a task that a call makes
-abbrev pub IsSaidCall : Call → Type 0
-IsSaidCall (CreateTask creation) = IsSaid (Create creation)
-IsSaidCall call = Unit {0}
 
 -- the text is what is written of a change, from which it can be read where some document says it
 pub record IsWritten (change : Change) (text : List ℕ) : Type 0 where

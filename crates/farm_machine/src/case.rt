@@ -1,14 +1,14 @@
 //! What one call has for the order of refusals, and where it is judged.
 ghost use Rattle.std.specs.Prelude.{◌≡◌, ◌+◌, ◌≤◌, None, IfOk};
 ghost use Rattle.farm_text.specs.declared.moment.TheConstants.{LAST_TOLD_MOMENT};
-ghost use Rattle.farm_machine.specs.Config.{claim_millis};
+ghost use Rattle.farm_asks.specs.Config.{claim_millis};
 ghost use Rattle.scope_sets.specs.Expressions.{view};
 ghost use Rattle.farm_machine.specs.Case.{Setting, Case, IsFirstRule};
 ghost use Rattle.farm_machine.specs.Deeds.{IsDeed, IsReady};
 
-use crate::config::Config;
-use crate::reply::Answer;
 use crate::tables::Tables;
+use farm_asks::config::Config;
+use farm_asks::reply::Answer;
 use farm_record::Kind;
 use farm_text::{Moment, SlugId, Text};
 use scope_sets::Expr;

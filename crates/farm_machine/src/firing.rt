@@ -2,15 +2,15 @@
 ghost use Rattle.std.specs.Prelude.{◌≡◌, ◌≢◌, Some, None, IfOk};
 ghost use Rattle.scope_sets.specs.Expressions.{missing};
 ghost use Rattle.call_rules.specs.Policy.{create_policy as create_expression};
-ghost use Rattle.farm_machine.specs.Access.{Access};
+ghost use Rattle.farm_asks.specs.Access.{Access};
 ghost use Rattle.farm_machine.specs.Calls.TriggerHook.{hook_at, ComesTo, HookMay, by_access, fault_answer, unless_lacking};
 ghost use Rattle.farm_machine.specs.Firings.{outcome_of, fired_by};
 
-use crate::answers;
 use crate::case::Scene;
-use crate::question::{BodyFault, Trigger};
-use crate::reply::Answer;
 use call_rules::{HookName, create_policy, hook_scope};
+use farm_asks::answers;
+use farm_asks::question::{BodyFault, Trigger};
+use farm_asks::reply::Answer;
 use farm_record::Creation;
 use hook_fire::{FireFault, fire};
 use role_expand::ExpandFault;

@@ -2,7 +2,7 @@ ghost use Rattle.std.specs.Prelude.{◌≡◌, Some, None, option_map};
 ghost use Rattle.farm_machine.specs.Judgement.{only_answer};
 ghost use Rattle.farm_machine.specs.Written.{AreWritten};
 
-use crate::reply::Answer;
+use farm_asks::reply::Answer;
 use farm_rows::TaskPlan;
 
 /// A judgement: what a call is answered, and the plan of what it changes.

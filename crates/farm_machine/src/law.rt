@@ -4,7 +4,7 @@ ghost use Rattle.std.specs.Prelude.{◌≡◌, ◌≤◌, ℕ};
 ghost use Rattle.hawk_auth.specs.Clients.{IsBook};
 ghost use Rattle.role_expand.specs.Cycles.{IsAccepted};
 ghost use Rattle.farm_machine.specs.Changes.{moment_of};
-ghost use Rattle.farm_machine.specs.Entry.{Asking};
+ghost use Rattle.farm_asks.specs.Questions.{Asking};
 ghost use Rattle.farm_machine.specs.State.{State};
 ghost use Rattle.farm_machine.specs.Judgement.{Judgement};
 ghost use Rattle.farm_machine.specs.HookLaws.{CallersAreExact, HooksAreExact, StarMayTrigger, StarMayCreate};
@@ -16,8 +16,8 @@ ghost use Rattle.farm_machine.specs.Step.{farm_rules};
 ghost use Rattle.farm_machine.specs.Verdict.{setting_of, IsVerdict};
 ghost use Rattle.history.specs.Asks.{HasOneEntry};
 
-use crate::question::Question;
-use crate::reply::{Asked, Reply};
+use farm_asks::question::Question;
+use farm_asks::reply::{Asked, Reply};
 use history::Machine;
 use std::marker::Model;
 

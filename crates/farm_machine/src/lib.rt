@@ -5,24 +5,15 @@
 //! by `tick`. What a disk has the records of is made again by `replay`.
 #![tactic(auto)]
 
-mod access;
-mod answers;
-mod bodies;
 mod calls;
 mod case;
-pub mod config;
-mod expressions;
 mod firing;
-pub mod grants;
 mod judged;
 pub mod law;
 mod named;
 mod order;
 mod pages;
 pub mod plan;
-pub mod question;
 pub mod replay;
-pub mod reply;
 pub mod step;
 pub mod tables;
-mod works;

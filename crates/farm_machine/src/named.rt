@@ -2,9 +2,9 @@
 ghost use Rattle.std.specs.Prelude.{◌≡◌, IfOk};
 ghost use Rattle.farm_machine.specs.Absent.{absent_run};
 
-use crate::answers;
 use crate::case::Scene;
-use crate::reply::Answer;
+use farm_asks::answers;
+use farm_asks::reply::Answer;
 use farm_record::RunName;
 use std::alloc::{AllocError, Global};
 

@@ -4,12 +4,12 @@ ghost use Rattle.std.specs.List.{last_or};
 ghost use Rattle.farm_text.specs.Document.{array, items_of, document_text};
 ghost use Rattle.task_statuses.specs.Tokens.{tokens_of, tokens_of_members};
 ghost use Rattle.farm_machine.specs.Pages as pages;
-ghost use Rattle.farm_machine.specs.Shown.{token_members};
+ghost use Rattle.farm_asks.specs.Shown.{token_members};
 
-use crate::answers;
 use crate::case::Scene;
-use crate::question::{PageRequest, Parameter};
-use crate::reply::Answer;
+use farm_asks::answers;
+use farm_asks::question::{PageRequest, Parameter};
+use farm_asks::reply::Answer;
 use farm_rows::{Page, TaskList};
 use farm_text::{SlugId, Text};
 use json::Writer;

@@ -3,17 +3,16 @@
 ghost use Rattle.std.specs.Prelude.{◌≡◌, ◌≤◌, false, None, IfOk, option_map};
 ghost use Rattle.farm_text.specs.declared.moment.TheConstants.{LAST_TOLD_MOMENT};
 ghost use Rattle.farm_rows.specs.Due.{is_due};
-ghost use Rattle.farm_machine.specs.declared.question.Call.{Call as AnyCall};
+ghost use Rattle.farm_asks.specs.declared.question.Call.{Call as AnyCall};
 ghost use Rattle.farm_machine.specs.Changes.{moment_of as moment_by, changed};
 ghost use Rattle.farm_machine.specs.Deeds.{IsReady};
 ghost use Rattle.farm_machine.specs.Order.{asks};
 ghost use Rattle.farm_machine.specs.Planned.{IsPlanOf, IsPlanOn};
 ghost use Rattle.farm_machine.specs.Refused.{setting_at, IsJudged};
-ghost use Rattle.farm_machine.specs.Replies.{bad_body};
+ghost use Rattle.farm_asks.specs.Replies.{bad_body};
 ghost use Rattle.farm_machine.specs.Verdict.{form_of};
 ghost use Rattle.farm_machine.specs.Written.{AreWritten};
 
-use crate::answers;
 use crate::calls::cancel_task::CancelTask;
 use crate::calls::claim_work::ClaimWork;
 use crate::calls::create_task::CreateTask;
@@ -29,13 +28,14 @@ use crate::calls::status::Status;
 use crate::calls::task::Task;
 use crate::calls::trigger_hook::judge_trigger;
 use crate::case::Called;
-use crate::config::Config;
 use crate::judged::Judged;
 use crate::order::judge;
 use crate::plan::Plan;
-use crate::question::{BodyFault, Call, Caller, Question, Trigger};
-use crate::reply::Reply;
 use crate::tables::Tables;
+use farm_asks::answers;
+use farm_asks::config::Config;
+use farm_asks::question::{BodyFault, Call, Caller, Question, Trigger};
+use farm_asks::reply::Reply;
 use farm_text::{Moment, SlugId};
 use std::alloc::{AllocError, Global};
 

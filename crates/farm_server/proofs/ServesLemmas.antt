@@ -13,8 +13,8 @@ use Rattle.http_wire.specs.Calls.{CountsReads}
 use Rattle.http_wire.specs.Reading.{Loses}
 use Rattle.http_wire.specs.Reading.{Ends as EndsStream}
 use Rattle.http_wire.specs.Stream.{whole, Gives, Messages, TakesOne, Stops, is_of_stream, stopped, closed}
-use Rattle.farm_machine.specs.declared.question.Call.{Call}
-use Rattle.farm_machine.specs.declared.reply.Reply.{Reply}
+use Rattle.farm_asks.specs.declared.question.Call.{Call}
+use Rattle.farm_asks.specs.declared.reply.Reply.{Reply}
 use Rattle.farm_machine.specs.Law.{opened}
 use Rattle.farm_machine.specs.Step.{farm_rules}
 use Rattle.api_routes.specs.ReplyText.{reply_text}

@@ -3,8 +3,8 @@ use Rattle.std.proofs.Common.{◌≡◌, ℕ, ◌<◌, Bool, List, ◌++◌, len
 use Rattle.std.proofs.KnownBytes.{Appends-trans}
 use Rattle.std.specs.Io.KnownBytes.{Appends}
 use Rattle.http_wire.specs.Whole.{AppendsFront}
-use Rattle.farm_machine.specs.declared.reply.Reply.{Reply}
-use Rattle.farm_machine.specs.Replies.{answer_of}
+use Rattle.farm_asks.specs.declared.reply.Reply.{Reply}
+use Rattle.farm_asks.specs.Replies.{answer_of}
 use Rattle.api_routes.specs.ReplyText.{head_text, reply_text}
 
 -- a front of the first of two texts is a front of both

@@ -14,9 +14,10 @@ use Rattle.http_wire.specs.declared.message.Wire.TheVariants as wire
 use Rattle.http_wire.specs.Reading.{Loses}
 use Rattle.http_wire.specs.Stream.{whole, Gives, Messages, stopped, closed, full}
 use Rattle.http_wire.specs.Whole.{IsProperFrontOf}
-use Rattle.farm_machine.specs.declared.question.Call.{Call}
-use Rattle.farm_machine.specs.declared.reply.Reply.{Reply}
-use Rattle.farm_machine.specs.Entry.{Asking, Entry}
+use Rattle.farm_asks.specs.declared.question.Call.{Call}
+use Rattle.farm_asks.specs.declared.reply.Reply.{Reply}
+use Rattle.farm_asks.specs.Questions.{Asking}
+use Rattle.farm_machine.specs.Entry.{Entry}
 use Rattle.farm_machine.specs.Law.{Opening, opened}
 use Rattle.farm_machine.specs.Step.{farm_rules}
 use Rattle.api_routes.specs.ReplyText.{reply_text, wire_text}

@@ -1,7 +1,7 @@
 //! One connection, message by message.
 ghost use Rattle.std.specs.Prelude.{◌≡◌, ◌-◌, ◌<◌, ◌≤◌};
 ghost use Rattle.std.specs.Io.KnownBytes.{prepend_known};
-ghost use Rattle.farm_machine.specs.Written.{IsSaidCall};
+ghost use Rattle.farm_asks.specs.Questions.{IsSaidCall};
 ghost use Rattle.farm_server.specs.Served.{outside_of, Serves};
 ghost use Rattle.farm_server.specs.Turn.{telling_of, AsksOnce, Ends, Refuses, Turns};
 ghost use Rattle.farm_server.specs.declared.served.TheConstants.{REQUESTS};
@@ -11,10 +11,10 @@ use crate::served::{REQUESTS, Served};
 use crate::write::write_reply;
 use api_routes::{a_called_task_is_said, call_of, caller_of, own_reply};
 use causes::Failed;
+use farm_asks::question::{Call, Caller, Question};
+use farm_asks::reply::{Asked, Reply};
 use farm_desk::Desk;
 use farm_machine::law::Farm;
-use farm_machine::question::{Call, Caller, Question};
-use farm_machine::reply::{Asked, Reply};
 use farm_text::{Clock, Draws};
 use http_wire::{Link, Message, Reader, Wire, write_all};
 use route_table::Table;

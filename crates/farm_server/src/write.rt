@@ -8,7 +8,7 @@ ghost use Rattle.api_routes.specs.ReplyText.{reply_text};
 
 use api_routes::reply_head;
 use causes::Failed;
-use farm_machine::reply::Reply;
+use farm_asks::reply::Reply;
 use http_wire::{Link, write_all};
 
 /// Up to how many bytes a head and a body are put together for one write.

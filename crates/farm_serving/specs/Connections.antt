@@ -3,8 +3,8 @@ use Rattle.std.specs.Prelude.{◌≡◌, ℕ, ◌+◌, ◌-◌, ◌^◌, ◌≤�
 use Rattle.causes.specs.Logs.{LogGrows}
 use Rattle.history.specs.Asks.{AsksInTurn}
 use Rattle.http_wire.specs.Calls.{LinkState}
-use Rattle.farm_machine.specs.declared.reply.Reply.{Reply}
-use Rattle.farm_machine.specs.Entry.{Asking}
+use Rattle.farm_asks.specs.declared.reply.Reply.{Reply}
+use Rattle.farm_asks.specs.Questions.{Asking}
 use Rattle.farm_machine.specs.Law.{opened}
 use Rattle.farm_machine.specs.Step.{farm_rules}
 use Rattle.farm_server.specs.Served.{Outside, Ask, questions_of, Spoke, Standing}

@@ -1,6 +1,6 @@
 //! Farm files: the first rule that each breaks, what is told of that, and what is read of a file that breaks none.
+use farm_asks::config::Config;
 use farm_files::{FileFault, LONGEST_FILE, read_farm, read_farm_with, tell_fault};
-use farm_machine::config::Config;
 use farm_text::Doc;
 use hawk_auth::Client;
 use hook_fire::Hook;

@@ -6,13 +6,13 @@
 ghost use Rattle.std.specs.Prelude.{◌≡◌, ◌≤◌, max, false, IfOk, OnOk};
 ghost use Rattle.farm_text.specs.declared.moment.TheConstants.{LAST_TOLD_MOMENT as last_told};
 ghost use Rattle.farm_rows.specs.Due.{is_due};
-ghost use Rattle.farm_machine.specs.Written.{IsSaidCall};
+ghost use Rattle.farm_asks.specs.Questions.{IsSaidCall};
 
 use crate::machine::calls::call_of;
+use farm_asks::config::Config;
+use farm_asks::question::{Call, Caller, Credentials, Question};
+use farm_asks::reply::Reply;
 use farm_files::read_farm;
-use farm_machine::config::Config;
-use farm_machine::question::{Call, Caller, Credentials, Question};
-use farm_machine::reply::Reply;
 use farm_machine::step::{apply, plan};
 use farm_machine::tables::{Tables, due, tick};
 use farm_text::{LAST_TOLD_MOMENT, Moment, SlugId};

@@ -1,8 +1,8 @@
 //! Messages and the calls that they make, by the queue service's reference, and a head by HTTP/1.1.
 use api_routes::{call_of, caller_of, own_reply, reply_head};
 use call_rules::HookName;
-use farm_machine::question::{BodyFault, Call, Caller, PageRequest, Parameter};
-use farm_machine::reply::Reply;
+use farm_asks::question::{BodyFault, Call, Caller, PageRequest, Parameter};
+use farm_asks::reply::Reply;
 use farm_record::{Report, RunName};
 use farm_text::SlugId;
 use http_wire::{Bytes, Message, Wire};

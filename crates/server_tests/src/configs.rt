@@ -1,6 +1,6 @@
 //! Configurations of farms. Each large part is made in a function of its own.
-use farm_machine::config::Config;
-use farm_machine::grants::Grants;
+use farm_asks::config::Config;
+use farm_asks::grants::Grants;
 use farm_text::Text;
 use hawk_auth::ClientBook;
 use hook_fire::HookBook;

@@ -7,11 +7,11 @@ ghost use Rattle.farm_machine.specs.Step.{farm_rules};
 ghost use Rattle.farm_server.specs.declared.served.TheConstants.{REQUESTS};
 
 use crate::configs::without_roles;
+use farm_asks::question::{Call, Caller, Question};
+use farm_asks::reply::Asked;
 use farm_core::Bare;
 use farm_desk::{Desk, Object, Solo, Spare};
 use farm_machine::law::Farm;
-use farm_machine::question::{Call, Caller, Question};
-use farm_machine::reply::Asked;
 use farm_server::{Gate, NoGate, REQUESTS, Served, When, serve_connection};
 use farm_text::{ListClock, ListDraws, Moment, SlugId};
 use http_wire::{Joined, MemoryLink, MemorySink, MemorySource, Wire};

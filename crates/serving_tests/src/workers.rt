@@ -4,9 +4,9 @@ ghost use Rattle.farm_server.specs.declared.served.TheConstants.{REQUESTS};
 ghost use Rattle.shared_desk.specs.Standing.{fresh_token};
 ghost use Rattle.farm_machine.specs.State.{State};
 
+use farm_asks::config::Config;
 use farm_core::{Bare, bare_farms_cross_threads};
 use farm_files::read_farm;
-use farm_machine::config::Config;
 use farm_server::{Gate, NoGate};
 use farm_serving::{Ended, MemoryListener, Returned, Worker, serve};
 use farm_text::{ListClock, ListDraws};

@@ -1,11 +1,11 @@
 //! Calls about one task, by words, and a farm that is open to all.
 ghost use Rattle.std.specs.Prelude.{◌≤◌, IfOk};
 ghost use Rattle.farm_text.specs.declared.moment.TheConstants.{LAST_TOLD_MOMENT as last_told};
-ghost use Rattle.farm_machine.specs.Written.{IsSaidCall};
+ghost use Rattle.farm_asks.specs.Questions.{IsSaidCall};
 
+use farm_asks::config::Config;
+use farm_asks::question::{Call, Caller, Question, WorkRequest};
 use farm_files::read_farm;
-use farm_machine::config::Config;
-use farm_machine::question::{Call, Caller, Question, WorkRequest};
 use farm_record::{Creation, Report, Resolution, RunName};
 use farm_text::{Doc, LAST_TOLD_MOMENT, Moment, SlugId, Text};
 use std::alloc::Global;

@@ -2,9 +2,9 @@
 use crate::farms::calls::{config, question};
 use disk_base::{Disk, MemoryDisk};
 use disk_journal::OpenFault;
+use farm_asks::config::Config;
 use farm_core::{Counts, Farm};
 use farm_desk::Object;
-use farm_machine::config::Config;
 use std::alloc::{AllocError, Global};
 use std::test::Fail;
 

@@ -4,7 +4,7 @@ use Rattle.call_rules.specs.Policy.{cancel_policy}
 use Rattle.farm_record.specs.declared.change.Kind.TheVariants.{Cancel}
 use Rattle.run_states.specs.Rows.{is_resolved}
 use Rattle.farm_machine.specs.Case.{Setting, Case, on_task, passing, when, changing}
-use Rattle.farm_machine.specs.Replies.{tells_status}
+use Rattle.farm_asks.specs.Replies.{tells_status}
 
 -- the task has to stand; the status of a resolved one is answered
 abbrev pub cancel_task : List ℕ → Setting → Case

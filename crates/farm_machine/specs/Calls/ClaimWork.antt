@@ -4,10 +4,10 @@ use Rattle.call_rules.specs.Policy.{claim_policy}
 use Rattle.farm_record.specs.declared.change.Kind.TheVariants.{Claim as TakesRuns}
 use Rattle.farm_record.specs.declared.change.RunName.{RunName}
 use Rattle.farm_rows.specs.Picks.{picks}
-use Rattle.farm_machine.specs.declared.question.WorkRequest.{WorkRequest}
+use Rattle.farm_asks.specs.declared.question.WorkRequest.{WorkRequest}
 use Rattle.farm_machine.specs.Case.{Setting, Deed, Case, passing, reading, changing}
-use Rattle.farm_machine.specs.Config.{claim_millis}
-use Rattle.farm_machine.specs.Works.{work_body}
+use Rattle.farm_asks.specs.Config.{claim_millis}
+use Rattle.farm_asks.specs.Works.{work_body}
 
 -- these runs are taken until a moment; where there are none, nothing changes, and that is answered
 abbrev pub taking : ℕ → ℕ → WorkRequest → List RunName → Deed

@@ -8,9 +8,9 @@ use Rattle.run_states.specs.Rows.{Row}
 use Rattle.farm_rows.specs.Changes.{kept_scheduler}
 use Rattle.farm_rows.specs.Contents.{row_with}
 use Rattle.farm_rows.specs.Waits.{missing_dependency, early_dependency}
-use Rattle.farm_machine.specs.declared.reply.Answer.{Answer}
+use Rattle.farm_asks.specs.declared.reply.Answer.{Answer}
 use Rattle.farm_machine.specs.Case.{Setting, Rule, when, Case, passing, changing}
-use Rattle.farm_machine.specs.Replies.{tells_status, conflict, too_late, bad_dependency, other_scheduler}
+use Rattle.farm_asks.specs.Replies.{tells_status, conflict, too_late, bad_dependency, other_scheduler}
 
 -- where a task of the id stands: with an equal definition its status is answered, and with another one that is a conflict
 abbrev pub standing : TaskDef → Option Row → List Rule

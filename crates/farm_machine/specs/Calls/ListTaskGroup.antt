@@ -6,11 +6,11 @@ use Rattle.farm_rows.specs.Lists.{is_listed}
 use Rattle.farm_rows.specs.declared.lists.TaskList.TheVariants.{Group}
 use Rattle.farm_text.specs.Slug.{slug_text}
 use Rattle.run_states.specs.Rows.{Row}
-use Rattle.farm_machine.specs.declared.question.PageRequest.{PageRequest}
-use Rattle.farm_machine.specs.declared.reply.Answer.{Answer}
+use Rattle.farm_asks.specs.declared.question.PageRequest.{PageRequest}
+use Rattle.farm_asks.specs.declared.reply.Answer.{Answer}
 use Rattle.farm_machine.specs.Case.{Setting, Case, passing, reading}
 use Rattle.farm_machine.specs.Pages.{bad_token, page_body}
-use Rattle.farm_machine.specs.Replies.{not_found}
+use Rattle.farm_asks.specs.Replies.{not_found}
 
 -- a group is there where a task is of it
 abbrev pub absent_group : List ℕ → List Row → Option Answer

@@ -4,7 +4,7 @@ use Rattle.call_rules.specs.Policy.{pending_policy}
 use Rattle.farm_rows.specs.Picks.{waits_in}
 use Rattle.task_defs.specs.declared.names.TaskQueue.{TaskQueue}
 use Rattle.farm_machine.specs.Case.{Setting, Case, passing, reading}
-use Rattle.farm_machine.specs.Replies.{pending_body}
+use Rattle.farm_asks.specs.Replies.{pending_body}
 
 -- nothing has to stand
 abbrev pub pending_tasks : TaskQueue → Setting → Case

@@ -5,8 +5,8 @@ use Rattle.farm_record.specs.declared.change.Kind.TheVariants.{Reclaim}
 use Rattle.farm_record.specs.declared.change.RunName.{RunName}
 use Rattle.run_states.specs.Rows.{is_running_at}
 use Rattle.farm_machine.specs.Case.{Setting, Case, on_run, passing, when, changing}
-use Rattle.farm_machine.specs.Config.{claim_millis}
-use Rattle.farm_machine.specs.Replies.{conflict}
+use Rattle.farm_asks.specs.Config.{claim_millis}
+use Rattle.farm_asks.specs.Replies.{conflict}
 
 -- the run has to stand and to be running; it is the worker's for as long from now on as a claim lasts
 abbrev pub reclaim_task : RunName → Setting → Case

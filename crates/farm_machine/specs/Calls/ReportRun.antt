@@ -7,7 +7,7 @@ use Rattle.farm_rows.specs.Changes.{reason_of}
 use Rattle.run_states.specs.Rows.{is_running_at}
 use Rattle.run_states.specs.Moves.{ended_for_at}
 use Rattle.farm_machine.specs.Case.{Setting, Case, on_run, passing, when, changing}
-use Rattle.farm_machine.specs.Replies.{tells_status, conflict}
+use Rattle.farm_asks.specs.Replies.{tells_status, conflict}
 
 -- The run has to stand. Where it ended for this reason the status is answered, and else it has to be running.
 abbrev pub report_run : Resolution → Setting → Case

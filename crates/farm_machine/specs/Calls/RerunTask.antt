@@ -4,7 +4,7 @@ use Rattle.call_rules.specs.Policy.{rerun_policy}
 use Rattle.farm_record.specs.declared.change.Kind.TheVariants.{Rerun}
 use Rattle.run_states.specs.Rows.{Row, is_unscheduled, is_resolved}
 use Rattle.farm_machine.specs.Case.{Setting, Rule, Case, on_task, passing, when, changing}
-use Rattle.farm_machine.specs.Replies.{tells_status, conflict}
+use Rattle.farm_asks.specs.Replies.{tells_status, conflict}
 
 -- the status of a pending or running task is answered; an unscheduled one is not run again, nor is one whose deadline came, or that has
 -- fifty runs

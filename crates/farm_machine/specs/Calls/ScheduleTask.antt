@@ -4,7 +4,7 @@ use Rattle.call_rules.specs.Policy.{schedule_policy}
 use Rattle.farm_record.specs.declared.change.Kind.TheVariants.{Schedule}
 use Rattle.run_states.specs.Rows.{is_unscheduled}
 use Rattle.farm_machine.specs.Case.{Setting, Case, on_task, passing, when, changing}
-use Rattle.farm_machine.specs.Replies.{tells_status}
+use Rattle.farm_asks.specs.Replies.{tells_status}
 
 -- the task has to stand; the status of one that was scheduled is answered
 abbrev pub schedule_task : List ℕ → Setting → Case

@@ -2,7 +2,7 @@
 use Rattle.std.specs.Prelude.{ℕ, List}
 use Rattle.call_rules.specs.Policy.{status_policy}
 use Rattle.farm_machine.specs.Case.{Setting, Case, on_task, passing, reading}
-use Rattle.farm_machine.specs.Replies.{status_body}
+use Rattle.farm_asks.specs.Replies.{status_body}
 
 -- the task has to stand
 abbrev pub status : List ℕ → Setting → Case

@@ -13,14 +13,14 @@ use Rattle.hook_fire.specs.declared.fault.FireFault.{FireFault}
 use Rattle.hook_fire.specs.declared.fault.FireFault.TheVariants.{Template, TooMuchWork, Definition, NoMemory}
 use Rattle.jsone_values.specs.Faults.{rule_of}
 use Rattle.task_defs.specs.declared.task_def.TaskDef.{TaskDef}
-use Rattle.farm_machine.specs.declared.config.Config.{Config}
-use Rattle.farm_machine.specs.declared.question.BodyFault.TheVariants.{NoDefinition}
-use Rattle.farm_machine.specs.declared.question.Trigger.{Trigger}
-use Rattle.farm_machine.specs.declared.reply.Answer.{Answer}
-use Rattle.farm_machine.specs.Access.{Access, Has, Refused, access_by}
+use Rattle.farm_asks.specs.declared.config.Config.{Config}
+use Rattle.farm_asks.specs.declared.question.BodyFault.TheVariants.{NoDefinition}
+use Rattle.farm_asks.specs.declared.question.Trigger.{Trigger}
+use Rattle.farm_asks.specs.declared.reply.Answer.{Answer}
+use Rattle.farm_asks.specs.Access.{Access, Has, Refused, access_by}
 use Rattle.farm_machine.specs.Calls.CreateTask.{create_task}
 use Rattle.farm_machine.specs.Case.{Setting, when, Case, passing}
-use Rattle.farm_machine.specs.Replies.{not_found, bad_body, template_fault, too_costly, hook_insufficient_scopes}
+use Rattle.farm_asks.specs.Replies.{not_found, bad_body, template_fault, too_costly, hook_insufficient_scopes}
 
 -- the hook of a name
 abbrev pub hook_at : HookName → Setting → Option HookData

@@ -1,10 +1,10 @@
 ghost use Rattle.std.specs.Prelude.{None, ◌≡◌, IfOk};
 
 use crate::case::{Called, Done, Scene};
-use crate::question::WorkRequest;
-use crate::reply::Answer;
-use crate::works::{Telling, told};
 use call_rules::claim_scopes;
+use farm_asks::question::WorkRequest;
+use farm_asks::reply::Answer;
+use farm_asks::works::{Telling, told};
 use farm_record::{Claim, Kind, RunNames};
 use farm_text::Moment;
 use scope_sets::Expr;

@@ -2,11 +2,11 @@ ghost use Rattle.std.specs.Prelude.{◌≡◌, None, IfOk};
 ghost use Rattle.farm_machine.specs.Case.{IsFirstRule};
 ghost use Rattle.farm_machine.specs.Calls.CreateTask.{joining};
 
-use crate::answers;
 use crate::case::{Called, Done, Scene};
-use crate::reply::Answer;
 use crate::tables::Tables;
 use call_rules::create_policy;
+use farm_asks::answers;
+use farm_asks::reply::Answer;
 use farm_record::{Creation, Kind};
 use scope_sets::Expr;
 use std::alloc::{AllocError, Global};

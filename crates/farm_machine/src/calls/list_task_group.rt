@@ -1,11 +1,11 @@
 ghost use Rattle.std.specs.Prelude.{None, ◌≡◌, IfOk};
 
-use crate::answers;
 use crate::case::{Called, Done, Scene};
 use crate::pages::{bad_token, read_page};
-use crate::question::PageRequest;
-use crate::reply::Answer;
 use call_rules::list_group_scope;
+use farm_asks::answers;
+use farm_asks::question::PageRequest;
+use farm_asks::reply::Answer;
 use farm_rows::TaskList;
 use farm_text::SlugId;
 use scope_sets::Expr;

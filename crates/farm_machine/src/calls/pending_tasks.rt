@@ -1,9 +1,9 @@
 ghost use Rattle.std.specs.Prelude.{None, ◌≡◌, IfOk};
 
-use crate::answers;
 use crate::case::{Called, Done, Scene};
-use crate::reply::Answer;
 use call_rules::pending_scope;
+use farm_asks::answers;
+use farm_asks::reply::Answer;
 use scope_sets::Expr;
 use std::alloc::{AllocError, Global};
 use task_defs::TaskQueue;

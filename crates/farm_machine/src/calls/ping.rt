@@ -1,8 +1,8 @@
 ghost use Rattle.std.specs.Prelude.{None, ◌≡◌, IfOk};
 
 use crate::case::{Called, Done, Scene};
-use crate::reply::Answer;
 use call_rules::ping_scopes;
+use farm_asks::reply::Answer;
 use farm_text::{Doc, Entries};
 use scope_sets::Expr;
 use std::alloc::{AllocError, Global};

@@ -1,10 +1,10 @@
 ghost use Rattle.std.specs.Prelude.{None, ◌≡◌, IfOk};
 
-use crate::answers;
 use crate::case::{Called, Done, Scene};
 use crate::named::absent_run;
-use crate::reply::Answer;
 use call_rules::reclaim_scope;
+use farm_asks::answers;
+use farm_asks::reply::Answer;
 use farm_record::{Kind, Reclaim, RunName};
 use scope_sets::Expr;
 use std::alloc::{AllocError, Global};

@@ -1,10 +1,10 @@
 ghost use Rattle.std.specs.Prelude.{None, ◌≡◌, IfOk};
 
-use crate::answers;
 use crate::case::{Called, Done, Scene};
 use crate::named::absent_run;
-use crate::reply::Answer;
 use call_rules::resolve_scope;
+use farm_asks::answers;
+use farm_asks::reply::Answer;
 use farm_record::{Kind, Resolution, RunName};
 use farm_rows::reason_of;
 use scope_sets::Expr;

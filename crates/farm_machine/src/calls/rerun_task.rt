@@ -2,10 +2,10 @@ ghost use Rattle.std.specs.Prelude.{None, ◌≡◌, IfOk};
 ghost use Rattle.farm_machine.specs.Case.{IsFirstRule};
 ghost use Rattle.farm_machine.specs.Calls.RerunTask.{rerun_rules};
 
-use crate::answers;
 use crate::case::{Called, Done, Scene};
-use crate::reply::Answer;
 use call_rules::rerun_scopes;
+use farm_asks::answers;
+use farm_asks::reply::Answer;
 use farm_record::Kind;
 use farm_text::{Moment, SlugId};
 use run_states::{MOST_RUNS, TaskRow};

@@ -1,9 +1,9 @@
 ghost use Rattle.std.specs.Prelude.{None, ◌≡◌, IfOk};
 
-use crate::answers;
 use crate::case::{Called, Done, Scene};
-use crate::reply::Answer;
 use call_rules::schedule_scopes;
+use farm_asks::answers;
+use farm_asks::reply::Answer;
 use farm_record::Kind;
 use farm_text::SlugId;
 use scope_sets::Expr;

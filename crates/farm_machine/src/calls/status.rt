@@ -1,10 +1,10 @@
 ghost use Rattle.std.specs.Prelude.{None, ◌≡◌, IfOk};
 
-use crate::answers;
-use crate::bodies::status_text;
 use crate::case::{Called, Done, Scene};
-use crate::reply::Answer;
 use call_rules::status_scope;
+use farm_asks::answers;
+use farm_asks::bodies::status_text;
+use farm_asks::reply::Answer;
 use farm_text::SlugId;
 use scope_sets::Expr;
 use std::alloc::{AllocError, Global};

@@ -1,21 +1,21 @@
 ghost use Rattle.std.specs.Prelude.{◌≡◌, IfOk, option_map};
-ghost use Rattle.farm_machine.specs.declared.question.Call.{Call};
+ghost use Rattle.farm_asks.specs.declared.question.Call.{Call};
 ghost use Rattle.farm_machine.specs.Deeds.{IsReady};
 ghost use Rattle.farm_machine.specs.Refused.{setting_at, IsJudged};
 ghost use Rattle.farm_machine.specs.Verdict.{form_of};
 ghost use Rattle.farm_machine.specs.Written.{AreWritten};
 
-use crate::answers;
 use crate::calls::create_task::CreateTask;
 use crate::case::{Called, Done, Scene};
-use crate::config::Config;
 use crate::firing::{Firing, firing_of};
 use crate::judged::Judged;
 use crate::order::{finish, refusal};
-use crate::question::{Caller, Trigger};
-use crate::reply::Answer;
 use crate::tables::Tables;
 use call_rules::trigger_scope;
+use farm_asks::answers;
+use farm_asks::config::Config;
+use farm_asks::question::{Caller, Trigger};
+use farm_asks::reply::Answer;
 use farm_text::{Doc, Moment, SlugId};
 use scope_sets::Expr;
 use std::alloc::{AllocError, Global};

@@ -1,9 +1,9 @@
 //! Calls, by words.
 ghost use Rattle.std.specs.Prelude.{IfOk};
-ghost use Rattle.farm_machine.specs.Written.{IsSaidCall};
+ghost use Rattle.farm_asks.specs.Questions.{IsSaidCall};
 
 use call_rules::{HookGroupId, HookId, HookName};
-use farm_machine::question::{BodyFault, Call, Parameter, Trigger, WorkRequest};
+use farm_asks::question::{BodyFault, Call, Parameter, Trigger, WorkRequest};
 use farm_record::{Creation, Report, Resolution, RunName};
 use farm_text::{Doc, SlugId, Text};
 use std::alloc::Global;

@@ -1,6 +1,6 @@
 //! Hooks that are triggered, with replies worked out by hand.
 use crate::machine::{farm_of, first_other_at, numbered};
-use farm_machine::config::Config;
+use farm_asks::config::Config;
 use std::alloc::{AllocError, Global};
 use std::test::Fail;
 

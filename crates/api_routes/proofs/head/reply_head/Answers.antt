@@ -1,5 +1,5 @@
 use Rattle.std.proofs.Common.{◌≡◌, List, ℕ, length, ap, ◌∙◌}
-use Rattle.farm_machine.specs.Replies.{answer_of}
+use Rattle.farm_asks.specs.Replies.{answer_of}
 use Rattle.api_routes.specs.ReplyText.{head_text}
 use Rattle.api_routes.proofs.HeadLemmas.{head_text-from_lines}
 use Rattle.api_routes.proofs.head.reply_head.Goals as goal

@@ -1,6 +1,6 @@
 -- What refuses the task is what comes of it; where nothing does, the task is.
 use Rattle.std.proofs.Common.{Option, subst}
-use Rattle.farm_machine.specs.declared.reply.Answer.{Answer}
+use Rattle.farm_asks.specs.declared.reply.Answer.{Answer}
 use Rattle.farm_machine.specs.Firings.{fired_by}
 use Rattle.farm_machine.proofs.FiringLemmas.{IsGranted}
 use Rattle.farm_machine.proofs.firing.granted.Goals as goal

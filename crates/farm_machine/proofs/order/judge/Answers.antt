@@ -1,6 +1,6 @@
 -- What refuses a call up to its policy is its judgement; else it is finished.
 use Rattle.std.proofs.Common.{Option, subst}
-use Rattle.farm_machine.specs.declared.reply.Answer.{Answer}
+use Rattle.farm_asks.specs.declared.reply.Answer.{Answer}
 use Rattle.farm_machine.specs.Order.{asks}
 use Rattle.farm_machine.specs.Refused.{setting_at, Passes, IsRefusal}
 use Rattle.farm_machine.proofs.OrderLemmas.{IsJudged-turned, IsJudged-finished-so}

@@ -1,7 +1,7 @@
 -- Whoever has access is asked for its scopes, and another caller is refused.
 use Rattle.std.proofs.Common.{[]}
-use Rattle.farm_machine.specs.Access.{Has, Refused, HasAccess}
-use Rattle.farm_machine.proofs.AccessLemmas.{has_kept, has_made, has_refused}
+use Rattle.farm_asks.specs.Access.{Has, Refused, HasAccess}
+use Rattle.farm_asks.proofs.AccessLemmas.{has_kept, has_made, has_refused}
 use Rattle.farm_machine.proofs.OrderLemmas.{asks-refused, refused-within}
 use Rattle.farm_machine.proofs.order.refusal_of_caller.Goals as goal
 

@@ -1,7 +1,7 @@
 use Rattle.std.proofs.Common.{[], ◌∷◌, subst, arith}
 use Rattle.history.specs.Asks.{AsksInTurn}
 use Rattle.history.proofs.AsksLemmas.{AsksInTurn-one}
-use Rattle.farm_machine.specs.Entry.{Asking}
+use Rattle.farm_asks.specs.Questions.{Asking}
 use Rattle.farm_machine.specs.Law.{opened}
 use Rattle.farm_machine.specs.Step.{farm_rules}
 use Rattle.farm_server.proofs.connection.ask.Goals as goal

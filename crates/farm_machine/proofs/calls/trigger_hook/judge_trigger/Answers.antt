@@ -2,8 +2,8 @@
 use Rattle.std.proofs.Common.{◌≡◌, Option, Some, None, Ok, Err, refl, inl, subst}
 use Rattle.farm_machine.specs.declared.firing.Firing.{Firing}
 use Rattle.farm_machine.specs.declared.firing.Firing.TheVariants.{Makes, Refuses}
-use Rattle.farm_machine.specs.declared.question.Call.TheVariants.{TriggerHook}
-use Rattle.farm_machine.specs.declared.reply.Answer.{Answer}
+use Rattle.farm_asks.specs.declared.question.Call.TheVariants.{TriggerHook}
+use Rattle.farm_asks.specs.declared.reply.Answer.{Answer}
 use Rattle.farm_machine.specs.Calls.TriggerHook.{hook_at, trigger_hook, Fired, ComesTo, case_after}
 use Rattle.farm_machine.specs.Firings.{outcome_of}
 use Rattle.farm_machine.specs.Refused.{setting_at, Passes, IsRefusal}

@@ -1,5 +1,5 @@
 use Rattle.std.proofs.Common.{◌≡◌, Option, IfOk, refl, sym, subst}
-use Rattle.farm_machine.specs.declared.reply.Answer.{Answer}
+use Rattle.farm_asks.specs.declared.reply.Answer.{Answer}
 use Rattle.farm_machine.proofs.MayLemmas.{absent-same}
 use Rattle.farm_machine.proofs.calls.report_run.ReportRunCalled.absent.Goals as goal
 

@@ -1,0 +1,4 @@
+pub mod AccessLemmas
+pub mod ExpressionLemmas
+pub mod FaultLemmas
+pub mod WorkLemmas

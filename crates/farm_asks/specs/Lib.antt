@@ -1,0 +1,10 @@
+pub mod Access
+pub mod Config
+pub mod Expressions
+pub mod Grants
+pub mod Questions
+pub mod Replies
+pub mod Shown
+pub mod Tellings
+pub mod Told
+pub mod Works

@@ -1,0 +1,351 @@
+//! The answers of calls: statuses of HTTP (RFC 9110), and bodies as JSON (RFC 8259).
+
+ghost use Rattle.std.specs.Prelude.{◌≡◌, ◌≢◌, ◌<◌, ◌^◌, codes, Err, IfOk};
+ghost use Rattle.farm_asks.specs.Replies.{ok, not_found, bad_parameter, bad_body, too_late, bad_dependency, pending_body, conflict, other_scheduler, farm_full, status_body, not_authentic, skewed, overstepping, expansion_limit, insufficient_scopes, hook_insufficient_scopes, template_fault, too_costly, error_text};
+ghost use Rattle.hawk_auth.specs.Access.{UnlessNoMemory};
+ghost use Rattle.farm_asks.specs.Access.{Refused, access_by};
+ghost use Rattle.farm_asks.specs.Told.{HasSeconds};
+ghost use Rattle.farm_text.specs.Doc.{document};
+ghost use Rattle.farm_text.specs.Document.{document_text};
+ghost use Rattle.farm_text.specs.Entries.{held};
+ghost use Rattle.farm_text.specs.Slug.{slug_text};
+ghost use Rattle.call_rules.specs.HookNames.{hook_name as name_of_hook};
+ghost use Rattle.call_rules.specs.Policy.{run_name};
+ghost use Rattle.scope_sets.specs.Expressions.{view};
+
+use crate::bodies::{conflict_text, status_text};
+use crate::expressions::expression_doc;
+use crate::question::BodyFault;
+use crate::reply::Answer;
+use call_rules::{HookName, hook_name, run_name};
+use farm_record::RunName;
+use farm_text::{Doc, Entries, SlugId, Text};
+use hawk_auth::AuthFault;
+use http::StatusCode;
+use run_states::TaskRow;
+use scope_sets::Expr;
+use std::alloc::{AllocError, Global};
+use task_defs::TaskQueue;
+
+/// A call is done, with this body.
+pub fn ok(body: Text) -> Answer
+    ensures { result ≡ ok body }
+{
+    Answer {
+        status: StatusCode::OK,
+        body,
+    }
+}
+
+/// Nothing of this kind has that name.
+pub fn not_found(alloc: Global, kind: &str, name: &str) -> Result<Answer, AllocError>
+    ensures { IfOk result (λ a. a ≡ not_found kind.now name.now) }
+{
+    let details = Entries::new(alloc)
+        .with(alloc, "kind", Doc::text(alloc, kind)?)?
+        .with(alloc, "name", Doc::text(alloc, name)?)?;
+    Ok(Answer {
+        status: StatusCode::NOT_FOUND,
+        body: error_text(alloc, "ResourceNotFound", details, "nothing has that name")?,
+    })
+}
+
+/// No task has this id.
+pub fn no_task(alloc: Global, id: SlugId) -> Result<Answer, AllocError>
+    ensures { IfOk result (λ a. a ≡ not_found (codes "task") (slug_text id)) }
+{
+    let name = id.to_text(alloc)?;
+    not_found(alloc, "task", name.as_str())
+}
+
+/// The task has no run of this number.
+pub fn no_run(alloc: Global, name: RunName) -> Result<Answer, AllocError>
+    ensures { IfOk result (λ a. a ≡ not_found (codes "run") (run_name name.id name.run)) }
+{
+    let text = run_name(alloc, name.id, name.run)?;
+    not_found(alloc, "run", text.as_str())
+}
+
+/// No task is of this group.
+pub fn no_group(alloc: Global, group: SlugId) -> Result<Answer, AllocError>
+    ensures { IfOk result (λ a. a ≡ not_found (codes "group") (slug_text group)) }
+{
+    let name = group.to_text(alloc)?;
+    not_found(alloc, "group", name.as_str())
+}
+
+/// No hook has this name.
+pub fn no_hook(alloc: Global, hook: &HookName) -> Result<Answer, AllocError>
+    ensures { IfOk result (λ a. a ≡ not_found (codes "hook") (name_of_hook hook.now.group hook.now.id)) }
+{
+    let name = hook_name(alloc, hook)?;
+    not_found(alloc, "hook", name.as_str())
+}
+
+/// The request breaks a rule, which these details tell.
+fn input_error(alloc: Global, details: Entries) -> Result<Answer, AllocError>
+    ensures { IfOk result (λ a. a ≡ record {
+      status = 400;
+      body = error_text (codes "InputError") (held details) (codes "the request breaks a rule");
+    }) }
+{
+    Ok(Answer {
+        status: StatusCode::BAD_REQUEST,
+        body: error_text(alloc, "InputError", details, "the request breaks a rule")?,
+    })
+}
+
+/// This parameter of the target is off its form.
+pub fn bad_parameter(alloc: Global, name: &str) -> Result<Answer, AllocError>
+    ensures { IfOk result (λ a. a ≡ bad_parameter name.now) }
+{
+    let details = Entries::new(alloc)
+        .with(alloc, "name", Doc::text(alloc, name)?)?
+        .with(alloc, "rule", Doc::Int(22))?;
+    input_error(alloc, details)
+}
+
+/// The body is off its form.
+pub fn bad_body(alloc: Global, fault: &BodyFault) -> Result<Answer, AllocError>
+    ensures { IfOk result (λ a. a ≡ bad_body fault.now) }
+{
+    let details = match fault {
+        BodyFault::NotJson => Entries::new(alloc).with(alloc, "rule", Doc::Int(20))?,
+        BodyFault::NotWhole(path) => Entries::new(alloc)
+            .with(alloc, "path", Doc::text(alloc, path.as_str())?)?
+            .with(alloc, "rule", Doc::Int(21))?,
+        BodyFault::NoWork => Entries::new(alloc).with(alloc, "rule", Doc::Int(23))?,
+        BodyFault::NoReason => Entries::new(alloc).with(alloc, "rule", Doc::Int(24))?,
+        BodyFault::NoPayload => Entries::new(alloc).with(alloc, "rule", Doc::Int(25))?,
+        BodyFault::NoDefinition(fault) => Entries::new(alloc)
+            .with(alloc, "key", Doc::text(alloc, fault.key.as_str())?)?
+            .with(alloc, "rule", Doc::Int(i64::from(fault.rule)))?,
+    };
+    input_error(alloc, details)
+}
+
+/// The template of a hook has the fault of this number, at this place.
+pub fn template_fault(alloc: Global, fault: u8, path: &str) -> Result<Answer, AllocError>
+    ensures { IfOk result (λ a. a ≡ template_fault fault path.now) }
+{
+    let details = Entries::new(alloc)
+        .with(alloc, "fault", Doc::Int(i64::from(fault)))?
+        .with(alloc, "path", Doc::text(alloc, path)?)?
+        .with(alloc, "rule", Doc::Int(18))?;
+    input_error(alloc, details)
+}
+
+/// The template of a hook costs too much.
+pub fn too_costly(alloc: Global) -> Result<Answer, AllocError>
+    ensures { IfOk result (λ a. a ≡ too_costly) }
+{
+    input_error(
+        alloc,
+        Entries::new(alloc).with(alloc, "rule", Doc::Int(19))?,
+    )
+}
+
+/// The task's deadline is not still to come.
+pub fn too_late(alloc: Global) -> Result<Answer, AllocError>
+    ensures { IfOk result (λ a. a ≡ too_late) }
+{
+    input_error(
+        alloc,
+        Entries::new(alloc).with(alloc, "rule", Doc::Int(15))?,
+    )
+}
+
+/// This task that a new one waits for breaks this rule.
+pub fn bad_dependency(alloc: Global, rule: u8, id: SlugId) -> Result<Answer, AllocError>
+    ensures { IfOk result (λ a. a ≡ bad_dependency rule id) }
+{
+    let name = id.to_text(alloc)?;
+    let details = Entries::new(alloc)
+        .with(alloc, "name", Doc::text(alloc, name.as_str())?)?
+        .with(alloc, "rule", Doc::Int(i64::from(rule)))?;
+    input_error(alloc, details)
+}
+
+/// The status of a task is answered.
+pub fn status(alloc: Global, row: &TaskRow) -> Result<Answer, AllocError>
+    ensures { IfOk result (λ a. a ≡ ok (document_text (status_body row.now))) }
+{
+    Ok(ok(status_text(alloc, row)?))
+}
+
+/// How many tasks wait in a queue, as the body of an answer.
+pub fn pending_body(alloc: Global, queue: &TaskQueue, count: u32) -> Result<Doc, AllocError>
+    ensures { IfOk result (λ d. document d ≡ pending_body queue.now count) }
+{
+    let provisioner = Doc::text(alloc, queue.provisioner_id.as_str())?;
+    let name = queue.name(alloc)?;
+    let worker = Doc::text(alloc, queue.worker_type.as_str())?;
+    let first = Entries::new(alloc).with(alloc, "pendingTasks", Doc::Int(i64::from(count)))?;
+    let second = first.with(alloc, "provisionerId", provisioner)?;
+    let third = second.with(alloc, "taskQueueId", Doc::Text(name))?;
+    Ok(third.with(alloc, "workerType", worker)?.into_doc())
+}
+
+/// The state of this task forbids it, by this rule.
+pub fn conflict(alloc: Global, rule: u8, row: &TaskRow) -> Result<Answer, AllocError>
+    ensures { IfOk result (λ a. a ≡ conflict rule row.now) }
+{
+    Ok(Answer {
+        status: StatusCode::CONFLICT,
+        body: conflict_text(alloc, rule, row)?,
+    })
+}
+
+/// The tasks of the group have this scheduler, and not the new task's.
+pub fn other_scheduler(alloc: Global, kept: &str) -> Result<Answer, AllocError>
+    ensures { IfOk result (λ a. a ≡ other_scheduler kept.now) }
+{
+    let details = Entries::new(alloc)
+        .with(alloc, "rule", Doc::Int(2))?
+        .with(alloc, "schedulerId", Doc::text(alloc, kept)?)?;
+    Ok(Answer {
+        status: StatusCode::CONFLICT,
+        body: error_text(alloc, "RequestConflict", details, "the state forbids it")?,
+    })
+}
+
+/// The farm has as many tasks as it takes.
+pub fn farm_full(alloc: Global, count: u32) -> Result<Answer, AllocError>
+    ensures { IfOk result (λ a. a ≡ farm_full count) }
+{
+    let details = Entries::new(alloc).with(alloc, "count", Doc::Int(i64::from(count)))?;
+    Ok(Answer {
+        status: StatusCode::INSUFFICIENT_STORAGE,
+        body: error_text(alloc, "FarmFull", details, "the farm is full")?,
+    })
+}
+
+/// The answer to a caller who is refused so.
+pub(crate) fn refused_caller(alloc: Global, fault: &AuthFault) -> Result<Answer, AllocError>
+    requires { HasSeconds fault.now }
+    ensures answer { IfOk result (λ a. UnlessNoMemory (λ access. access_by access ≡ Refused a) (Err fault.now)) }
+    ensures known { IfOk result (λ a. fault.now ≢ AuthFault.NoMemory) }
+{
+    match fault {
+        AuthFault::BadHeader => not_authentic(alloc, "BadHeader"),
+        AuthFault::UnknownClient => not_authentic(alloc, "UnknownClient"),
+        AuthFault::Disabled => not_authentic(alloc, "Disabled"),
+        AuthFault::Expired => not_authentic(alloc, "Expired"),
+        AuthFault::Skew { ts, now } => skewed(alloc, *ts, *now),
+        AuthFault::BadMac => not_authentic(alloc, "BadMac"),
+        AuthFault::BadHash => not_authentic(alloc, "BadHash"),
+        AuthFault::BadExt => not_authentic(alloc, "BadExt"),
+        AuthFault::Oversteps(lack) => overstepping(alloc, lack),
+        AuthFault::TooMany => expansion_limit(alloc),
+        AuthFault::NoMemory => Err(AllocError),
+    }
+}
+
+/// The caller's credentials are not accepted, for this reason.
+fn not_authentic(alloc: Global, reason: &str) -> Result<Answer, AllocError>
+    ensures { IfOk result (λ a. a ≡ not_authentic reason.now) }
+{
+    let details = Entries::new(alloc).with(alloc, "reason", Doc::text(alloc, reason)?)?;
+    authentication_failed(alloc, details)
+}
+
+/// The header's seconds are too far from those of the farm.
+fn skewed(alloc: Global, ts: u64, now: u64) -> Result<Answer, AllocError>
+    requires ts { ts < 2 ^ 63 }
+    requires now { now < 2 ^ 63 }
+    ensures { IfOk result (λ a. a ≡ skewed ts now) }
+{
+    let details = Entries::new(alloc)
+        .with(alloc, "now", Doc::Int(now as i64))?
+        .with(alloc, "reason", Doc::text(alloc, "Skew")?)?
+        .with(alloc, "ts", Doc::Int(ts as i64))?;
+    authentication_failed(alloc, details)
+}
+
+/// The client asks for more than it has, and this is missing.
+fn overstepping(alloc: Global, missing: &Expr) -> Result<Answer, AllocError>
+    ensures { IfOk result (λ a. a ≡ overstepping (view missing.now)) }
+{
+    let details = Entries::new(alloc)
+        .with(alloc, "missing", expression_doc(alloc, missing)?)?
+        .with(alloc, "reason", Doc::text(alloc, "Oversteps")?)?;
+    authentication_failed(alloc, details)
+}
+
+/// The caller is not who it says, as these details tell.
+fn authentication_failed(alloc: Global, details: Entries) -> Result<Answer, AllocError>
+    ensures { IfOk result (λ a. a ≡ record {
+      status = 401;
+      body = error_text (codes "AuthenticationFailed") (held details) (codes "the caller is not who it says");
+    }) }
+{
+    Ok(Answer {
+        status: StatusCode::UNAUTHORIZED,
+        body: error_text(
+            alloc,
+            "AuthenticationFailed",
+            details,
+            "the caller is not who it says",
+        )?,
+    })
+}
+
+/// More scopes are derivable, for the caller or for the hook, than a closure may have.
+pub fn expansion_limit(alloc: Global) -> Result<Answer, AllocError>
+    ensures { IfOk result (λ a. a ≡ expansion_limit) }
+{
+    let details = Entries::new(alloc).with(alloc, "limit", Doc::Int(10_000))?;
+    Ok(Answer {
+        status: StatusCode::FORBIDDEN,
+        body: error_text(
+            alloc,
+            "ExpansionLimit",
+            details,
+            "too many scopes are derivable",
+        )?,
+    })
+}
+
+/// The caller lacks scopes, and this is missing.
+pub fn insufficient_scopes(alloc: Global, missing: &Expr) -> Result<Answer, AllocError>
+    ensures { IfOk result (λ a. a ≡ insufficient_scopes (view missing.now)) }
+{
+    let details = Entries::new(alloc).with(alloc, "missing", expression_doc(alloc, missing)?)?;
+    Ok(Answer {
+        status: StatusCode::FORBIDDEN,
+        body: error_text(alloc, "InsufficientScopes", details, "scopes are missing")?,
+    })
+}
+
+/// The scopes of the hook do not hold what its task asks for, and this is missing.
+pub fn hook_insufficient_scopes(alloc: Global, missing: &Expr) -> Result<Answer, AllocError>
+    ensures { IfOk result (λ a. a ≡ hook_insufficient_scopes (view missing.now)) }
+{
+    let details = Entries::new(alloc).with(alloc, "missing", expression_doc(alloc, missing)?)?;
+    Ok(Answer {
+        status: StatusCode::FORBIDDEN,
+        body: error_text(
+            alloc,
+            "HookInsufficientScopes",
+            details,
+            "the hook's scopes are missing",
+        )?,
+    })
+}
+
+/// The body of an error.
+fn error_text(
+    alloc: Global,
+    code: &str,
+    details: Entries,
+    message: &str,
+) -> Result<Text, AllocError>
+    ensures { IfOk result (λ t. t ≡ error_text code.now (held details) message.now) }
+{
+    Entries::new(alloc)
+        .with(alloc, "code", Doc::text(alloc, code)?)?
+        .with(alloc, "details", details.into_doc())?
+        .with(alloc, "message", Doc::text(alloc, message)?)?
+        .into_doc()
+        .write(alloc)
+}
