@@ -1,6 +1,6 @@
 //! A diamond and a chain of tasks, over connections in memory. The replies were written by hand after the queue service's reference, and by a model of it.
-use super::rows::first_other_in;
-use super::tasks::{CREATED, PLAIN, farm, written_at};
+use super::rows::{asked, first_other_in, reply_text};
+use super::tasks::{PLAIN, farm};
 use super::*;
 
 /// Four tasks of a group: two wait for the first, and the last for both.
@@ -47,14 +47,6 @@ fn chained(alloc: Global, place: u64) -> Result<String, AllocError> {
     format!(in alloc; "AAAAAA{tens}{ones}QACAAAAAAAAAAA")
 }
 
-/// What is written of a request at the first moment.
-fn asked(alloc: Global, desk: &mut Solo<Bare>, request: &str, body: &str) -> Result<Vec<u8>, Fail> {
-    let at = Moment::from_millis(CREATED).ok_or("a moment")?;
-    let length = body.len();
-    let text = format!(in alloc; "{request} HTTP/1.1\r\nContent-Length: {length}\r\n\r\n{body}")?;
-    written_at(alloc, desk, text.as_str().as_bytes(), at)
-}
-
 /// The definition of the task at a place of the chain: it waits for the one before it, and the first one for none.
 fn chained_body(alloc: Global, place: u64) -> Result<String, AllocError> {
     match place.checked_sub(1) {
@@ -80,10 +72,7 @@ fn completed_reply(alloc: Global, id: &str) -> Result<String, AllocError> {
     let body = format!(in alloc;
         "{COMPLETED}{id}\",\"taskId\":\"{id}\",\"taskQueueId\":\"prov/wt\",\"workerType\":\"wt\"}}}}"
     )?;
-    let length = body.len();
-    format!(in alloc;
-        "HTTP/1.1 200 OK\r\nContent-Length: {length}\r\nContent-Type: application/json\r\n\r\n{body}"
-    )
+    reply_text(alloc, "200 OK", body.as_str())
 }
 
 /// Whether a worker that takes one run can report the task at a place of the chain as completed.

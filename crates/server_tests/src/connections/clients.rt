@@ -1,5 +1,8 @@
 //! Calls that clients sign, over connections in memory. The MACs and the hash were made by Python's hmac and hashlib.
-use super::tasks::{CREATED, FIRST_STATUS, FIRST_TASK, PLAIN, STATUS, THREE_SCOPES, written_at};
+//!
+//! A line begins with the client's id, the attributes of the header that may be left out, and the MAC; the rest of it is a row.
+use super::rows::{Row, body_of, moment_of, row_of, wanted};
+use super::tasks::{CREATED, THREE_SCOPES, written_at};
 use super::*;
 use crate::configs::{granted, of_parts, scopes};
 use farm_text::Text;
@@ -7,81 +10,33 @@ use hawk_auth::{Client, ClientBook};
 use role_expand::Role;
 use scope_sets::Scope;
 
-const PING: &str = "GET /api/queue/v1/ping";
-
 /// The token of each client here, so that a MAC is good for any of them.
 const TOKEN: &str = "0123456789012345678901234567";
 
-/// The MAC of a ping without a hash and an ext.
-const PING_MAC: &str = "MiMK5w0yxc5JmrQZNMwVTN9Ag9h+ltyrchYGizZ1MxA=";
-
-/// The hash of the smallest definition as `application/json`, and the MAC of its createTask with that hash.
-const HASH: &str = r#", hash="yfjHG7pFXsPAyOH5n9pKTpqyBJaub+9k4+m1GfE+m8g=""#;
-
-const CREATE_MAC: &str = "bSpuHhdIGhwDPwSDDeJ5WCadSRC3j/iisGIjY6OHSHE=";
-
-/// A call of a client on a connection of its own, and the reply to it.
+/// What a client says of itself.
 #[derive(Clone, Copy)]
-struct Signed<'a> {
-    /// The moment that the clock tells.
-    at: u64,
+struct Signature<'a> {
     id: &'a str,
-    /// The method and the target.
-    request: &'a str,
     /// The attributes of the header that may be left out.
     more: &'a str,
     mac: &'a str,
-    /// The end of the body, behind the smallest definition but for its last brace; a ping or a status has no body.
-    body: &'a str,
-    /// The status of the reply, with its reason.
-    status: &'a str,
-    /// The body of the reply, in which `@` stands for the first task's status while it is pending.
-    reply: &'a str,
 }
 
-/// A ping that is let in.
-fn ping(id: &str) -> Signed<'_> {
-    Signed {
-        at: CREATED,
-        id,
-        request: PING,
-        more: "",
-        mac: PING_MAC,
-        body: "",
-        status: "200 OK",
-        reply: "{\"alive\":true}",
-    }
+/// The signature of a line, and its row.
+fn signed(line: &str) -> Option<(Signature<'_>, Row<'_>)> {
+    let (id, rest) = line.split_once('|')?;
+    let (more, rest) = rest.split_once('|')?;
+    let (mac, rest) = rest.split_once('|')?;
+    Some((Signature { id, more, mac }, row_of(rest)?))
 }
 
-/// A ping that is refused.
-fn refused<'a>(id: &'a str, reply: &'a str) -> Signed<'a> {
-    Signed {
-        status: "401 Unauthorized",
-        reply,
-        ..ping(id)
-    }
-}
-
-/// The bytes of a request.
-fn request_of(alloc: Global, call: &Signed) -> Result<String, AllocError> {
-    let front = if call.body.is_empty() { "" } else { PLAIN };
-    let length = front.len() + call.body.len();
-    format!(in alloc;
-        "{} HTTP/1.1\r\nAuthorization: hawk id=\"{}\", ts=\"1704067200\", nonce=\"n1\"{}, mac=\"{}\"\r\nContent-Type: Application/JSON; charset=utf-8\r\nContent-Length: {length}\r\n\r\n{front}{}",
-        call.request, call.id, call.more, call.mac, call.body
-    )
-}
-
-/// The bytes of its reply.
-fn reply_of(alloc: Global, call: &Signed) -> Result<String, AllocError> {
-    let body = match call.reply.split_once('@') {
-        Some((before, behind)) => format!(in alloc; "{before}{STATUS}{behind}")?,
-        None => String::from_str(alloc, call.reply)?,
-    };
+/// The bytes of a request that is signed so.
+fn request_of(alloc: Global, by: &Signature, row: &Row) -> Result<String, AllocError> {
+    let body = body_of(alloc, row)?;
     let length = body.len();
     format!(in alloc;
-        "HTTP/1.1 {}\r\nContent-Length: {length}\r\nContent-Type: application/json\r\n\r\n{body}",
-        call.status
+        "{} HTTP/1.1\r\nAuthorization: hawk id=\"{}\", ts=\"1704067200\", nonce=\"n1\"{}, mac=\"{}\"\r\nContent-Type: Application/JSON; charset=utf-8\r\nContent-Length: {length}\r\n\r\n{body}",
+        row.request, by.id, by.more, by.mac
     )
 }
 
@@ -151,155 +106,69 @@ fn farm(alloc: Global) -> Result<Solo<Bare>, Fail> {
     }
 }
 
-/// Whether a desk gives the reply to a call.
-fn is_answered(alloc: Global, desk: &mut Solo<Bare>, call: &Signed) -> Result<bool, Fail> {
-    let at = Moment::from_millis(call.at).ok_or("a moment")?;
-    let request = request_of(alloc, call)?;
+/// Whether a desk gives the reply of a line to its call.
+fn is_answered(alloc: Global, desk: &mut Solo<Bare>, line: &str) -> Result<bool, Fail> {
+    let (by, row) = signed(line).ok_or("a row")?;
+    let at = moment_of(&row).ok_or("a moment")?;
+    let request = request_of(alloc, &by, &row)?;
     let written = written_at(alloc, desk, request.as_str().as_bytes(), at)?;
-    let wanted = reply_of(alloc, call)?;
+    let wanted = wanted(alloc, &row)?;
     Ok(written.as_slice() == wanted.as_str().as_bytes())
 }
 
-/// The MAC of a status of the first task.
-const STATUS_MAC: &str = "hDam0VJ1lyBJE65jiq2mfJEzPUeJDbsRbaGUe66d3gs=";
-
-/// The MAC of a ping with the ext `some-app-ext-data`.
-const BAD_EXT_MAC: &str = "ZtLk8cG8z3r5Ne5FgR58ikk8grxxfKUyZL0XYC1paDk=";
-
-/// The ext `{"authorizedScopes":["*"]}` in base64, and the MAC of a ping with it.
-const ALL_SCOPES: &str = r#", ext="eyJhdXRob3JpemVkU2NvcGVzIjpbIioiXX0=""#;
-
-const ALL_SCOPES_MAC: &str = "oo5G0ru6JYtmVZ1s0ikUysreEC9x4tgk/4wsaYjpm8Y=";
-
-const UNKNOWN: &str =
-    r#"{"code":"AuthenticationFailed","details":{"reason":"UnknownClient"},"message":"the caller is not who it says"}"#;
-
-const DISABLED: &str =
-    r#"{"code":"AuthenticationFailed","details":{"reason":"Disabled"},"message":"the caller is not who it says"}"#;
-
-const EXPIRED: &str =
-    r#"{"code":"AuthenticationFailed","details":{"reason":"Expired"},"message":"the caller is not who it says"}"#;
-
-const FORGED: &str =
-    r#"{"code":"AuthenticationFailed","details":{"reason":"BadMac"},"message":"the caller is not who it says"}"#;
-
-const BAD_EXT: &str =
-    r#"{"code":"AuthenticationFailed","details":{"reason":"BadExt"},"message":"the caller is not who it says"}"#;
-
-const NOT_THE_BODY: &str =
-    r#"{"code":"AuthenticationFailed","details":{"reason":"BadHash"},"message":"the caller is not who it says"}"#;
-
-const OVERSTEPS: &str =
-    r#"{"code":"AuthenticationFailed","details":{"missing":{"AllOf":["*"]},"reason":"Oversteps"},"message":"the caller is not who it says"}"#;
-
-const SKEW: &str =
-    r#"{"code":"AuthenticationFailed","details":{"now":1704068101,"reason":"Skew","ts":1704067200},"message":"the caller is not who it says"}"#;
-
-const LIMIT: &str =
-    r#"{"code":"ExpansionLimit","details":{"limit":10000},"message":"too many scopes are derivable"}"#;
-
-const LACKS: &str =
-    r#"{"code":"InsufficientScopes","details":{"missing":"queue:status:AAAAAAAAQACAAAAAAAAAAA"},"message":"scopes are missing"}"#;
-
-/// The createTask of the first task, signed with its hash.
-fn makes() -> Signed<'static> {
-    Signed {
-        request: FIRST_TASK,
-        more: HASH,
-        mac: CREATE_MAC,
-        body: "}",
-        reply: "{\"status\":@}",
-        ..ping("maker")
-    }
-}
-
-/// A body that is not the one which was signed.
-fn another_body() -> Signed<'static> {
-    Signed {
-        body: ",\"payload\":{\"a\":1}}",
-        status: "401 Unauthorized",
-        reply: NOT_THE_BODY,
-        ..makes()
-    }
-}
-
-/// A ping of the client with the scope `a` alone, refused, with this ext and this MAC.
-fn refused_ext<'a>(more: &'a str, mac: &'a str, reply: &'a str) -> Signed<'a> {
-    Signed {
-        more,
-        mac,
-        ..refused("limited", reply)
-    }
-}
-
-/// A ping of that client at this moment.
-fn ping_at(at: u64) -> Signed<'static> {
-    Signed {
-        at,
-        ..ping("limited")
-    }
-}
-
-/// A call of a client that is denied.
-fn denied<'a>(id: &'a str, request: &'a str, mac: &'a str, reply: &'a str) -> Signed<'a> {
-    Signed {
-        request,
-        mac,
-        status: "403 Forbidden",
-        reply,
-        ..ping(id)
-    }
-}
-
-/// The place of the first call that a desk answers otherwise, or how many there are.
-fn first_other_at(alloc: Global, desk: &mut Solo<Bare>, calls: &[Signed]) -> Result<usize, Fail> {
-    for (place, call) in calls.iter().enumerate() {
-        if !is_answered(alloc, desk, call)? {
-            return Ok(place);
+/// The first line that a desk answers otherwise, or `none`.
+fn first_other_at<'a>(
+    alloc: Global,
+    desk: &mut Solo<Bare>,
+    calls: &'a str,
+) -> Result<&'a str, Fail> {
+    for line in calls.split('\n') {
+        if !is_answered(alloc, desk, line)? {
+            return Ok(line);
         }
     }
-    Ok(calls.len())
+    Ok("none")
 }
 
 /// The same of a new farm with the clients.
-fn first_other(alloc: Global, calls: &[Signed]) -> Result<usize, Fail> {
+fn first_other<'a>(alloc: Global, calls: &'a str) -> Result<&'a str, Fail> {
     let mut desk = farm(alloc)?;
     let other = first_other_at(alloc, &mut desk, calls);
     drop(desk);
     other
 }
 
+/// A createTask that is signed with its hash, and with another body; a call of the client whose role gives too much, and one of the client with
+/// the scope `a` alone, which it does not suffice for; pings of that client up to the last moment of its header and one behind it; and since
+/// the last moment does not fall, the last ping is as late as the one before.
+const LET_IN: &str =
+    r#"maker|, hash="yfjHG7pFXsPAyOH5n9pKTpqyBJaub+9k4+m1GfE+m8g="|bSpuHhdIGhwDPwSDDeJ5WCadSRC3j/iisGIjY6OHSHE=|0|PUT /api/queue/v1/task/AAAAAAAAQACAAAAAAAAAAA|~}|200 OK|{"status":~}
+maker|, hash="yfjHG7pFXsPAyOH5n9pKTpqyBJaub+9k4+m1GfE+m8g="|bSpuHhdIGhwDPwSDDeJ5WCadSRC3j/iisGIjY6OHSHE=|0|PUT /api/queue/v1/task/AAAAAAAAQACAAAAAAAAAAA|~,"payload":{"a":1}}|401 Unauthorized|{"code":"AuthenticationFailed","details":{"reason":"BadHash"},"message":"the caller is not who it says"}
+many||MiMK5w0yxc5JmrQZNMwVTN9Ag9h+ltyrchYGizZ1MxA=|0|GET /api/queue/v1/ping||403 Forbidden|{"code":"ExpansionLimit","details":{"limit":10000},"message":"too many scopes are derivable"}
+limited||hDam0VJ1lyBJE65jiq2mfJEzPUeJDbsRbaGUe66d3gs=|0|GET /api/queue/v1/task/AAAAAAAAQACAAAAAAAAAAA/status||403 Forbidden|{"code":"InsufficientScopes","details":{"missing":"queue:status:AAAAAAAAQACAAAAAAAAAAA"},"message":"scopes are missing"}
+limited||MiMK5w0yxc5JmrQZNMwVTN9Ag9h+ltyrchYGizZ1MxA=|0|GET /api/queue/v1/ping||200 OK|{"alive":true}
+limited||MiMK5w0yxc5JmrQZNMwVTN9Ag9h+ltyrchYGizZ1MxA=|900999|GET /api/queue/v1/ping||200 OK|{"alive":true}
+limited||MiMK5w0yxc5JmrQZNMwVTN9Ag9h+ltyrchYGizZ1MxA=|901000|GET /api/queue/v1/ping||401 Unauthorized|{"code":"AuthenticationFailed","details":{"now":1704068101,"reason":"Skew","ts":1704067200},"message":"the caller is not who it says"}
+limited||MiMK5w0yxc5JmrQZNMwVTN9Ag9h+ltyrchYGizZ1MxA=|0|GET /api/queue/v1/ping||401 Unauthorized|{"code":"AuthenticationFailed","details":{"now":1704068101,"reason":"Skew","ts":1704067200},"message":"the caller is not who it says"}"#;
+
 #[test]
 fn clients_are_let_in_by_their_signatures(rt: HostRuntime) -> Result<(), Fail> {
-    // The last moment does not fall, so the last ping is as late as the one before.
-    let late = Signed {
-        at: CREATED + 901_000,
-        ..refused("limited", SKEW)
-    };
-    let calls = [
-        makes(),
-        another_body(),
-        denied("many", PING, PING_MAC, LIMIT),
-        denied("limited", FIRST_STATUS, STATUS_MAC, LACKS),
-        ping_at(CREATED),
-        ping_at(CREATED + 900_999),
-        late,
-        refused("limited", SKEW),
-    ];
-    assert_eq!(rt; first_other(rt.alloc(), &calls)?, 8);
+    assert_eq!(rt; first_other(rt.alloc(), LET_IN)?, "none");
     Ok(())
 }
 
+/// A client that nobody knows, one that is disabled, one that is over, a MAC of another call, an ext that is no JSON in base64, and one that
+/// asks for all scopes: `{"authorizedScopes":["*"]}`.
+const REFUSED: &str =
+    r#"nobody||MiMK5w0yxc5JmrQZNMwVTN9Ag9h+ltyrchYGizZ1MxA=|0|GET /api/queue/v1/ping||401 Unauthorized|{"code":"AuthenticationFailed","details":{"reason":"UnknownClient"},"message":"the caller is not who it says"}
+off||MiMK5w0yxc5JmrQZNMwVTN9Ag9h+ltyrchYGizZ1MxA=|0|GET /api/queue/v1/ping||401 Unauthorized|{"code":"AuthenticationFailed","details":{"reason":"Disabled"},"message":"the caller is not who it says"}
+old||MiMK5w0yxc5JmrQZNMwVTN9Ag9h+ltyrchYGizZ1MxA=|0|GET /api/queue/v1/ping||401 Unauthorized|{"code":"AuthenticationFailed","details":{"reason":"Expired"},"message":"the caller is not who it says"}
+limited||bSpuHhdIGhwDPwSDDeJ5WCadSRC3j/iisGIjY6OHSHE=|0|GET /api/queue/v1/ping||401 Unauthorized|{"code":"AuthenticationFailed","details":{"reason":"BadMac"},"message":"the caller is not who it says"}
+limited|, ext="some-app-ext-data"|ZtLk8cG8z3r5Ne5FgR58ikk8grxxfKUyZL0XYC1paDk=|0|GET /api/queue/v1/ping||401 Unauthorized|{"code":"AuthenticationFailed","details":{"reason":"BadExt"},"message":"the caller is not who it says"}
+limited|, ext="eyJhdXRob3JpemVkU2NvcGVzIjpbIioiXX0="|oo5G0ru6JYtmVZ1s0ikUysreEC9x4tgk/4wsaYjpm8Y=|0|GET /api/queue/v1/ping||401 Unauthorized|{"code":"AuthenticationFailed","details":{"missing":{"AllOf":["*"]},"reason":"Oversteps"},"message":"the caller is not who it says"}"#;
+
 #[test]
 fn clients_are_refused_for_a_reason(rt: HostRuntime) -> Result<(), Fail> {
-    let calls = [
-        refused("nobody", UNKNOWN),
-        refused("off", DISABLED),
-        refused("old", EXPIRED),
-        refused_ext("", CREATE_MAC, FORGED),
-        refused_ext(r#", ext="some-app-ext-data""#, BAD_EXT_MAC, BAD_EXT),
-        refused_ext(ALL_SCOPES, ALL_SCOPES_MAC, OVERSTEPS),
-    ];
-    assert_eq!(rt; first_other(rt.alloc(), &calls)?, 6);
+    assert_eq!(rt; first_other(rt.alloc(), REFUSED)?, "none");
     Ok(())
 }

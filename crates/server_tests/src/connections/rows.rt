@@ -1,14 +1,18 @@
 //! Requests over connections in memory, line by line, with the replies that are wanted.
-use super::tasks::{CREATED, farm, written_at};
+//!
+//! A line has the moment at which a request comes, its method and target, its body, and the status and the body of its reply. The moment is told
+//! in milliseconds after the first task's creation, or behind `=` in those since 1970. In the body of a request `~` stands for the smallest
+//! definition without its last brace, and in that of a reply for the first task's status while it is pending.
+use super::tasks::{CREATED, PLAIN, STATUS, farm, written_at};
 use super::*;
 
 /// A line of a conversation, cut at its bars.
 #[derive(Clone, Copy)]
-struct Row<'a> {
-    /// How many milliseconds after the creation the request comes.
-    after: u64,
+pub(super) struct Row<'a> {
+    /// When the request comes.
+    at: &'a str,
     /// Its method and target.
-    request: &'a str,
+    pub request: &'a str,
     body: &'a str,
     /// The status of the reply, with its reason.
     status: &'a str,
@@ -16,13 +20,13 @@ struct Row<'a> {
 }
 
 /// The row of a line.
-fn row_of(line: &str) -> Option<Row<'_>> {
-    let (after, rest) = line.split_once('|')?;
+pub(super) fn row_of(line: &str) -> Option<Row<'_>> {
+    let (at, rest) = line.split_once('|')?;
     let (request, rest) = rest.split_once('|')?;
     let (body, rest) = rest.split_once('|')?;
     let (status, reply) = rest.split_once('|')?;
     Some(Row {
-        after: after.parse().ok()?,
+        at,
         request,
         body,
         status,
@@ -30,31 +34,72 @@ fn row_of(line: &str) -> Option<Row<'_>> {
     })
 }
 
-/// The bytes of a row's request.
-fn request_of(alloc: Global, row: &Row) -> Result<String, AllocError> {
-    let length = row.body.len();
+/// When the request of a row comes.
+pub(super) fn moment_of(row: &Row) -> Option<Moment> {
+    let millis = match row.at.split_once('=') {
+        Some((_, millis)) => millis.parse().ok()?,
+        None => CREATED.checked_add(row.at.parse().ok()?)?,
+    };
+    Moment::from_millis(millis)
+}
+
+/// The text with this one where it has its mark.
+fn with(alloc: Global, text: &str, marked: &str) -> Result<String, AllocError> {
+    match text.split_once('~') {
+        Some((before, behind)) => format!(in alloc; "{before}{marked}{behind}"),
+        None => String::from_str(alloc, text),
+    }
+}
+
+/// The body of a row's request.
+pub(super) fn body_of(alloc: Global, row: &Row) -> Result<String, AllocError> {
+    with(alloc, row.body, PLAIN)
+}
+
+/// The bytes of a row's reply.
+pub(super) fn wanted(alloc: Global, row: &Row) -> Result<String, AllocError> {
+    let body = with(alloc, row.reply, STATUS)?;
+    reply_text(alloc, row.status, body.as_str())
+}
+
+/// The bytes of a reply of this status, with its reason, and this body.
+pub(super) fn reply_text(alloc: Global, status: &str, body: &str) -> Result<String, AllocError> {
+    let length = body.len();
     format!(in alloc;
-        "{} HTTP/1.1\r\nContent-Length: {length}\r\n\r\n{}",
-        row.request, row.body
+        "HTTP/1.1 {status}\r\nContent-Length: {length}\r\nContent-Type: application/json\r\n\r\n{body}"
     )
 }
 
-/// The bytes of its reply.
-fn reply_of(alloc: Global, row: &Row) -> Result<String, AllocError> {
-    let length = row.reply.len();
-    format!(in alloc;
-        "HTTP/1.1 {}\r\nContent-Length: {length}\r\nContent-Type: application/json\r\n\r\n{}",
-        row.status, row.reply
-    )
+/// What a desk writes to a request that comes at this moment.
+fn asked_at(
+    alloc: Global,
+    desk: &mut Solo<Bare>,
+    at: Moment,
+    request: &str,
+    body: &str,
+) -> Result<Vec<u8>, Fail> {
+    let length = body.len();
+    let bytes = format!(in alloc; "{request} HTTP/1.1\r\nContent-Length: {length}\r\n\r\n{body}")?;
+    written_at(alloc, desk, bytes.as_str().as_bytes(), at)
+}
+
+/// The same at the first task's creation.
+pub(super) fn asked(
+    alloc: Global,
+    desk: &mut Solo<Bare>,
+    request: &str,
+    body: &str,
+) -> Result<Vec<u8>, Fail> {
+    let at = Moment::from_millis(CREATED).ok_or("a moment")?;
+    asked_at(alloc, desk, at, request, body)
 }
 
 /// Whether a desk gives the reply of a row to its request.
 fn is_answered(alloc: Global, desk: &mut Solo<Bare>, row: &Row) -> Result<bool, Fail> {
-    let millis = CREATED.checked_add(row.after).ok_or("a moment")?;
-    let at = Moment::from_millis(millis).ok_or("a moment")?;
-    let request = request_of(alloc, row)?;
-    let written = written_at(alloc, desk, request.as_str().as_bytes(), at)?;
-    let wanted = reply_of(alloc, row)?;
+    let at = moment_of(row).ok_or("a moment")?;
+    let body = body_of(alloc, row)?;
+    let written = asked_at(alloc, desk, at, row.request, body.as_str())?;
+    let wanted = wanted(alloc, row)?;
     Ok(written.as_slice() == wanted.as_str().as_bytes())
 }
 

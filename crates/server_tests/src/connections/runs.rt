@@ -1,6 +1,6 @@
 //! The runs of one task over connections in memory. The replies were written by hand after the queue service's reference, and by a model of it.
-use super::rows::first_otherwise;
-use super::tasks::{CREATED, farm, written_at};
+use super::rows::{asked, first_otherwise, reply_text};
+use super::tasks::farm;
 use super::*;
 
 /// A worker takes the task, and then it is made again.
@@ -81,22 +81,9 @@ const WORKER: &str = r#"{"workerGroup":"g","workerId":"w"}"#;
 
 const DONE: &[u8] = b"HTTP/1.1 200 OK\r\n";
 
-/// What a desk writes to a request at the moment of the task's making.
-fn answer(
-    alloc: Global,
-    desk: &mut Solo<Bare>,
-    request: &str,
-    body: &str,
-) -> Result<Vec<u8>, Fail> {
-    let at = Moment::from_millis(CREATED).ok_or("a moment")?;
-    let length = body.len();
-    let bytes = format!(in alloc; "{request} HTTP/1.1\r\nContent-Length: {length}\r\n\r\n{body}")?;
-    written_at(alloc, desk, bytes.as_str().as_bytes(), at)
-}
-
 /// Whether a request is answered with success.
 fn is_done(alloc: Global, desk: &mut Solo<Bare>, request: &str, body: &str) -> Result<bool, Fail> {
-    let written = answer(alloc, desk, request, body)?;
+    let written = asked(alloc, desk, request, body)?;
     Ok(written.as_slice().starts_with(DONE))
 }
 
@@ -138,10 +125,7 @@ fn fifty_told(alloc: Global, status: &str, front: &str, back: &str) -> Result<St
     let body = format!(in alloc;
         r#"{front}{{"deadline":"2024-01-02T00:00:00.000Z","expires":"2025-01-01T00:00:00.000Z","projectId":"none","provisionerId":"prov","retriesLeft":0,"runs":[{runs}],"schedulerId":"-","state":"failed","taskGroupId":"AAAAAAAAQACAAAAAAAAAAA","taskId":"AAAAAAAAQACAAAAAAAAAAA","taskQueueId":"prov/wt","workerType":"wt"}}{back}"#
     )?;
-    let length = body.len();
-    format!(in alloc;
-        "HTTP/1.1 {status}\r\nContent-Length: {length}\r\nContent-Type: application/json\r\n\r\n{body}"
-    )
+    reply_text(alloc, status, body.as_str())
 }
 
 /// How many of the fifty runs of the task that was made fail, with a rerun after each but the last.
@@ -165,7 +149,7 @@ fn fifty_and(alloc: Global, desk: &mut Solo<Bare>, request: &str) -> Result<Vec<
     if rounds(alloc, desk)? != 50 {
         return Err(Fail::from("it did not run fifty times"));
     }
-    answer(alloc, desk, request, "")
+    asked(alloc, desk, request, "")
 }
 
 /// The same of a new farm.
@@ -222,14 +206,6 @@ fn fifty_runs_are_listed(rt: HostRuntime) -> Result<(), Fail> {
     Ok(())
 }
 
-/// A reply with success and this body.
-fn success(alloc: Global, body: &str) -> Result<String, AllocError> {
-    let length = body.len();
-    format!(in alloc;
-        "HTTP/1.1 200 OK\r\nContent-Length: {length}\r\nContent-Type: application/json\r\n\r\n{body}"
-    )
-}
-
 #[test]
 fn who_ran_fifty_times_is_told(rt: HostRuntime) -> Result<(), Fail> {
     let alloc = rt.alloc();
@@ -246,7 +222,7 @@ fn who_ran_fifty_times_is_told(rt: HostRuntime) -> Result<(), Fail> {
     ];
     for (request, body) in rows {
         let told = after_fifty(alloc, request)?;
-        let wanted = success(alloc, body)?;
+        let wanted = reply_text(alloc, "200 OK", body)?;
         assert_eq!(rt; told.as_slice(), wanted.as_str().as_bytes());
     }
     Ok(())
