@@ -2,7 +2,7 @@
 use Rattle.std.proofs.Common.{◌≡◌, ℕ, ◌+◌, ◌<◌, ◌≤◌, ◌^◌, inl, inr, List, [], ◌∷◌, ◌++◌, length, take, drop, get_or, refl, sym, ◌∙◌, ap, subst, arith, length-append, length-drop}
 use Rattle.std.proofs.lemmas.List.{drop_more, drop-drop, map-append, length-take-le}
 use Rattle.disk_journal.specs.declared.spans.Span.{Span}
-use Rattle.disk_journal.specs.Records.{sized, records, AreSized, EndsBefore, IsDamaged, placed}
+use Rattle.disk_journal.specs.Records.{sized, records, AreSized, EndsBefore, IsDamagedBehind, placed}
 use Rattle.disk_journal.specs.Bodies.{body_at, bodies_in, places_in}
 use Rattle.disk_journal.specs.Following.{Reaches}
 use Rattle.disk_journal.proofs.RecordLemmas.{opened, sized-push, length-sized, length-records-push}
@@ -53,14 +53,17 @@ module _ (file : List ℕ) (spans : List Span) (at : ℕ) (reaches : Reaches fil
   blank first short =
       subst (EndsBefore (bodies_in file spans)) (sym tail) (inr (no_records (bodies_in file spans) (omega (arith, reaches.place)), omega (arith, length-drop (at + 1) file)))
 
-  pub damaged : (text : List ℕ) → text ≡ drop (at + 1) file → ((body more : List ℕ) → length body < 2 ^ 32 → text ≡ sized body ++ more → more ≡ []) → (at ≡ 0 → 6 ≤ length file) → IsDamaged [] file at
-  damaged text is none long = record {
-    bodies = bodies_in file spans;
-    rest = text;
-    whole = reaches.whole ∙ ap (λ (l : List ℕ). records (bodies_in file spans) ++ l) (tail ∙ ap (λ (l : List ℕ). 165 ∷ l) (sym is));
-    sizes = reaches.sizes;
-    at = omega (arith, reaches.place);
-    broken = none;
-    some = λ empty. let first : at ≡ 0 = reaches.place ∙ ap (λ (l : List (List ℕ)). length (records l)) empty in
-        let six = long first in omega (arith, ap length is, length-drop (at + 1) file);
-  }
+  pub damaged : (text : List ℕ) → text ≡ drop (at + 1) file → ((body more : List ℕ) → length body < 2 ^ 32 → text ≡ sized body ++ more → more ≡ []) → (at ≡ 0 → 6 ≤ length file) → IsDamagedBehind [] file (bodies_in file spans) at
+  damaged text is none long = (
+    record {
+      bodies = bodies_in file spans;
+      rest = text;
+      whole = reaches.whole ∙ ap (λ (l : List ℕ). records (bodies_in file spans) ++ l) (tail ∙ ap (λ (l : List ℕ). 165 ∷ l) (sym is));
+      sizes = reaches.sizes;
+      at = omega (arith, reaches.place);
+      broken = none;
+      some = λ empty. let first : at ≡ 0 = reaches.place ∙ ap (λ (l : List (List ℕ)). length (records l)) empty in
+          let six = long first in omega (arith, ap length is, length-drop (at + 1) file);
+    },
+    refl,
+  )

@@ -4,7 +4,7 @@ use Rattle.std.proofs.lemmas.List.{take_at, drop_at, append_cancel_left, append-
 use Rattle.std.proofs.lemmas.Nat.{from_be_bytes-to_be_bytes_4}
 use Rattle.std.proofs.lemmas.Bool.{cases_eq}
 use Rattle.std.specs.Int.{w32, to_be_bytes, from_be_bytes}
-use Rattle.disk_journal.specs.Records.{sized, records, AreSized, EndsBefore, Opens, IsDamaged}
+use Rattle.disk_journal.specs.Records.{sized, records, AreSized, EndsBefore, Opens, IsDamaged, IsDamagedBehind}
 use Rattle.disk_journal.specs.Images.{IsImage, IsWithin}
 use Rattle.disk_journal.proofs.RecordLemmas.{length-sized, sized-front}
 
@@ -82,11 +82,16 @@ opens_whole head file bodies place a d =
     clash (inl shut) same = shut refl
     clash (inr few) same = let five = d.some (sym same ∙ few.0) in omega (arith, few.1)
 
+pub damaged_bodies : (head file : List ℕ) (p q : ℕ) (a : IsDamaged head file p) (b : IsDamaged head file q) → a.bodies ≡ b.bodies
+damaged_bodies head file p q a b =
+    (records_one a.bodies b.bodies (165 ∷ a.rest) (165 ∷ b.rest) a.sizes b.sizes (broken_stands a.rest a.broken) (broken_stands b.rest b.broken) (λ none. cc) (λ none. cc)
+    (behind_head head (records a.bodies) (records b.bodies) (165 ∷ a.rest) (165 ∷ b.rest) (sym a.whole ∙ b.whole))).0
+
 pub damaged_one : (head file : List ℕ) (p q : ℕ) → IsDamaged head file p → IsDamaged head file q → p ≡ q
-damaged_one head file p q a b =
-    let same = records_one a.bodies b.bodies (165 ∷ a.rest) (165 ∷ b.rest) a.sizes b.sizes (broken_stands a.rest a.broken) (broken_stands b.rest b.broken) (λ none. cc) (λ none. cc)
-    (behind_head head (records a.bodies) (records b.bodies) (165 ∷ a.rest) (165 ∷ b.rest) (sym a.whole ∙ b.whole)) in
-    a.at ∙ ap (λ (l : List (List ℕ)). length head + length (records l)) same.0 ∙ sym b.at
+damaged_one head file p q a b = a.at ∙ ap (λ (l : List (List ℕ)). length head + length (records l)) (damaged_bodies head file p q a b) ∙ sym b.at
+
+pub behind_one : (head file : List ℕ) (bodies others : List (List ℕ)) (p q : ℕ) → IsDamagedBehind head file bodies p → IsDamagedBehind head file others q → bodies ≡ others
+behind_one head file bodies others p q a b = a.1 ∙ damaged_bodies head file p q a.0 b.0 ∙ sym b.1
 
 few_end : (rest : List ℕ) → length rest ≤ 1 → EndsBefore [] rest
 few_end [] few = refl

@@ -5,13 +5,14 @@ use Rattle.std.proofs.lemmas.Bool.{cases_eq}
 use Rattle.disk_base.specs.Contents.{Contents, IsSettled, StopsLeave}
 use Rattle.disk_base.specs.Calls.{written, Torn, Syncs}
 use Rattle.disk_base.proofs.StopsLemmas.{StopsLeave-now, StopsLeave-weaker, StopsLeave-then, StopsLeave-nothing}
-use Rattle.disk_journal.specs.Records.{sized, records, EndsBefore, Opens}
+use Rattle.disk_journal.specs.declared.fault.OpenFault.TheVariants.{Damaged}
+use Rattle.disk_journal.specs.Records.{sized, records, EndsBefore, Opens, IsDamagedBehind}
 use Rattle.disk_journal.specs.Images.{IsImage, IsWithin}
 use Rattle.disk_journal.specs.Keeping.{IsReady}
 use Rattle.disk_journal.specs.declared.spans.Span.{Span}
 use Rattle.disk_journal.specs.Bodies.{bodies_in}
 use Rattle.disk_journal.specs.Following.{Reaches}
-use Rattle.disk_journal.specs.Opening.{IsStill, Mends}
+use Rattle.disk_journal.specs.Opening.{IsStill, Mends, ClosesGate}
 use Rattle.disk_journal.proofs.LawLemmas.{opens_one, image_opens}
 use Rattle.disk_journal.proofs.OpenLemmas.{IsStill-then}
 use Rattle.disk_journal.proofs.TextLemmas.{torn_byte, written_byte, torn_end, written_end}
@@ -62,6 +63,15 @@ pub read_still : {T E : Type 0} (old synced read : Contents) (done : T) → Sync
 read_still old synced read done sync still =
     (IsStill-then old synced read (record { same = sync.same; stops = sync.stops }) still, settled_still synced read still sync.done)
 
+-- the damage that was found in what was read is the disk's
+pub found_damaged : (old synced file followed : List ℕ) (spans : List Span) (place told : ℕ) → file ≡ synced → synced ≡ old → followed ≡ file → Damaged place ≡ Damaged told
+    → IsDamagedBehind [] followed (bodies_in followed spans) place → IsDamagedBehind [] old (bodies_in file spans) told
+found_damaged old synced file followed spans place told is same follows names found =
+    let one : place ≡ told = cc in
+    let read = subst (λ (l : List ℕ). IsDamagedBehind [] l (bodies_in l spans) place) follows found in
+    let kept = subst (λ (l : List ℕ). IsDamagedBehind [] l (bodies_in file spans) place) (is ∙ same) read in
+    subst (λ n. IsDamagedBehind [] old (bodies_in file spans) n) one kept
+
 -- the end of what was followed
 pub end_is : (file followed : List ℕ) (spans : List Span) (end : ℕ) → followed ≡ file → Reaches followed spans end → end ≡ length (records (bodies_in file spans))
 end_is file followed spans end is found = subst (λ (l : List ℕ). end ≡ length (records (bodies_in l spans))) is found.place
@@ -89,6 +99,11 @@ module _ {T E : Type 0} (old synced read new : Contents) (file followed closing 
       let m = subst (λ (l : List ℕ). Mends {T = T2} {E = E2} end l read new (Ok x)) closes mends in
       let left = mended_file [] (bodies_in file spans) (drop end file) end file new.bytes reaches.place reaches.whole m.closed m.mended in
       record { settled = m.settled; rest = left.0; file = left.1; place = reaches.place ∙ omega arith; sizes = reaches.sizes }
+
+  pub opened_gate : {T2 E2 : Type 0} (x : T2) → Mends {T = T2} {E = E2} end closing read new (Ok x) → ClosesGate old.bytes end new.bytes
+  opened_gate {T2 = T2} {E2 = E2} x mends =
+      let m = subst (λ (l : List ℕ). Mends {T = T2} {E = E2} end l read new (Ok x)) closes mends in
+      subst (λ (l : List ℕ). ClosesGate l end new.bytes) (is ∙ same) (record { closed = m.closed; mended = m.mended })
 
   pub opened_stops : {T2 E2 : Type 0} (mend : Result T2 E2) → Mends end closing read new mend → (bodies : List (List ℕ)) (pending : Option (List ℕ)) → IsImage [] bodies pending old.bytes → StopsLeave old new (IsWithin [] bodies (option_to_list pending))
   opened_stops {T2 = T2} {E2 = E2} mend mends bodies pending image =

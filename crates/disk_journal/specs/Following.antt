@@ -3,7 +3,7 @@ use Rattle.std.specs.Prelude.{◌≡◌, ℕ, ◌<◌, ◌⊎◌, List, [], ◌+
 use Rattle.disk_journal.specs.declared.spans.Span.{Span}
 use Rattle.disk_journal.specs.declared.spans.Followed.{Followed}
 use Rattle.disk_journal.specs.declared.spans.Followed.TheVariants.{End, Damaged}
-use Rattle.disk_journal.specs.Records.{records, AreSized, EndsBefore, IsDamaged, placed}
+use Rattle.disk_journal.specs.Records.{records, AreSized, EndsBefore, IsDamagedBehind, placed}
 use Rattle.disk_journal.specs.Bodies.{bodies_in, places_in}
 
 -- the file has these bodies up to this place, and behind the last of them there is a byte
@@ -17,4 +17,4 @@ pub record Reaches (file : List ℕ) (spans : List Span) (at : ℕ) : Type 0 whe
 -- the open records of a file end there, or it is damaged there
 abbrev pub IsFollowed : List ℕ → Followed → Type 0
 IsFollowed file (End spans end) = Reaches file spans.items end × EndsBefore (bodies_in file spans.items) (drop end file)
-IsFollowed file (Damaged place) = IsDamaged [] file place
+IsFollowed file (Damaged spans place) = Reaches file spans.items place × IsDamagedBehind [] file (bodies_in file spans.items) place

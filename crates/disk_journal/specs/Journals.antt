@@ -2,6 +2,6 @@
 use Rattle.std.specs.Prelude.{Result, Ok, Err}
 
 -- the disk of what is opened, or the one beside the fault
-abbrev pub disk_after : {D J B F : Type 0} → (J → D) → Result (J × B) (F × D) → D
+abbrev pub disk_after : {D J B F : Type 0} → (J → D) → Result (J × B) (F × D × B) → D
 disk_after disk_of (Ok opened) = disk_of opened.0
 disk_after disk_of (Err refused) = refused.1

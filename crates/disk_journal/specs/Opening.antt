@@ -1,5 +1,5 @@
 -- What an opening does to a disk.
-use Rattle.std.specs.Prelude.{◌≡◌, ◌≢◌, ℕ, ◌≤◌, List, [], ◌∷◌, slice_index_or, Result, IsErrOf, OnOk}
+use Rattle.std.specs.Prelude.{◌≡◌, ◌≢◌, ℕ, ◌≤◌, List, [], ◌∷◌, slice_index_or, Result, Ok, Err, IsErrOf, OnOk}
 use Rattle.causes.specs.Causes.{Rose}
 use Rattle.disk_base.specs.Contents.{Contents, IsSettled, StopsLeave, StopsAddNothing}
 use Rattle.disk_base.specs.Calls.{written, Torn}
@@ -17,6 +17,16 @@ pub record HasOpenCause {T : Type 0} (before now : ℕ) (result : Result T OpenF
   pub failed : IsErrOf result Disk → Rose before now
   pub kept : OnOk result (now ≡ before)
   pub spared : (fault : OpenFault) → fault ≢ Disk → IsErrOf result fault → now ≡ before
+
+-- what an opening answered, without what it hands back beside a fault
+abbrev pub answer_of : {T F B : Type 0} → Result T (F × B) → Result T F
+answer_of (Ok opened) = Ok opened
+answer_of (Err refused) = Err refused.0
+
+-- a closed gate is put at the end place of a file where it does not stand there, and no other byte changes
+pub record ClosesGate (file : List ℕ) (end : ℕ) (new : List ℕ) : Type 0 where
+  pub closed : slice_index_or file end 1 ≡ 0 → new ≡ file
+  pub mended : slice_index_or file end 1 ≢ 0 → new ≡ written end (0 ∷ []) file
 
 -- The gate behind the bodies was closed where it was not.
 pub record Mends {T E : Type 0} (end : ℕ) (file : List ℕ) (old new : Contents) (result : Result T E) : Type 0 where

@@ -39,6 +39,10 @@ pub record IsDamaged (head file : List ℕ) (place : ℕ) : Type 0 where
   pub broken : (body more : List ℕ) → length body < 2 ^ 32 → rest ≡ sized body ++ more → more ≡ []
   pub some : bodies ≡ [] → 5 ≤ length rest
 
+-- a file is damaged at a place behind these bodies, its whole open records
+abbrev pub IsDamagedBehind : List ℕ → List ℕ → List (List ℕ) → ℕ → Type 0
+IsDamagedBehind head file bodies place = (damaged : IsDamaged head file place) × (bodies ≡ damaged.bodies)
+
 -- the bodies, each with the place of its gate, from a place on
 abbrev pub placed : ℕ → List (List ℕ) → List (ℕ × List ℕ)
 placed at [] = []

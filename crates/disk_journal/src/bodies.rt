@@ -2,6 +2,7 @@
 ghost use Rattle.std.specs.Prelude.{◌≡◌, ◌<◌, ◌+◌, [], length, take, drop, slice_index_or};
 
 use crate::spans::Span;
+use std::alloc::Global;
 
 /// The bodies of a journal, in the order of their records. They stand in the file as it was read.
 #[derive(Drop)]
@@ -12,6 +13,17 @@ pub struct Bodies {
 
 impl Bodies {
     ghost use Rattle.disk_journal.specs.Opened.{opened_bodies, opened_places};
+
+    /// No bodies, of no file.
+    pub(crate) fn none(alloc: Global) -> Bodies
+        ensures bodies { opened_bodies result ≡ [] }
+        ensures places { opened_places result ≡ [] }
+    {
+        Bodies {
+            file: Vec::new(alloc),
+            spans: Vec::new(alloc),
+        }
+    }
 
     /// How many there are.
     pub fn len(&self) -> usize

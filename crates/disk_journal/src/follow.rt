@@ -54,7 +54,7 @@ pub(crate) fn follow(alloc: Global, file: &[u8]) -> Result<Followed, AllocError>
                 if at == 0 && file.len() < 6 {
                     return Ok(Followed::End { spans, end: at });
                 }
-                return Ok(Followed::Damaged(at));
+                return Ok(Followed::Damaged { spans, place: at });
             }
         }
     }

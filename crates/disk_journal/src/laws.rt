@@ -1,14 +1,15 @@
 //! Laws of the definitions. The functions do nothing: their contracts are the laws.
 ghost use Rattle.std.specs.Prelude.{◌≡◌, ℕ, ◌⊎◌, List, [], ◌++◌, take, Option, None};
-ghost use Rattle.disk_journal.specs.Records.{Opens, IsDamaged};
+ghost use Rattle.disk_journal.specs.Records.{Opens, IsDamaged, IsDamagedBehind};
 ghost use Rattle.disk_journal.specs.Images.{IsImage, IsWithin};
 
 use crate::framing::BODY_LIMIT;
 
-/// A law: a file opens to one list of bodies, or is damaged at one place, and not both.
+/// A law: a file opens to one list of bodies, or is damaged at one place, behind one list of bodies, and not both.
 pub fn files_open_once()
     ensures bodies { (head file : List ℕ) (bodies others : List (List ℕ)) → Opens head file bodies → Opens head file others → bodies ≡ others }
     ensures place { (head file : List ℕ) (place other : ℕ) → IsDamaged head file place → IsDamaged head file other → place ≡ other }
+    ensures before { (head file : List ℕ) (bodies others : List (List ℕ)) (place other : ℕ) → IsDamagedBehind head file bodies place → IsDamagedBehind head file others other → bodies ≡ others }
     ensures whole { (head file : List ℕ) (bodies : List (List ℕ)) (place : ℕ) → Opens head file bodies → IsDamaged head file place → ⊥ }
 {}
 

@@ -12,5 +12,5 @@ pub(crate) enum Followed {
     /// At a gate that is not open, or at the end of a file without one.
     End { spans: Vec<Span>, end: usize },
     /// At an open gate with no whole record and gate byte behind it.
-    Damaged(usize),
+    Damaged { spans: Vec<Span>, place: usize },
 }

@@ -5,11 +5,11 @@ use disk_journal::{DiskFault, Frame, Journal, OpenFault, frame, frame_tick};
 use std::alloc::{AllocError, Global};
 use std::test::Fail;
 
-/// How many bodies a disk opens to, or why to none.
+/// How many bodies a disk opens to, or why to none, and how many stand before its damage.
 #[derive(Clone, Copy, Debug, PartialEq, Eq)]
 enum Outcome {
     Bodies(usize),
-    Fault(OpenFault),
+    Fault(OpenFault, usize),
 }
 
 fn open<D: Disk>(alloc: Global, disk: D) -> (Outcome, D) {
@@ -19,7 +19,11 @@ fn open<D: Disk>(alloc: Global, disk: D) -> (Outcome, D) {
             drop(bodies);
             (outcome, journal.into_disk())
         }
-        Err((fault, disk)) => (Outcome::Fault(fault), disk),
+        Err((fault, disk, before)) => {
+            let outcome = Outcome::Fault(fault, before.len());
+            drop(before);
+            (outcome, disk)
+        }
     }
 }
 
@@ -31,7 +35,10 @@ fn append<D: Disk, F: Frame>(alloc: Global, disk: D, frame: &F) -> (Option<DiskF
             drop(bodies);
             (fault, journal.into_disk())
         }
-        Err((_, disk)) => (None, disk),
+        Err((_, disk, before)) => {
+            drop(before);
+            (None, disk)
+        }
     }
 }
 
@@ -64,7 +71,10 @@ fn keep<D: Disk, F: Frame>(alloc: Global, disk: D, frame: &F) -> (Option<DiskFau
             drop(bodies);
             (fault, journal.into_disk())
         }
-        Err((_, disk)) => (None, disk),
+        Err((_, disk, before)) => {
+            drop(before);
+            (None, disk)
+        }
     }
 }
 
@@ -168,8 +178,17 @@ fn an_append_is_stopped_in_each_call(rt: HostRuntime) -> Result<(), Fail> {
 fn an_append_leaves_its_record(rt: HostRuntime) -> Result<(), Fail> {
     let alloc = rt.alloc();
     let is_whole = append_is_whole(alloc)?;
-    let opened = [reopen(alloc, &[0xa5])?, reopen(alloc, &WHOLE[..7])?];
-    let wanted = [Outcome::Bodies(0), Outcome::Fault(OpenFault::Damaged(0))];
+    let one_and_damaged = [0xa5, 0, 0, 0, 1, 7, 0xa5, 0, 0, 0, 9, 1, 0];
+    let opened = [
+        reopen(alloc, &[0xa5])?,
+        reopen(alloc, &WHOLE[..7])?,
+        reopen(alloc, &one_and_damaged)?,
+    ];
+    let wanted = [
+        Outcome::Bodies(0),
+        Outcome::Fault(OpenFault::Damaged(0), 0),
+        Outcome::Fault(OpenFault::Damaged(6), 1),
+    ];
     assert_eq!(rt; (is_whole, opened), (true, wanted));
     Ok(())
 }
@@ -179,7 +198,10 @@ fn opening_leaves(alloc: Global, call: u64, choices: &[u8]) -> Result<(bool, u64
     let disk = memory(alloc, &[], Some(call))?;
     let (outcome, stopped) = open(alloc, disk);
     let (none, one) = counts_of(alloc, stopped, choices)?;
-    Ok((outcome == Outcome::Fault(OpenFault::Disk) && one == 0, none))
+    Ok((
+        outcome == Outcome::Fault(OpenFault::Disk, 0) && one == 0,
+        none,
+    ))
 }
 
 /// The images of an empty disk to which a body of one byte was appended, and whose call of this number failed.

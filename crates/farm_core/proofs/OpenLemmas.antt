@@ -98,8 +98,9 @@ unbroken one before rest body contents last whole front broken = by split.others
 
 -- a file that opens to a front of bodies that replay is no damaged one
 pub image-sound : OneChange → (file : List ℕ) (opened rest : List (List ℕ)) (last : Contents) (place : ℕ) → Replays (opened ++ rest) last → Opens [] file opened → IsFarmDamaged file place → ⊥
-image-sound one file opened rest last place whole opens (inl damaged) = opens_whole [] file opened place opens damaged
-image-sound one file opened rest last place whole opens (inr (bodies, others, broken)) =
+image-sound one file opened rest last place whole opens (inl (bodies, behind, replays)) = opens_whole [] file opened place opens behind.0
+image-sound one file opened rest last place whole opens (inr (bodies, inr (at, behind), broken)) = opens_whole [] file opened at opens behind.0
+image-sound one file opened rest last place whole opens (inr (bodies, inl others, broken)) =
     let same : opened ≡ broken.before ++ broken.body ∷ broken.after = opens_one [] file opened bodies opens others ∙ broken.are in
     let all : opened ++ rest ≡ broken.before ++ broken.body ∷ (broken.after ++ rest) =
     ap (λ (l : List (List ℕ)). l ++ rest) same ∙ append_assoc broken.before (broken.body ∷ broken.after) rest in

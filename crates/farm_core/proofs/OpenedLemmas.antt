@@ -1,25 +1,25 @@
 -- What the opening of a farm finds, from what the opening of its journal and its replay found.
-use Rattle.std.proofs.Common.{◌≡◌, ℕ, List, [], length, None, Err, sym, ◌∙◌, subst, inr}
+use Rattle.std.proofs.Common.{◌≡◌, ℕ, List, [], length, None, Err, refl, sym, ◌∙◌, subst, inl, inr}
 use Rattle.disk_base.specs.Contents.{Contents as Disk, IsSettled}
 use Rattle.disk_journal.specs.Keeping.{IsReady}
-use Rattle.disk_journal.specs.Opening.{IsStill}
-use Rattle.disk_journal.specs.Records.{Opens}
+use Rattle.disk_journal.specs.Opening.{IsStill, ClosesGate}
+use Rattle.disk_journal.specs.Records.{Opens, IsDamagedBehind}
 use Rattle.disk_journal.proofs.AppendLemmas.{ready_image}
 use Rattle.disk_journal.proofs.LawLemmas.{opens_one, opens_whole, image_opens}
 use Rattle.disk_journal.specs.declared.fault.OpenFault.{OpenFault}
 use Rattle.disk_journal.specs.declared.fault.OpenFault.TheVariants as faults
 use Rattle.farm_rows.specs.Contents.{Contents}
-use Rattle.farm_core.specs.Opened.{Replays, IsFarmDamaged, KeepsRefused, HasOpened}
-use Rattle.farm_core.specs.Reading.{IsRestored}
+use Rattle.farm_core.specs.Opened.{Replays, HasBodies, IsFarmDamaged, KeepsRefused, HasOpened}
+use Rattle.farm_core.specs.Reading.{IsRestored, IsFirstFault}
 
 -- all bodies were replayed
-pub has-opened : (tells : Type 0) (file : List ℕ) (disk : Disk) (end count : ℕ) (bodies : List (List ℕ)) (contents : Contents) → (tells → Opens [] file bodies) → (tells → IsReady [] disk end bodies) → count ≡ length bodies
+pub has-opened : (tells : Type 0) (file : List ℕ) (disk : Disk) (end count : ℕ) (bodies : List (List ℕ)) (contents : Contents) → (tells → Opens [] file bodies) → (tells → IsReady [] disk end bodies) → (tells → ClosesGate file end disk.bytes) → count ≡ length bodies
     → Replays bodies contents → HasOpened tells file disk end count contents
-has-opened tells file disk end count bodies contents opens ready counted replays =
-    record { bodies = bodies; replays = replays; counted = counted; opens = opens; ready = ready }
+has-opened tells file disk end count bodies contents opens ready gate counted replays =
+    record { bodies = bodies; replays = replays; counted = counted; opens = opens; ready = ready; gate = gate }
 
 -- one was broken
-pub restored-damaged : (file : List ℕ) (bodies : List (List ℕ)) (fault : OpenFault) (place : ℕ) → Opens [] file bodies → IsRestored bodies (Err fault) → fault ≡ faults.Damaged place → IsFarmDamaged file place
+pub restored-damaged : (file : List ℕ) (bodies : List (List ℕ)) (fault : OpenFault) (place : ℕ) → HasBodies file bodies → IsRestored bodies (Err fault) → fault ≡ faults.Damaged place → IsFarmDamaged file place
 restored-damaged file bodies fault place opens restored is =
     let P : OpenFault → Type 0 = λ f. IsRestored bodies (Err f) in
     inr (bodies, opens, subst P is restored)
@@ -29,6 +29,28 @@ pub restored-no_disk : (bodies : List (List ℕ)) (fault : OpenFault) → IsRest
 restored-no_disk bodies fault restored is =
     let P : OpenFault → Type 0 = λ f. IsRestored bodies (Err f) in
     subst P is restored
+
+-- one was broken before a journal's damage, or none was
+pub first-damaged : (file : List ℕ) (bodies : List (List ℕ)) (fault first : OpenFault) (place : ℕ) → ((at : ℕ) → fault ≡ faults.Damaged at → IsDamagedBehind [] file bodies at) → IsFirstFault bodies fault first
+    → first ≡ faults.Damaged place → IsFarmDamaged file place
+first-damaged file bodies (faults.Damaged at) first place behind (inl none) is =
+    let same : at ≡ place = cc in
+    inl (bodies, subst (λ n. IsDamagedBehind [] file bodies n) same (behind at refl), none.1)
+first-damaged file bodies (faults.Damaged at) first place behind (inr restored) is = restored-damaged file bodies first place (inr (at, behind at refl)) restored is
+first-damaged file bodies faults.NoMemory first place behind found is = cc
+first-damaged file bodies faults.Disk first place behind found is = cc
+
+-- the first fault is one of the disk exactly where the journal's is
+pub first-disk : (bodies : List (List ℕ)) (fault first : OpenFault) → IsFirstFault bodies fault first → first ≡ faults.Disk → fault ≡ faults.Disk
+first-disk bodies (faults.Damaged at) first (inl none) is = cc
+first-disk bodies (faults.Damaged at) first (inr restored) is = absurd (restored-no_disk bodies first restored is)
+first-disk bodies faults.NoMemory first found is = cc
+first-disk bodies faults.Disk first found is = refl
+
+pub disk-first : (bodies : List (List ℕ)) (fault first : OpenFault) → IsFirstFault bodies fault first → fault ≡ faults.Disk → first ≡ faults.Disk
+disk-first bodies (faults.Damaged at) first found is = cc
+disk-first bodies faults.NoMemory first found is = cc
+disk-first bodies faults.Disk first found is = found
 
 -- a disk whose journal was not opened is as it was, and nothing is pending
 pub still-keeps : (old new : Disk) → IsStill old new → IsSettled new → KeepsRefused old new

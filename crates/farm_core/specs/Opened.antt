@@ -3,8 +3,8 @@ use Rattle.std.specs.Prelude.{◌≡◌, ℕ, false, ◌⊎◌, List, [], ◌∷
 use Rattle.disk_base.specs.Contents.{Contents as Disk, LeftNow}
 use Rattle.disk_journal.specs.Images.{IsWithin}
 use Rattle.disk_journal.specs.Keeping.{IsReady}
-use Rattle.disk_journal.specs.Opening.{IsStill}
-use Rattle.disk_journal.specs.Records.{records, Opens, IsDamaged}
+use Rattle.disk_journal.specs.Opening.{IsStill, ClosesGate}
+use Rattle.disk_journal.specs.Records.{records, Opens, IsDamaged, IsDamagedBehind}
 use Rattle.farm_record.specs.declared.change.Change.{Change}
 use Rattle.farm_record.specs.Records.{IsRecord}
 use Rattle.farm_rows.specs.Contents.{Contents, no_contents}
@@ -28,9 +28,15 @@ pub record IsBroken (bodies : List (List ℕ)) (place : ℕ) : Type 0 where
   pub replays : Replays before contents
   pub broken : (change : Change) → IsRecord change body → may_replay contents change ≡ false
 
--- a file is no farm's: its journal is damaged at this place, or the body there is broken
+-- a file's whole open records are these bodies: it opens to them, or is damaged behind them
+abbrev pub HasBodies : List ℕ → List (List ℕ) → Type 0
+HasBodies file bodies = Opens [] file bodies ⊎ ((place : ℕ) × IsDamagedBehind [] file bodies place)
+
+-- A file is no farm's: none of its bodies is broken, and behind them its journal is damaged at this place; or the body there is broken.
 abbrev pub IsFarmDamaged : List ℕ → ℕ → Type 0
-IsFarmDamaged file place = IsDamaged [] file place ⊎ ((bodies : List (List ℕ)) × Opens [] file bodies × IsBroken bodies place)
+IsFarmDamaged file place =
+    ((bodies : List (List ℕ)) × IsDamagedBehind [] file bodies place × ((contents : Contents) × Replays bodies contents))
+    ⊎ ((bodies : List (List ℕ)) × HasBodies file bodies × IsBroken bodies place)
 
 -- A disk that was refused though no call of it failed: where its journal is damaged it is as it was; where it is whole each image opens to the
 -- same bodies.
@@ -48,13 +54,14 @@ pub record IsSound (file : List ℕ) : Type 0 where
   pub undamaged : (place : ℕ) → IsFarmDamaged file place → ⊥
 
 -- A farm was opened: its contents are the replay of so many bodies; and where the disk tells what it holds, these are the bodies of its file, and
--- they are ready on it.
+-- they are ready on it, and nothing but the gate behind them was written.
 pub record HasOpened (tells : Type 0) (file : List ℕ) (disk : Disk) (end count : ℕ) (contents : Contents) : Type 0 where
   pub bodies : List (List ℕ)
   pub replays : Replays bodies contents
   pub counted : count ≡ length bodies
   pub opens : tells → Opens [] file bodies
   pub ready : tells → IsReady [] disk end bodies
+  pub gate : tells → ClosesGate file end disk.bytes
 
 -- the disk of what was opened, or the one beside the fault
 abbrev pub disk_left : {D O F : Type 0} → (O → D) → Result O (F × D) → D

@@ -1,5 +1,5 @@
 -- How the bodies of a journal are read and replayed in the code; for private clauses.
-use Rattle.std.specs.Prelude.{◌≡◌, ℕ, true, false, Bool, List, Result, Ok, Err}
+use Rattle.std.specs.Prelude.{◌≡◌, ℕ, true, false, ◌⊎◌, Bool, List, Result, Ok, Err}
 use Rattle.disk_journal.specs.declared.fault.OpenFault.{OpenFault}
 use Rattle.disk_journal.specs.declared.fault.OpenFault.TheVariants.{Disk, Damaged, NoMemory}
 use Rattle.farm_record.specs.declared.change.Change.{Change}
@@ -20,3 +20,9 @@ IsRestored bodies (Ok contents) = Replays bodies contents
 IsRestored bodies (Err (Damaged place)) = IsBroken bodies place
 IsRestored bodies (Err NoMemory) = Unit {0}
 IsRestored bodies (Err Disk) = ⊥
+
+-- The first fault of a disk whose journal was refused so behind these bodies: of a damaged one that of a body, where one is broken.
+abbrev pub IsFirstFault : List (List ℕ) → OpenFault → OpenFault → Type 0
+IsFirstFault bodies (Damaged place) first = ((first ≡ Damaged place) × ((contents : Contents) × Replays bodies contents)) ⊎ IsRestored bodies (Err first)
+IsFirstFault bodies NoMemory first = first ≡ NoMemory
+IsFirstFault bodies Disk first = first ≡ Disk

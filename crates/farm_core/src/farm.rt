@@ -1,5 +1,5 @@
 //! The farm over a disk: what was acknowledged is on it.
-ghost use Rattle.std.specs.Prelude.{◌≡◌, ◌≢◌, ◌≤◌, ◌^◌, ◌-◌, false, true, ℕ, List, [], length, Option, option_to_list, IfOk, IfErr};
+ghost use Rattle.std.specs.Prelude.{◌≡◌, ◌≢◌, ◌≤◌, ◌^◌, ◌-◌, false, true, ℕ, List, [], ◌++◌, length, Option, option_to_list, IfOk, IfErr};
 ghost use Rattle.causes.specs.Causes.{HasCause, Rose};
 ghost use Rattle.disk_base.specs.Contents.{StopsLeave};
 ghost use Rattle.disk_journal.specs.Images.{IsImage, IsWithin};
@@ -7,11 +7,16 @@ ghost use Rattle.disk_journal.specs.declared.fault.OpenFault.TheVariants.{Disk, 
 ghost use Rattle.farm_rows.specs.Contents.{Contents};
 ghost use Rattle.farm_rows.specs.Summary.{summary_of};
 ghost use Rattle.farm_core.specs.Farm.{state_of, AsksDisk, TellsFaults, HoldsHistory};
+ghost use Rattle.farm_machine.specs.Entry.{Entry};
+ghost use Rattle.farm_machine.specs.Law.{Opening};
+ghost use Rattle.farm_machine.specs.Step.{farm_rules};
+ghost use Rattle.history.specs.Asks.{IsAsk};
+ghost use Rattle.history.specs.Histories.{entries, Leads};
 ghost use Rattle.farm_core.specs.Opened.{HasOpened, IsFarmDamaged, KeepsRefused, disk_left};
 
 use crate::asking::{keep_due, perform};
 use crate::records::Records;
-use crate::restoring::restore;
+use crate::restoring::{first_fault, restore};
 use disk_base::Disk;
 use disk_journal::{DiskFault, Journal, OpenFault};
 use farm_asks::config::Config;
@@ -57,7 +62,10 @@ fn open_records<D: Disk>(alloc: Global, disk: D) -> Result<(Tables, Records<D>),
 {
     let (journal, bodies) = match Journal::open(alloc, disk) {
         Ok((journal, bodies)) => (journal, bodies),
-        Err(refused) => return Err(refused),
+        Err((fault, disk, before)) => {
+            let first = first_fault(alloc, fault, &before);
+            return Err((first, disk));
+        }
     };
     match restore(alloc, &bodies) {
         Ok(tables) => {
@@ -118,7 +126,7 @@ impl<D: Disk> Farm<D> {
         self.tables.summary()
     }
 
-    /// Whether a call of its disk failed since it was opened: then it answers no more.
+    /// Whether a call of its disk failed since it was opened: then it answers all that is asked with that alone.
     pub fn halted(&self) -> bool
         ensures { result ≡ self.now.records.halted }
     {
@@ -194,7 +202,18 @@ impl<D: Disk> Object for Farm<D> {
     ghost holds = { λ farm opening seen. HoldsHistory D.tells (D.contents farm.records.disk) farm.records.end (D.faults farm.records.disk)
         (state_of farm.config farm.tables farm.records.halted) opening seen };
 
-    fn ask(&mut self, question: Question) -> Asked {
+    /// As `answer`; and what the farm holds of a history goes on by the entries of the ask.
+    fn ask(&mut self, question: Question) -> Asked
+        ensures asks { let old = state_of self.old.config self.old.tables self.old.records.halted in let new = state_of self.new.config self.new.tables self.new.records.halted in
+            (call : Entry) × IsAsk farm_rules old question result call new × ((opening : Opening) (seen : List Entry) → Leads farm_rules opening.state seen old
+            → HoldsHistory D.tells (D.contents self.old.records.disk) self.old.records.end (D.faults self.old.records.disk) old opening seen
+            → HoldsHistory D.tells (D.contents self.new.records.disk) self.new.records.end (D.faults self.new.records.disk) new opening (seen ++ entries farm_rules old question result call)) }
+        ensures asked { self.old.records.halted ≡ false → AsksDisk D.tells
+            (state_of self.old.config self.old.tables self.old.records.halted) (D.contents self.old.records.disk) self.old.records.end self.old.records.count question result
+            (state_of self.new.config self.new.tables self.new.records.halted) (D.contents self.new.records.disk) self.new.records.end self.new.records.count }
+        ensures halted { self.old.records.halted ≡ true → (self.new ≡ self.old) × (result ≡ record { reply = Reply.Halted; ticked = false }) }
+        ensures cause { result.reply ≡ Reply.DiskFault → Rose (D.faults self.old.records.disk) (D.faults self.new.records.disk) }
+    {
         self.answer(question)
     }
 }

@@ -2,7 +2,7 @@
 ghost use Rattle.std.specs.Prelude.{◌≡◌};
 ghost use Rattle.disk_journal.specs.Opened.{opened_bodies, opened_places};
 ghost use Rattle.disk_journal.specs.Records.{placed};
-ghost use Rattle.farm_core.specs.Reading.{IsRead, IsRestored};
+ghost use Rattle.farm_core.specs.Reading.{IsRead, IsRestored, IsFirstFault};
 
 use disk_journal::{Bodies, OpenFault};
 use farm_machine::replay::replay;
@@ -41,4 +41,21 @@ pub(crate) fn restore(alloc: Global, bodies: &Bodies) -> Result<Tables, OpenFaul
         }
     }
     Ok(tables)
+}
+
+/// The first fault of a disk whose journal was refused with this one, behind these bodies: where it is damaged, a body before may be broken.
+pub(crate) fn first_fault(alloc: Global, fault: OpenFault, before: &Bodies) -> OpenFault
+    requires { opened_places before.now ≡ placed 0 (opened_bodies before.now) }
+    ensures { IsFirstFault (opened_bodies before.now) fault result }
+{
+    if !matches!(fault, OpenFault::Damaged(_)) {
+        return fault;
+    }
+    match restore(alloc, before) {
+        Ok(tables) => {
+            drop(tables);
+            fault
+        }
+        Err(broken) => broken,
+    }
 }

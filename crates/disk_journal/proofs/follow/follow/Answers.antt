@@ -18,6 +18,6 @@ returns-in-None c =
     let open_gate = c.is_open.ensures.0 c.if-is_open.true in
     let none = c.in-None.ensures.none refl in
     elim c.else-at-eq0.branch [
-      | else-at-eq0-via-then-at-eq0+else-file-lt6 w ↦ damaged c.args.file.now c.loop-at.spans.items c.loop-at.at c.loop-at.invariant c.loop-at-test.true open_gate c.behind.result.now c.behind.ensures none (λ _. omega arith)
-      | else-at-eq0-via-else-at-eq0 w ↦ damaged c.args.file.now c.loop-at.spans.items c.loop-at.at c.loop-at.invariant c.loop-at-test.true open_gate c.behind.result.now c.behind.ensures none (λ zero. absurd (omega arith))
+      | else-at-eq0-via-then-at-eq0+else-file-lt6 w ↦ (c.loop-at.invariant, damaged c.args.file.now c.loop-at.spans.items c.loop-at.at c.loop-at.invariant c.loop-at-test.true open_gate c.behind.result.now c.behind.ensures none (λ _. omega arith))
+      | else-at-eq0-via-else-at-eq0 w ↦ (c.loop-at.invariant, damaged c.args.file.now c.loop-at.spans.items c.loop-at.at c.loop-at.invariant c.loop-at-test.true open_gate c.behind.result.now c.behind.ensures none (λ zero. absurd (omega arith)))
     ]

@@ -1,8 +1,8 @@
 -- What the opening of the journal found is replayed.
-use Rattle.std.proofs.Common.{arith}
+use Rattle.std.proofs.Common.{arith, inl}
 use Rattle.disk_journal.specs.Opened.{opened_bodies}
 use Rattle.disk_journal.proofs.KeepsLemmas.{few-records}
-use Rattle.farm_core.proofs.OpenedLemmas.{has-opened, restored-damaged, restored-no_disk, still-keeps, opened-keeps}
+use Rattle.farm_core.proofs.OpenedLemmas.{has-opened, restored-damaged, restored-no_disk, first-damaged, first-disk, disk-first, still-keeps, opened-keeps}
 use Rattle.farm_core.proofs.farm.open_records.Goals as goal
 
 pub new-requires-clause-few : goal.new-requires-clause-few
@@ -13,7 +13,7 @@ new-requires-clause-ready g c = λ tells. (opened_bodies c.in-Ok.bodies, c.in-Ok
 
 pub returns-in-Ok-restore-clause-opened : goal.returns-in-Ok-restore-clause-opened
 returns-in-Ok-restore-clause-opened g c =
-    rw c.new.ensures (has-opened g.D.Disk.tells _ _ _ _ (opened_bodies c.in-Ok.bodies) _ (λ tells. c.in-Ok.ensures.bodies tells) (λ tells. c.in-Ok.ensures.ready tells) (omega arith) c.in-Ok-restore.ensures)
+    rw c.new.ensures (has-opened g.D.Disk.tells _ _ _ _ (opened_bodies c.in-Ok.bodies) _ (λ tells. c.in-Ok.ensures.bodies tells) (λ tells. c.in-Ok.ensures.ready tells) (λ tells. c.in-Ok.ensures.gate tells) (omega arith) c.in-Ok-restore.ensures)
 
 pub returns-in-Ok-restore-clause-any_moment : goal.returns-in-Ok-restore-clause-any_moment
 returns-in-Ok-restore-clause-any_moment g c = λ tells. rw c.new.ensures (c.in-Ok.ensures.any_moment tells)
@@ -26,7 +26,7 @@ returns-in-Ok-restore-clause-kept g c = rw c.new.ensures c.in-Ok.ensures.kept
 
 pub returns-clause-damaged : goal.returns-clause-damaged
 returns-clause-damaged g c = λ tells place is.
-    restored-damaged _ (opened_bodies c.in-Ok.bodies) _ place (c.in-Ok.ensures.bodies tells) c.in-Err-restore.ensures is
+    restored-damaged _ (opened_bodies c.in-Ok.bodies) _ place (inl (c.in-Ok.ensures.bodies tells)) c.in-Err-restore.ensures is
 
 pub returns-clause-any_moment : goal.returns-clause-any_moment
 returns-clause-any_moment g c = λ tells. rw c.into_disk.ensures (c.in-Ok.ensures.any_moment tells)
@@ -43,5 +43,15 @@ returns-clause-untouched g c = λ tells other.
 
 pub returns-in-Err-clause-untouched : goal.returns-in-Err-clause-untouched
 returns-in-Err-clause-untouched g c = λ tells other.
-    let was = c.in-Err.ensures.untouched tells other in
+    let was = c.in-Err.ensures.untouched tells (λ is. other (disk-first (opened_bodies c.in-Err.before) _ _ c.first_fault-first.ensures is)) in
     still-keeps _ _ was.0 was.1
+
+pub returns-in-Err-clause-damaged : goal.returns-in-Err-clause-damaged
+returns-in-Err-clause-damaged g c = λ tells place is.
+    first-damaged _ (opened_bodies c.in-Err.before) c.in-Err.fault _ place (λ at names. c.in-Err.ensures.damaged tells at names) c.first_fault-first.ensures is
+
+pub returns-in-Err-clause-cause : goal.returns-in-Err-clause-cause
+returns-in-Err-clause-cause g c = λ is. c.in-Err.ensures.cause (first-disk (opened_bodies c.in-Err.before) _ _ c.first_fault-first.ensures is)
+
+pub returns-in-Err-clause-spared : goal.returns-in-Err-clause-spared
+returns-in-Err-clause-spared g c = λ other. c.in-Err.ensures.spared (λ is. other (disk-first (opened_bodies c.in-Err.before) _ _ c.first_fault-first.ensures is))

@@ -5,8 +5,8 @@ use Rattle.farm_core.proofs.HoldLemmas.{decided, halted-asked, entries-halted, h
 use Rattle.farm_machine.specs.Entry.{Entry, call, was_halted}
 use Rattle.farm_core.proofs.farm.FarmObject.ask.Goals as goal
 
-pub returns : goal.returns
-returns g c = elim (decided c.args.self.now.records.halted) [
+pub returns-clause-asks : goal.returns-clause-asks
+returns-clause-asks g c = elim (decided c.args.self.now.records.halted) [
   | inl halted ↦
       let old = c.args.self.now in
       let same = c.answer.ensures.halted halted in
