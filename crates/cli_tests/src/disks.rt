@@ -180,9 +180,16 @@ fn a_disk_keeps_what_was_acknowledged(rt: HostRuntime) -> Result<(), Fail> {
 /// An open gate, and a length that the file does not have.
 const DAMAGED: &[u8] = &[0xa5, 0, 0, 0, 9, 1, 2, 3];
 
+/// A whole record of no change, and behind it an open gate, and a length that the file does not have.
+const BROKEN: &[u8] = &[0xa5, 0, 0, 0, 1, 0, 0xa5, 0, 0, 0, 9, 1, 0];
+
 /// The bytes of a disk of this name: it is damaged, or empty.
 pub(crate) fn disk_of(name: &str) -> &'static [u8] {
-    if name == "damaged" { DAMAGED } else { &[] }
+    match name {
+        "damaged" => DAMAGED,
+        "broken" => BROKEN,
+        _ => &[],
+    }
 }
 
 /// The words, the disk, the input, the call of the disk that fails, the status, the output and the notes. The opening of an empty disk is four
@@ -192,7 +199,8 @@ const FAULTS: &str =
 answer farm.toml --disk farm.disk||GET /api/queue/v1/ping HTTP/1.1\r\n\r\n|1|4||*
 answer farm.toml --disk other.disk||GET /api/queue/v1/ping HTTP/1.1\r\n\r\n|1000000|4||the disk failed: other.disk: entity not found\n
 answer farm.toml --disk farm.disk|damaged|GET /api/queue/v1/ping HTTP/1.1\r\n\r\n|1000000|9||the disk is damaged: farm.disk: at byte 0\n
-check farm.toml --disk farm.disk|damaged||1000000|9||*"#;
+check farm.toml --disk farm.disk|damaged||1000000|9||*
+check farm.toml --disk farm.disk|broken||1000000|9||the disk is damaged: farm.disk: at byte 0\n"#;
 
 /// Whether such a row holds.
 fn fault_holds(rt: &(impl Threads + Wait + Sync), alloc: Global, row: &str) -> Result<bool, Fail> {

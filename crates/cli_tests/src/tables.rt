@@ -34,7 +34,7 @@ answer other.toml||GET /api/queue/v1/ping HTTP/1.1\r\n\r\n|-|4||the farm file ca
 answer farm.toml||GET /api/queue/v1/ping HTTP/1.1\r\n\r\n|farm|5||a read failed: the farm file farm.toml\n
 answer farm.toml||GET /api/queue/v1/ping HT|-|8||the input is refused: it ends inside a request\n
 answer farm.toml||nonsense\r\n\r\n|-|8|*|the input is refused: what came is no request\n
-answer farm.toml||POST / HTTP/1.1\r\nTransfer-Encoding: chunked\r\n\r\n|-|8|*|the input is refused: a request has a body without a length\n
+answer farm.toml||POST / HTTP/1.1\r\nTransfer-Encoding: chunked\r\n\r\n|-|8|*|the input is refused: a request has a Transfer-Encoding, where a Content-Length is needed\n
 answer farm.toml||POST / HTTP/1.1\r\nContent-Length: 1048577\r\n\r\n|-|8|*|the input is refused: a request's body has more than 1048576 bytes\n
 expand farm.toml||a\n\nb\r\n|-|3||the input is refused: line 3: it ends with a carriage return, and a scope is printable ASCII\n
 expand farm.toml||a\tb\n|-|3||the input is refused: line 1: a scope is printable ASCII\n
@@ -60,8 +60,13 @@ fn commands_do_what_they_say_or_tell_why_not(rt: HostRuntime) -> Result<(), Fail
         first_other(&rt, rt.alloc(), COMMANDS)?,
         first_other(&rt, rt.alloc(), SIGNED)?,
         first_other(&rt, rt.alloc(), REFUSED)?,
-        first_other(&rt, rt.alloc(), UNTAKEN)?,
     ];
-    assert_eq!(rt; told, ["none"; 4]);
+    assert_eq!(rt; told, ["none"; 3]);
+    Ok(())
+}
+
+#[test]
+fn untaken_words(rt: HostRuntime) -> Result<(), Fail> {
+    assert_eq!(rt; first_other(&rt, rt.alloc(), UNTAKEN)?, "none");
     Ok(())
 }

@@ -17,10 +17,11 @@ use Rattle.farm_machine.specs.Step.{farm_rules}
 use Rattle.farm_server.specs.declared.gate.NoGate.{NoGate}
 use Rattle.farm_serving.specs.Connections.{Station}
 use Rattle.farm_serving.specs.declared.worker.Worker.{Worker}
+use Rattle.farm_cli.specs.declared.lending.Lending.{Lending}
 use Rattle.farm_cli.specs.declared.status.Status.{Status}
 use Rattle.farm_cli.specs.declared.status.Status.TheVariants.{Disk, Door, NoMemory}
 use Rattle.farm_cli.specs.Disks.{DiskHolds, HasFarm, LedOver, over_disk}
-use Rattle.farm_cli.specs.Heard.{workers_of, station_with, station_of, ServesLent, IsUnheard, IsHeard, ServesDoor, ServedOver}
+use Rattle.farm_cli.specs.Heard.{workers_of, station_with, station_of, ServesLent, KeepsTheRest, IsUnheard, IsHeard, ServesDoor, ServedOver}
 use Rattle.farm_cli.specs.House.{CanGive, after_giving, after_return, after_opened, after_closing, Doors, CanListen, after_listened, after_leaving, all_left, Lendings}
 use Rattle.farm_cli.specs.Serves.{IsLed, ServesAll}
 use Rattle.farm_cli.specs.Views.{Views, talk_of}
@@ -51,6 +52,17 @@ ServesLent-from_calls views l0 l1 l2 l3 l4 l5 door console console' clock draws 
   did = did;
 }
 
+-- what none of the calls touches is kept
+pub KeepsTheRest-from_calls : {F S C N T I D : Type 0} (l0 l1 l2 l3 l4 l5 : Lendings F S C N T I D) (console console' : Lending C) (clock clock' : Lending T) (draws draws' : Lending I) (doors : Doors D) (before now : ℕ)
+    → l1 ≡ record l0 { console = console } → l2 ≡ record l1 { clock = clock } → l3 ≡ record l2 { draws = draws } → l4 ≡ record l3 { console = console' }
+    → l5 ≡ record l4 { clock = clock'; draws = draws'; doors = doors } → now ≡ before → KeepsTheRest l0 l5 before now
+KeepsTheRest-from_calls l0 l1 l2 l3 l4 l5 console console' clock clock' draws draws' doors before now e1 e2 e3 e4 e5 kept = record {
+  file = rw (e5, e4, e3, e2, e1) refl;
+  disk = rw (e5, e4, e3, e2, e1) refl;
+  notes = rw (e5, e4, e3, e2, e1) refl;
+  refusals = kept;
+}
+
 -- memory ran out before a door was asked for
 pub ServesDoor-none : {F S C N T I D : Type 0} (views : Views F S C N T I D) (at : Lendings F S C N T I D) (before : ℕ) (service : Service) (state : State) (Held : Opening → List Entry → Type 0) (status : Status)
     → status ≡ NoMemory → ServesDoor views at at before before service state state Held Held status
@@ -75,17 +87,17 @@ ServesDoor-refused views old new before now service state Held status is rose co
 
 -- it opened one
 pub ServesDoor-heard : {F S C N T I D : Type 0} (views : Views F S C N T I D) (old between new : Lendings F S C N T I D) (before middle now : ℕ) (service : Service) (door : D) (workers connections : ℕ) (state end : State) (Held Holds : Opening → List Entry → Type 0) (status said : Status)
-    → CanListen old.doors service.listen (Ok door) → between ≡ record old { doors = after_listened old.doors } → middle ≡ before → now ≡ middle → new.disk ≡ between.disk
+    → CanListen old.doors service.listen (Ok door) → between ≡ record old { doors = after_listened old.doors } → middle ≡ before → KeepsTheRest between new middle now
     → workers ≡ workers_of service → connections ≡ service.connections → said ≡ status
     → ServesLent views between new between.doors door (λ talk talked lent crew. ServesAll workers connections talk talked lent crew state end Held Holds status)
     → ServesDoor views old new before now service state end Held Holds said
-ServesDoor-heard views old between new before middle now service door workers connections state end Held Holds status said could opens kept refusals disk workers_is connections_is said_is lent = record {
-  disk = rw opens at disk;
+ServesDoor-heard views old between new before middle now service door workers connections state end Held Holds status said could opens kept rest workers_is connections_is said_is lent = record {
+  disk = rw opens at rest.disk;
   history = lent.did.history;
   calls = lent.did.calls;
   led = lent.did.led;
   did = inr (record {
-    openings = refusals ∙ kept;
+    openings = rest.refusals ∙ kept;
     door = door;
     could = could;
     lent = record {

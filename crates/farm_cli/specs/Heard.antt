@@ -48,6 +48,13 @@ pub record ServesLent {F S C N T I D : Type 0} (views : Views F S C N T I D) (ol
   pub doors : new.doors ≡ all_left opened (map (λ worker. worker.door) (first ∷ others))
   pub did : Did (talk_of views console_given) (talk_of views console_back) (station_with views clock_given draws_given door) (map (station_of views) (first ∷ others))
 
+-- While workers serve at a door its house keeps the rest: its farm files, its disk and its notes are as they were, and no opening was refused.
+pub record KeepsTheRest {F S C N T I D : Type 0} (old new : Lendings F S C N T I D) (before now : ℕ) : Type 0 where
+  pub file : new.file ≡ old.file
+  pub disk : new.disk ≡ old.disk
+  pub notes : new.notes ≡ old.notes
+  pub refusals : now ≡ before
+
 -- the house gave no door at this address, or memory ran out before it was asked for one; and nothing else was asked for
 pub record IsUnheard {F S C N T I D : Type 0} (old new : Lendings F S C N T I D) (before now : ℕ) (address : List ℕ) (history : List Entry) (status : Status) : Type 0 where
   pub none : history ≡ []

@@ -17,6 +17,8 @@ pub struct Ended {
     pub status: Status,
     /// They go on after the front of the status's line, and may have any bytes. Of refused words of the command line they are all.
     pub words: Option<Text>,
+    /// Whether the reason that the system gave last, if it gave one, is that of this end.
+    pub has_reason: bool,
 }
 
 impl Ended {
@@ -27,6 +29,7 @@ impl Ended {
         Ended {
             status,
             words: None,
+            has_reason: false,
         }
     }
 
@@ -37,6 +40,18 @@ impl Ended {
         Ended {
             status,
             words: copy_of(alloc, words),
+            has_reason: true,
+        }
+    }
+
+    /// The same of an end of which the system tells no reason.
+    pub fn without_reason(alloc: Global, status: Status, words: &str) -> Ended
+        ensures { result.status ≡ status }
+    {
+        Ended {
+            status,
+            words: copy_of(alloc, words),
+            has_reason: false,
         }
     }
 
@@ -47,6 +62,7 @@ impl Ended {
         Ended {
             status: Status::Usage,
             words: Some(text),
+            has_reason: false,
         }
     }
 
@@ -83,12 +99,15 @@ impl Ended {
     }
 
     /// What notes are told, where it is more than the line of the status and there is memory for it. Where the run ended by a refusal of
-    /// the system, the reason that it gave is told, too.
+    /// the system, the reason that it gave for this is told, too.
     pub fn note(&self, alloc: Global, reason: Option<ErrorKind>) -> Option<Text>
         ensures { IfSome result (IsLineOf self.now.status) }
     {
         match &self.words {
-            Some(words) => note_of(alloc, self.status, words.as_str(), reason),
+            Some(words) => {
+                let reason = if self.has_reason { reason } else { None };
+                note_of(alloc, self.status, words.as_str(), reason)
+            }
             None => None,
         }
     }
@@ -109,7 +128,7 @@ impl Ended {
 fn wire_words(wire: Wire) -> &'static str {
     match wire {
         Wire::HeadTooLarge => ": a request's head has more than 16384 bytes",
-        Wire::NoLength => ": a request has a body without a length",
+        Wire::NoLength => ": a request has a Transfer-Encoding, where a Content-Length is needed",
         Wire::BodyTooLarge => ": a request's body has more than 1048576 bytes",
         Wire::EndedInside => ": it ends inside a request",
         Wire::HeadFault | Wire::End | Wire::ReadFault | Wire::NoMemory => {

@@ -1,7 +1,7 @@
 //! `serve`: the farm of a disk is served at a door and its twins.
 ghost use Rattle.std.specs.Prelude.{◌≡◌, ◌<◌, ◌≤◌, ◌*◌, [], vec_capacity};
 ghost use Rattle.farm_server.specs.declared.served.TheConstants.{REQUESTS};
-ghost use Rattle.farm_cli.specs.Heard.{workers_of, ServesLent, ServesDoor, ServedOver};
+ghost use Rattle.farm_cli.specs.Heard.{workers_of, ServesLent, KeepsTheRest, ServesDoor, ServedOver};
 ghost use Rattle.farm_cli.specs.Run.{DidOver};
 ghost use Rattle.farm_cli.specs.Serves.{ServesAll};
 ghost use Rattle.farm_cli.specs.Views.{views_of};
@@ -45,12 +45,8 @@ where
     ensures lent { let views = views_of H.File.Source H.Store.Disk H.Console.Link H.Notes.Sink H.Time.Clock H.Ids.Draws H.Door.Listener in
         ServesLent views (H.lends house.old) (H.lends house.new) (H.lends house.old).doors door (λ before after lent crew.
         ServesAll shifts.workers shifts.connections before after lent crew
-        (⟦<Farm<H::Store> as Object>⟧.state farm) (⟦<Farm<H::Store> as Object>⟧.state result.0)
-        (⟦<Farm<H::Store> as Object>⟧.holds farm) (⟦<Farm<H::Store> as Object>⟧.holds result.0) result.1) }
-    ensures disk { (H.lends house.new).disk ≡ (H.lends house.old).disk }
-    ensures file { (H.lends house.new).file ≡ (H.lends house.old).file }
-    ensures notes { (H.lends house.new).notes ≡ (H.lends house.old).notes }
-    ensures refusals { H.refusals house.new ≡ H.refusals house.old }
+        (⟦<Farm<H::Store> as Object>⟧.state farm) (⟦<Farm<H::Store> as Object>⟧.state result.0) (⟦<Farm<H::Store> as Object>⟧.holds farm) (⟦<Farm<H::Store> as Object>⟧.holds result.0) result.1) }
+    ensures rest { KeepsTheRest (H.lends house.old) (H.lends house.new) (H.refusals house.old) (H.refusals house.new) }
 {
     hooks_cross_threads();
     farms_tables_cross_threads();
@@ -153,7 +149,7 @@ fn after_workers(alloc: Global, status: Status, address: &str) -> Ended
 {
     match status {
         Status::Door => at_door(alloc, address),
-        Status::Read => Ended::told(alloc, Status::Read, ": of a connection"),
+        Status::Read => Ended::without_reason(alloc, Status::Read, ": of a connection"),
         Status::Write => Ended::told(
             alloc,
             Status::Write,
