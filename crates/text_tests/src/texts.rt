@@ -189,11 +189,15 @@ fn what_is_no_moment(rt: HostRuntime) {
 #[test]
 fn the_host_tells(rt: HostRuntime) -> Result<(), Fail> {
     let mut clock = HostClock::new(rt.clone()?);
+    let mut beside = clock.fork()?;
     // 2024-01-01
     assert!(rt; clock.now().millis() > 1_704_067_200_000);
+    assert!(rt; beside.now().millis() > 1_704_067_200_000);
     let mut refused = FaultCount::new();
     let mut draws = HostDraws::new(&rt, &mut refused).map_err(|_| "no random bytes")?;
     assert_ne!(rt; draws.draw(), draws.draw());
     assert_ne!(rt; draws.seed_another().draw(), draws.draw());
+    let mut others = draws.fork()?;
+    assert_ne!(rt; others.draw(), draws.draw());
     Ok(())
 }

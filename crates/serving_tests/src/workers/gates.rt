@@ -98,14 +98,13 @@ fn ask_through_gates<R: Threads + Wait + Sync>(
     Ok((ended.served, came_in_time))
 }
 
+/// The first worker waits for the second, and then the second for the first.
 #[test]
-fn the_first_of_two_workers_waits_for_the_second(rt: HostRuntime) -> Result<(), Fail> {
-    assert_eq!(rt; ask_through_gates(&rt, rt.alloc(), true)?, (2, true));
-    Ok(())
-}
-
-#[test]
-fn the_second_of_two_workers_waits_for_the_first(rt: HostRuntime) -> Result<(), Fail> {
-    assert_eq!(rt; ask_through_gates(&rt, rt.alloc(), false)?, (2, true));
+fn gate_two_workers(rt: HostRuntime) -> Result<(), Fail> {
+    let told = [
+        ask_through_gates(&rt, rt.alloc(), true)?,
+        ask_through_gates(&rt, rt.alloc(), false)?,
+    ];
+    assert_eq!(rt; told, [(2, true); 2]);
     Ok(())
 }
