@@ -4,19 +4,18 @@
     bench/definitions.py       from the top of the repository, with rt on the path
 
 It works on a copy of the repository's crates in a temporary folder, in which it adds a program that is proved and built by `rt run` (some minutes). For each
-input the program reads the same line many times, by serde_json alone (`serde`), as a document (`doc`), and as a definition (`task`); a time is the processor's
-time of the program less that of reading the line once, the least of several runs. It ends with 1 where the worked definition takes more than three times what
-serde_json takes for it, or where twice as much input takes more than three times as long.
+input the program reads the same line several times, by serde_json alone (`serde`), as a document (`doc`), and as a definition (`task`). A cost is the number of
+instructions that `valgrind` counts, less those of reading the line once, so it is the same each time, whatever else the machine does; a processor's time was not.
+It ends with 1 where the worked definition takes more than three times what serde_json takes for it, or where twice as much input takes more than three times as much.
 """
 import json
 import os
-import resource
+import re
 import shutil
 import subprocess
 import sys
 import tempfile
 
-RUNS = 5
 LIMIT = 3.0
 
 PROGRAM = """//! Reads each line's definition, after `serde `, `doc ` or `task `, as often as the last number says.
@@ -101,28 +100,23 @@ def build(copy):
     return os.path.join(crate, "out", "read_costs")
 
 
-def used(program, mode, text, count):
-    """The processor's time of reading a text so often, in seconds."""
-    least = None
-    for _ in range(RUNS):
-        before = resource.getrusage(resource.RUSAGE_CHILDREN)
-        out = subprocess.run([program], input=f"{count}\n{mode} {text}\n", capture_output=True, text=True, check=True).stdout
-        after = resource.getrusage(resource.RUSAGE_CHILDREN)
-        if out != "true\n":
-            sys.exit(f"{mode} of {text[:200]} gives {out!r}")
-        took = after.ru_utime + after.ru_stime - before.ru_utime - before.ru_stime
-        least = took if least is None else min(least, took)
-    return least
+def instructions(program, mode, text, count):
+    """How many instructions the program takes to read a text so often."""
+    words = ["valgrind", "--tool=callgrind", "--callgrind-out-file=/dev/null", program]
+    ended = subprocess.run(words, input=f"{count}\n{mode} {text}\n", capture_output=True, text=True, check=True)
+    if ended.stdout != "true\n":
+        sys.exit(f"{mode} of {text[:200]} gives {ended.stdout!r}")
+    return int(re.search(r"Collected : (\d+)", ended.stderr)[1])
 
 
 def cost(program, mode, text):
-    count = max(20, 20_000_000 // (len(text) + 200))
-    return (used(program, mode, text, count) - used(program, mode, text, 1)) / (count - 1)
+    count = max(2, 20_000 // (len(text) + 200))
+    return (instructions(program, mode, text, count + 1) - instructions(program, mode, text, 1)) / count
 
 
 def row(program, name, text):
     costs = [cost(program, mode, text) for mode in ("serde", "doc", "task")]
-    print("%-44s %8d bytes  serde %10.1f us  doc %10.1f us  task %10.1f us  %5.2f times" % (name, len(text), *(1e6 * c for c in costs), costs[2] / costs[0]), flush=True)
+    print("%-44s %8d bytes  serde %13d  doc %13d  task %13d instructions  %5.2f times" % (name, len(text), *costs, costs[2] / costs[0]), flush=True)
     return costs
 
 
