@@ -5,7 +5,7 @@
 
 Run it at the top of the repository. It spreads the checks as the kit's `rt ci` does: one a processor, as many as memory holds by the kit's own estimate, each
 once the crates below are proved, first those with the longest chain of others behind them; edits where no proof waits for memory. What each check takes is
-TIMES, in minutes of a processor of a slow machine; SLOW (1 if left out) is how slow a machine is beside it: 0.59 for the fastest so far. FREE (23.8
+TIMES, in minutes of a processor of a slow machine; SLOW (1 if left out) is how slow a machine is beside it: 0.53 for the fastest so far. FREE (23.8
 if left out) is the free memory at the start, in GB: so much has a machine of 24 GiB. It proves nothing, and takes a second. What it says is reckoned, not measured.
 """
 import glob
@@ -14,20 +14,20 @@ import importlib.util
 import os
 import sys
 
-# `rattle build` of each library and of each crate's tests, late on 30 November 2026, on a machine of 2.5 GHz (role_expand 5.4): the libraries up to task_defs with
-# little beside them, the others and all tests beside much other work, which makes a minute of a processor longer. A crate that is not here takes a few seconds.
+# `rattle build` of each library and of each crate's tests, in a run from nothing of 82 minutes on 30 November 2026, on a machine of 2.5 GHz (role_expand 6.0) with
+# little else beside it. What the compiler takes is not here. A crate that is not here takes a few seconds.
 TIMES = {
-    "causes": 0.4, "history": 0.2, "scope_sets": 1.4, "jsone_expr": 3.3, "dep_graph": 2.4, "farm_text": 5.7, "role_expand": 5.4, "http_wire": 3.1, "disk_base": 1.8,
-    "disk_journal": 1.3, "route_table": 1.3, "shared_desk": 1.7, "task_groups": 1.7, "slug_places": 0.4, "scope_lines": 0.7, "plain_text": 0.6,
-    "farm_desk": 0.3, "task_defs": 8.6, "hawk_auth": 4.6, "jsone_values": 4.9, "jsone_eval": 2.5, "command_line": 4.9, "claim_queue": 2.7,
-    "run_states": 2.7, "farm_record": 2.7, "call_rules": 2.3, "task_statuses": 1.3, "jsone_render": 11.6, "hook_fire": 2.2, "farm_rows": 14.4,
-    "farm_asks": 5.4, "farm_machine": 10.0, "api_routes": 4.6, "farm_files": 8.0, "farm_core": 4.1, "farm_server": 2.7, "farm_serving": 4.1, "farm_bulk": 3.8,
-    "farm_cli": 10.4, "farm": 0.9,
+    "causes": 0.4, "history": 0.3, "scope_sets": 1.3, "jsone_expr": 3.4, "dep_graph": 2.4, "farm_text": 6.0, "role_expand": 6.0, "http_wire": 3.5,
+    "disk_base": 2.2, "disk_journal": 1.4, "route_table": 1.2, "shared_desk": 1.6, "task_groups": 1.4, "slug_places": 0.3, "scope_lines": 0.5,
+    "plain_text": 0.6, "farm_desk": 0.3, "task_defs": 8.4, "hawk_auth": 4.1, "jsone_values": 4.4, "jsone_eval": 2.8, "command_line": 5.2, "claim_queue": 2.4,
+    "run_states": 2.2, "farm_record": 2.2, "call_rules": 1.6, "task_statuses": 1.1, "jsone_render": 9.1, "hook_fire": 1.4, "farm_rows": 10.5, "farm_asks": 4.0,
+    "farm_machine": 8.5, "api_routes": 3.4, "farm_files": 5.4, "farm_core": 3.0, "farm_server": 2.0, "farm_serving": 2.6, "farm_bulk": 2.9, "farm_cli": 8.4,
+    "farm": 1.2,
 }
 TESTS = {
-    "wire_tests": 3.4, "scope_tests": 3.2, "text_tests": 2.5, "sign_tests": 4.6, "parsing_tests": 1.7, "expression_tests": 5.0, "rendering_tests": 3.1,
-    "queue_tests": 5.5, "task_tests": 8.5, "file_tests": 3.3, "route_tests": 3.0, "machine_tests": 6.5, "disk_tests": 2.9, "farm_disk_tests": 6.0, "desk_tests": 2.0,
-    "server_tests": 9.5, "serving_tests": 6.5, "cli_tests": 11.0, "farm_desk": 0.7, "history": 0.4,
+    "wire_tests": 3.0, "scope_tests": 1.9, "text_tests": 1.7, "sign_tests": 3.2, "parsing_tests": 1.1, "expression_tests": 3.1, "rendering_tests": 1.9,
+    "queue_tests": 4.0, "task_tests": 7.0, "file_tests": 2.7, "route_tests": 2.8, "machine_tests": 5.0, "disk_tests": 1.9, "farm_disk_tests": 4.0,
+    "desk_tests": 1.4, "server_tests": 9.4, "serving_tests": 4.1, "cli_tests": 8.4, "farm_desk": 0.5, "history": 0.4,
 }
 # An edit over what its crate's seed, a proof of the crate, has left.
 EDIT = 0.7
