@@ -57,13 +57,29 @@ pub(crate) fn without_roles(alloc: Global) -> Result<Config, Fail> {
     without_clients(alloc, 1_000_000, roles)
 }
 
+/// A scope of this text.
+fn scope(alloc: Global, text: &str) -> Result<Scope, Fail> {
+    Ok(Scope::new(String::from_str(alloc, text)?).ok_or("a scope")?)
+}
+
+/// Puts scopes of these texts behind others.
+fn put_scopes(alloc: Global, texts: &[&str], scopes: &mut Vec<Scope>) -> Result<(), Fail> {
+    for text in texts {
+        scopes.push(scope(alloc, text)?)?;
+    }
+    Ok(())
+}
+
 /// Scopes of these texts.
 pub(crate) fn scopes(alloc: Global, texts: &[&str]) -> Result<Vec<Scope>, Fail> {
     let mut scopes = Vec::new(alloc);
-    for text in texts {
-        scopes.push(Scope::new(String::from_str(alloc, text)?).ok_or("a scope")?)?;
+    match put_scopes(alloc, texts, &mut scopes) {
+        Ok(()) => Ok(scopes),
+        Err(fail) => {
+            drop(scopes);
+            Err(fail)
+        }
     }
-    Ok(scopes)
 }
 
 /// The role of whoever gives no credentials, with these scopes.

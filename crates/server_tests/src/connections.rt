@@ -138,16 +138,6 @@ fn writes_so(alloc: Global, failing: u64, wanted: &[u8]) -> Result<bool, Fail> {
     ends_so(alloc, &input, Served::WriteFault, wanted)
 }
 
-#[test]
-fn a_failed_write_leaves_a_front(rt: HostRuntime) -> Result<(), Fail> {
-    let told = [
-        writes_so(rt.alloc(), 0, b"")?,
-        writes_so(rt.alloc(), 1, ALIVE)?,
-    ];
-    assert_eq!(rt; told, [true; 2]);
-    Ok(())
-}
-
 /// Whether a ping and a status of which the read of this number fails end so.
 fn reads_so(alloc: Global, failing: u64, wanted: &[u8]) -> Result<bool, Fail> {
     let bytes = both(alloc, PING, STATUS)?;
@@ -159,14 +149,21 @@ fn reads_so(alloc: Global, failing: u64, wanted: &[u8]) -> Result<bool, Fail> {
     ends_so(alloc, &input, Served::ReadFault, wanted)
 }
 
+/// Whether both are answered where the second read fails.
+fn reads_both(alloc: Global) -> Result<bool, Fail> {
+    let replies = both(alloc, ALIVE, NO_TASK)?;
+    reads_so(alloc, 1, &replies)
+}
+
 #[test]
-fn a_failed_read_ends_what_was_answered(rt: HostRuntime) -> Result<(), Fail> {
-    let replies = both(rt.alloc(), ALIVE, NO_TASK)?;
+fn a_failed_call_ends_what_was_answered(rt: HostRuntime) -> Result<(), Fail> {
     let told = [
+        writes_so(rt.alloc(), 0, b"")?,
+        writes_so(rt.alloc(), 1, ALIVE)?,
         reads_so(rt.alloc(), 0, b"")?,
-        reads_so(rt.alloc(), 1, &replies)?,
+        reads_both(rt.alloc())?,
     ];
-    assert_eq!(rt; told, [true; 2]);
+    assert_eq!(rt; told, [true; 4]);
     Ok(())
 }
 
@@ -328,47 +325,47 @@ impl Gate for Notebook {
     }
 }
 
-/// What the gate is told where this input is served.
-fn told_of(alloc: Global, input: &Input) -> Result<Vec<When>, Fail> {
+/// Serves the input over an empty farm, and tells this gate.
+fn serve_past(alloc: Global, input: &Input, gate: &mut Notebook) -> Result<(), Fail> {
     let mut desk = Solo::new(Bare::new(alloc, without_roles(alloc)?));
+    let output = serve_over(alloc, input, &mut desk, gate);
+    drop(desk);
+    drop(output?);
+    Ok(())
+}
+
+/// Whether a gate is told this where two pings are served, of which these writes fail.
+fn gate_is_told(alloc: Global, failing_writes: &[u64], wanted: &[When]) -> Result<bool, Fail> {
+    let bytes = both(alloc, PING, PING)?;
+    let input = Input {
+        bytes: &bytes,
+        failing_reads: &[],
+        failing_writes,
+    };
     let mut gate = Notebook {
         kept: Vec::new(alloc),
         is_lost: false,
     };
-    let output = serve_over(alloc, input, &mut desk, &mut gate);
-    drop(desk);
-    let _ = output?;
-    if gate.is_lost {
-        return Err(Fail::from("memory ran out"));
-    }
-    Ok(gate.kept)
+    let served = serve_past(alloc, &input, &mut gate);
+    let is_so = !gate.is_lost && gate.kept.as_slice() == wanted;
+    drop(gate);
+    served?;
+    Ok(is_so)
 }
 
+/// It is not told of a reply whose write failed.
 #[test]
 fn the_gate_is_told_of_each_ask_and_reply(rt: HostRuntime) -> Result<(), Fail> {
-    let alloc = rt.alloc();
-    let pings = both(alloc, PING, PING)?;
-    let told = told_of(alloc, &Input::of(&pings))?;
-    let wanted = [
+    let all = [
         When::Asked(0),
         When::Answered(0),
         When::Asked(1),
         When::Answered(1),
     ];
-    assert_eq!(rt; told.as_slice(), wanted.as_slice());
-    Ok(())
-}
-
-#[test]
-fn the_gate_is_not_told_of_a_reply_that_failed(rt: HostRuntime) -> Result<(), Fail> {
-    let alloc = rt.alloc();
-    let pings = both(alloc, PING, PING)?;
-    let input = Input {
-        bytes: &pings,
-        failing_reads: &[],
-        failing_writes: &[0],
-    };
-    let told = told_of(alloc, &input)?;
-    assert_eq!(rt; told.as_slice(), [When::Asked(0)].as_slice());
+    let told = [
+        gate_is_told(rt.alloc(), &[], &all)?,
+        gate_is_told(rt.alloc(), &[0], &[When::Asked(0)])?,
+    ];
+    assert_eq!(rt; told, [true; 2]);
     Ok(())
 }

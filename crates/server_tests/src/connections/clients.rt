@@ -1,8 +1,8 @@
 //! Calls that clients sign, over connections in memory. The MACs and the hash were made by Python's hmac and hashlib.
 //!
 //! A line begins with the client's id, the attributes of the header that may be left out, and the MAC; the rest of it is a row.
-use super::rows::{Row, body_of, moment_of, row_of, wanted};
-use super::tasks::{CREATED, THREE_SCOPES, written_at};
+use super::rows::{Row, body_of, replies, row_of};
+use super::tasks::{CREATED, THREE_SCOPES};
 use super::*;
 use crate::configs::{granted, of_parts, scopes};
 use farm_text::Text;
@@ -109,11 +109,8 @@ fn farm(alloc: Global) -> Result<Solo<Bare>, Fail> {
 /// Whether a desk gives the reply of a line to its call.
 fn is_answered(alloc: Global, desk: &mut Solo<Bare>, line: &str) -> Result<bool, Fail> {
     let (by, row) = signed(line).ok_or("a row")?;
-    let at = moment_of(&row).ok_or("a moment")?;
     let request = request_of(alloc, &by, &row)?;
-    let written = written_at(alloc, desk, request.as_str().as_bytes(), at)?;
-    let wanted = wanted(alloc, &row)?;
-    Ok(written.as_slice() == wanted.as_str().as_bytes())
+    replies(alloc, desk, &row, request.as_str())
 }
 
 /// The first line that a desk answers otherwise, or `none`.
@@ -151,12 +148,6 @@ limited||MiMK5w0yxc5JmrQZNMwVTN9Ag9h+ltyrchYGizZ1MxA=|900999|GET /api/queue/v1/p
 limited||MiMK5w0yxc5JmrQZNMwVTN9Ag9h+ltyrchYGizZ1MxA=|901000|GET /api/queue/v1/ping||401 Unauthorized|{"code":"AuthenticationFailed","details":{"now":1704068101,"reason":"Skew","ts":1704067200},"message":"the caller is not who it says"}
 limited||MiMK5w0yxc5JmrQZNMwVTN9Ag9h+ltyrchYGizZ1MxA=|0|GET /api/queue/v1/ping||401 Unauthorized|{"code":"AuthenticationFailed","details":{"now":1704068101,"reason":"Skew","ts":1704067200},"message":"the caller is not who it says"}"#;
 
-#[test]
-fn clients_are_let_in_by_their_signatures(rt: HostRuntime) -> Result<(), Fail> {
-    assert_eq!(rt; first_other(rt.alloc(), LET_IN)?, "none");
-    Ok(())
-}
-
 /// A client that nobody knows, one that is disabled, one that is over, a MAC of another call, an ext that is no JSON in base64, and one that
 /// asks for all scopes: `{"authorizedScopes":["*"]}`.
 const REFUSED: &str =
@@ -168,7 +159,13 @@ limited|, ext="some-app-ext-data"|ZtLk8cG8z3r5Ne5FgR58ikk8grxxfKUyZL0XYC1paDk=|0
 limited|, ext="eyJhdXRob3JpemVkU2NvcGVzIjpbIioiXX0="|oo5G0ru6JYtmVZ1s0ikUysreEC9x4tgk/4wsaYjpm8Y=|0|GET /api/queue/v1/ping||401 Unauthorized|{"code":"AuthenticationFailed","details":{"missing":{"AllOf":["*"]},"reason":"Oversteps"},"message":"the caller is not who it says"}"#;
 
 #[test]
-fn clients_are_refused_for_a_reason(rt: HostRuntime) -> Result<(), Fail> {
-    assert_eq!(rt; first_other(rt.alloc(), REFUSED)?, "none");
+fn clients_are_let_in_by_their_signatures_or_refused_for_a_reason(
+    rt: HostRuntime,
+) -> Result<(), Fail> {
+    let told = [
+        first_other(rt.alloc(), LET_IN)?,
+        first_other(rt.alloc(), REFUSED)?,
+    ];
+    assert_eq!(rt; told, ["none"; 2]);
     Ok(())
 }

@@ -21,12 +21,6 @@ const GROUP: &str =
 0|GET /api/queue/v1/task-group/AAAAAAAAQACAAAAAAAAAAA/list?limit=1001||400 Bad Request|{"code":"InputError","details":{"name":"limit","rule":22},"message":"the request breaks a rule"}
 0|GET /api/queue/v1/task-group/AAAAAAAAQACAAAAAAAAAAA/list?limit=1&limit=1||400 Bad Request|{"code":"InputError","details":{"name":"limit","rule":22},"message":"the request breaks a rule"}"#;
 
-#[test]
-fn a_group_is_told_page_by_page(rt: HostRuntime) -> Result<(), Fail> {
-    assert_eq!(rt; first_otherwise(rt.alloc(), GROUP)?, "none");
-    Ok(())
-}
-
 /// Two tasks that wait for one, of which one waits for itself too.
 const DEPENDANTS: &str =
     r#"0|GET /api/queue/v1/task/AAAAAAAAQACAAAAAAAAAAA/dependents||404 Not Found|{"code":"ResourceNotFound","details":{"kind":"task","name":"AAAAAAAAQACAAAAAAAAAAA"},"message":"nothing has that name"}
@@ -40,12 +34,6 @@ const DEPENDANTS: &str =
 0|GET /api/queue/v1/task/AAAAAAAAQACAAAAAAAAAAg/dependents||200 OK|{"taskId":"AAAAAAAAQACAAAAAAAAAAg","tasks":[{"status":{"deadline":"2024-01-02T00:00:00.000Z","expires":"2025-01-01T00:00:00.000Z","projectId":"none","provisionerId":"prov","retriesLeft":5,"runs":[],"schedulerId":"-","state":"unscheduled","taskGroupId":"AAAAAAAAQACAAAAAAAAAAg","taskId":"AAAAAAAAQACAAAAAAAAAAg","taskQueueId":"prov/wt","workerType":"wt"},"task":{"created":"2024-01-01T00:00:00.000Z","deadline":"2024-01-02T00:00:00.000Z","dependencies":["AAAAAAAAQACAAAAAAAAAAA","AAAAAAAAQACAAAAAAAAAAg"],"expires":"2025-01-01T00:00:00.000Z","extra":{},"metadata":{"description":"d","name":"n","owner":"o@example.com","source":"https://example.com/"},"payload":{},"priority":"lowest","projectId":"none","provisionerId":"prov","requires":"all-completed","retries":5,"routes":[],"schedulerId":"-","scopes":[],"tags":{},"taskGroupId":"AAAAAAAAQACAAAAAAAAAAg","taskQueueId":"prov/wt","workerType":"wt"}}]}
 0|GET /api/queue/v1/task/AAAAAAAAQACAAAAAAAAAAQ/dependents?continuationToken=AAAAAAAAQACAAAAAAAAAAg||400 Bad Request|{"code":"InputError","details":{"name":"continuationToken","rule":22},"message":"the request breaks a rule"}
 0|GET /api/queue/v1/task/AAAAAAAAQACAAAAAAAAAAA/dependents?continuationToken=||400 Bad Request|{"code":"InputError","details":{"name":"continuationToken","rule":22},"message":"the request breaks a rule"}"#;
-
-#[test]
-fn who_waits_for_a_task_is_told(rt: HostRuntime) -> Result<(), Fail> {
-    assert_eq!(rt; first_otherwise(rt.alloc(), DEPENDANTS)?, "none");
-    Ok(())
-}
 
 /// How many tasks wait in a queue, and a task as it was made.
 const PENDING: &str =
@@ -62,12 +50,6 @@ const PENDING: &str =
 1000|GET /api/queue/v1/task/AAAAAAAAQACAAAAAAAAAAw||404 Not Found|{"code":"ResourceNotFound","details":{"kind":"task","name":"AAAAAAAAQACAAAAAAAAAAw"},"message":"nothing has that name"}
 1000|GET /api/queue/v1/pending/prov||400 Bad Request|{"code":"InputError","details":{"name":"queue","rule":22},"message":"the request breaks a rule"}"#;
 
-#[test]
-fn what_waits_in_a_queue_is_counted(rt: HostRuntime) -> Result<(), Fail> {
-    assert_eq!(rt; first_otherwise(rt.alloc(), PENDING)?, "none");
-    Ok(())
-}
-
 /// Whoever may only make tasks: a token is judged first, then what is there, and then the scopes.
 const DENIED: &str =
     r#"0|PUT /api/queue/v1/task/AAAAAAAAQACAAAAAAAAAAA|{"created":"2024-01-01T00:00:00.000Z","deadline":"2024-01-02T00:00:00.000Z","metadata":{"description":"d","name":"n","owner":"o@example.com","source":"https://example.com/"},"payload":{},"taskQueueId":"prov/wt"}|200 OK|{"status":{"deadline":"2024-01-02T00:00:00.000Z","expires":"2025-01-01T00:00:00.000Z","projectId":"none","provisionerId":"prov","retriesLeft":5,"runs":[{"reasonCreated":"scheduled","runId":0,"scheduled":"2024-01-01T00:00:00.000Z","state":"pending"}],"schedulerId":"-","state":"pending","taskGroupId":"AAAAAAAAQACAAAAAAAAAAA","taskId":"AAAAAAAAQACAAAAAAAAAAA","taskQueueId":"prov/wt","workerType":"wt"}}
@@ -79,11 +61,15 @@ const DENIED: &str =
 0|GET /api/queue/v1/pending/prov%2Fwt||403 Forbidden|{"code":"InsufficientScopes","details":{"missing":"queue:pending-count:prov/wt"},"message":"scopes are missing"}"#;
 
 #[test]
-fn who_may_make_tasks_may_not_list_them(rt: HostRuntime) -> Result<(), Fail> {
+fn lists_are_told(rt: HostRuntime) -> Result<(), Fail> {
+    let alloc = rt.alloc();
     let scopes = ["queue:create-task:*", "queue:scheduler-id:*"];
-    assert_eq!(rt;
-        first_other_at(rt.alloc(), scopes.as_slice(), 1_000_000, DENIED)?,
-        "none"
-    );
+    let told = [
+        first_otherwise(alloc, GROUP)?,
+        first_otherwise(alloc, DEPENDANTS)?,
+        first_otherwise(alloc, PENDING)?,
+        first_other_at(alloc, scopes.as_slice(), 1_000_000, DENIED)?,
+    ];
+    assert_eq!(rt; told, ["none"; 4]);
     Ok(())
 }

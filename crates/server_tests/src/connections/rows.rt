@@ -35,7 +35,7 @@ pub(super) fn row_of(line: &str) -> Option<Row<'_>> {
 }
 
 /// When the request of a row comes.
-pub(super) fn moment_of(row: &Row) -> Option<Moment> {
+fn moment_of(row: &Row) -> Option<Moment> {
     let millis = match row.at.split_once('=') {
         Some((_, millis)) => millis.parse().ok()?,
         None => CREATED.checked_add(row.at.parse().ok()?)?,
@@ -57,7 +57,7 @@ pub(super) fn body_of(alloc: Global, row: &Row) -> Result<String, AllocError> {
 }
 
 /// The bytes of a row's reply.
-pub(super) fn wanted(alloc: Global, row: &Row) -> Result<String, AllocError> {
+fn wanted(alloc: Global, row: &Row) -> Result<String, AllocError> {
     let body = with(alloc, row.reply, STATUS)?;
     reply_text(alloc, row.status, body.as_str())
 }
@@ -70,20 +70,13 @@ pub(super) fn reply_text(alloc: Global, status: &str, body: &str) -> Result<Stri
     )
 }
 
-/// What a desk writes to a request that comes at this moment.
-fn asked_at(
-    alloc: Global,
-    desk: &mut Solo<Bare>,
-    at: Moment,
-    request: &str,
-    body: &str,
-) -> Result<Vec<u8>, Fail> {
+/// The bytes of a request.
+fn bytes_of(alloc: Global, request: &str, body: &str) -> Result<String, AllocError> {
     let length = body.len();
-    let bytes = format!(in alloc; "{request} HTTP/1.1\r\nContent-Length: {length}\r\n\r\n{body}")?;
-    written_at(alloc, desk, bytes.as_str().as_bytes(), at)
+    format!(in alloc; "{request} HTTP/1.1\r\nContent-Length: {length}\r\n\r\n{body}")
 }
 
-/// The same at the first task's creation.
+/// What a desk writes to a request that comes at the first task's creation.
 pub(super) fn asked(
     alloc: Global,
     desk: &mut Solo<Bare>,
@@ -91,16 +84,38 @@ pub(super) fn asked(
     body: &str,
 ) -> Result<Vec<u8>, Fail> {
     let at = Moment::from_millis(CREATED).ok_or("a moment")?;
-    asked_at(alloc, desk, at, request, body)
+    let bytes = bytes_of(alloc, request, body)?;
+    written_at(alloc, desk, bytes.as_str().as_bytes(), at)
+}
+
+/// Whether these bytes are those of a row's reply.
+fn is_reply(alloc: Global, row: &Row, written: &[u8]) -> Result<bool, AllocError> {
+    let wanted = wanted(alloc, row)?;
+    Ok(written == wanted.as_str().as_bytes())
+}
+
+/// Whether a desk gives the reply of a row to this request.
+pub(super) fn replies(
+    alloc: Global,
+    desk: &mut Solo<Bare>,
+    row: &Row,
+    request: &str,
+) -> Result<bool, Fail> {
+    let at = moment_of(row).ok_or("a moment")?;
+    let written = written_at(alloc, desk, request.as_bytes(), at)?;
+    Ok(is_reply(alloc, row, &written)?)
+}
+
+/// The bytes of a row's request.
+fn request_of(alloc: Global, row: &Row) -> Result<String, AllocError> {
+    let body = body_of(alloc, row)?;
+    bytes_of(alloc, row.request, body.as_str())
 }
 
 /// Whether a desk gives the reply of a row to its request.
 fn is_answered(alloc: Global, desk: &mut Solo<Bare>, row: &Row) -> Result<bool, Fail> {
-    let at = moment_of(row).ok_or("a moment")?;
-    let body = body_of(alloc, row)?;
-    let written = asked_at(alloc, desk, at, row.request, body.as_str())?;
-    let wanted = wanted(alloc, row)?;
-    Ok(written.as_slice() == wanted.as_str().as_bytes())
+    let request = request_of(alloc, row)?;
+    replies(alloc, desk, row, request.as_str())
 }
 
 /// The first line of a conversation that is answered otherwise, or `none`.

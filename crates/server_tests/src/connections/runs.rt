@@ -9,12 +9,6 @@ const AGAIN: &str =
 10000|POST /api/queue/v1/claim-work/prov%2Fwt|{"workerGroup":"g","workerId":"w"}|200 OK|{"tasks":[{"runId":0,"status":{"deadline":"2024-01-02T00:00:00.000Z","expires":"2025-01-01T00:00:00.000Z","projectId":"none","provisionerId":"prov","retriesLeft":5,"runs":[{"reasonCreated":"scheduled","runId":0,"scheduled":"2024-01-01T00:00:00.000Z","started":"2024-01-01T00:00:10.000Z","state":"running","takenUntil":"2024-01-01T00:20:10.000Z","workerGroup":"g","workerId":"w"}],"schedulerId":"-","state":"running","taskGroupId":"AAAAAAAAQACAAAAAAAAAAA","taskId":"AAAAAAAAQACAAAAAAAAAAA","taskQueueId":"prov/wt","workerType":"wt"},"takenUntil":"2024-01-01T00:20:10.000Z","task":{"created":"2024-01-01T00:00:00.000Z","deadline":"2024-01-02T00:00:00.000Z","dependencies":[],"expires":"2025-01-01T00:00:00.000Z","extra":{},"metadata":{"description":"d","name":"n","owner":"o@example.com","source":"https://example.com/"},"payload":{},"priority":"lowest","projectId":"none","provisionerId":"prov","requires":"all-completed","retries":5,"routes":[],"schedulerId":"-","scopes":[],"tags":{},"taskGroupId":"AAAAAAAAQACAAAAAAAAAAA","taskQueueId":"prov/wt","workerType":"wt"},"workerGroup":"g","workerId":"w"}]}
 11000|PUT /api/queue/v1/task/AAAAAAAAQACAAAAAAAAAAA|{"created":"2024-01-01T00:00:00.000Z","deadline":"2024-01-02T00:00:00.000Z","metadata":{"description":"d","name":"n","owner":"o@example.com","source":"https://example.com/"},"payload":{},"taskQueueId":"prov/wt"}|200 OK|{"status":{"deadline":"2024-01-02T00:00:00.000Z","expires":"2025-01-01T00:00:00.000Z","projectId":"none","provisionerId":"prov","retriesLeft":5,"runs":[{"reasonCreated":"scheduled","runId":0,"scheduled":"2024-01-01T00:00:00.000Z","started":"2024-01-01T00:00:10.000Z","state":"running","takenUntil":"2024-01-01T00:20:10.000Z","workerGroup":"g","workerId":"w"}],"schedulerId":"-","state":"running","taskGroupId":"AAAAAAAAQACAAAAAAAAAAA","taskId":"AAAAAAAAQACAAAAAAAAAAA","taskQueueId":"prov/wt","workerType":"wt"}}"#;
 
-#[test]
-fn a_task_that_runs_is_made_again(rt: HostRuntime) -> Result<(), Fail> {
-    assert_eq!(rt; first_otherwise(rt.alloc(), AGAIN)?, "none");
-    Ok(())
-}
-
 /// A claim is kept and lapses at its end; then the clock goes back.
 const LAPSE: &str =
     r#"0|PUT /api/queue/v1/task/AAAAAAAAQACAAAAAAAAAAA|{"created":"2024-01-01T00:00:00.000Z","deadline":"2024-01-02T00:00:00.000Z","metadata":{"description":"d","name":"n","owner":"o@example.com","source":"https://example.com/"},"payload":{},"taskQueueId":"prov/wt"}|200 OK|{"status":{"deadline":"2024-01-02T00:00:00.000Z","expires":"2025-01-01T00:00:00.000Z","projectId":"none","provisionerId":"prov","retriesLeft":5,"runs":[{"reasonCreated":"scheduled","runId":0,"scheduled":"2024-01-01T00:00:00.000Z","state":"pending"}],"schedulerId":"-","state":"pending","taskGroupId":"AAAAAAAAQACAAAAAAAAAAA","taskId":"AAAAAAAAQACAAAAAAAAAAA","taskQueueId":"prov/wt","workerType":"wt"}}
@@ -23,35 +17,17 @@ const LAPSE: &str =
 2409999|POST /api/queue/v1/task/AAAAAAAAQACAAAAAAAAAAA/runs/0/completed||409 Conflict|{"code":"RequestConflict","details":{"rule":3,"status":{"deadline":"2024-01-02T00:00:00.000Z","expires":"2025-01-01T00:00:00.000Z","projectId":"none","provisionerId":"prov","retriesLeft":4,"runs":[{"reasonCreated":"scheduled","reasonResolved":"claim-expired","resolved":"2024-01-01T00:40:09.999Z","runId":0,"scheduled":"2024-01-01T00:00:00.000Z","started":"2024-01-01T00:00:10.000Z","state":"exception","takenUntil":"2024-01-01T00:40:09.999Z","workerGroup":"g","workerId":"w"},{"reasonCreated":"retry","runId":1,"scheduled":"2024-01-01T00:40:09.999Z","state":"pending"}],"schedulerId":"-","state":"pending","taskGroupId":"AAAAAAAAQACAAAAAAAAAAA","taskId":"AAAAAAAAQACAAAAAAAAAAA","taskQueueId":"prov/wt","workerType":"wt"}},"message":"the state forbids it"}
 0|GET /api/queue/v1/task/AAAAAAAAQACAAAAAAAAAAA/status||200 OK|{"status":{"deadline":"2024-01-02T00:00:00.000Z","expires":"2025-01-01T00:00:00.000Z","projectId":"none","provisionerId":"prov","retriesLeft":4,"runs":[{"reasonCreated":"scheduled","reasonResolved":"claim-expired","resolved":"2024-01-01T00:40:09.999Z","runId":0,"scheduled":"2024-01-01T00:00:00.000Z","started":"2024-01-01T00:00:10.000Z","state":"exception","takenUntil":"2024-01-01T00:40:09.999Z","workerGroup":"g","workerId":"w"},{"reasonCreated":"retry","runId":1,"scheduled":"2024-01-01T00:40:09.999Z","state":"pending"}],"schedulerId":"-","state":"pending","taskGroupId":"AAAAAAAAQACAAAAAAAAAAA","taskId":"AAAAAAAAQACAAAAAAAAAAA","taskQueueId":"prov/wt","workerType":"wt"}}"#;
 
-#[test]
-fn a_claim_lapses_at_its_end(rt: HostRuntime) -> Result<(), Fail> {
-    assert_eq!(rt; first_otherwise(rt.alloc(), LAPSE)?, "none");
-    Ok(())
-}
-
 /// A claim lapses, and no retry is left.
 const LAST: &str =
     r#"0|PUT /api/queue/v1/task/AAAAAAAAQACAAAAAAAAAAA|{"created":"2024-01-01T00:00:00.000Z","deadline":"2024-01-02T00:00:00.000Z","metadata":{"description":"d","name":"n","owner":"o@example.com","source":"https://example.com/"},"payload":{},"retries":0,"taskQueueId":"prov/wt"}|200 OK|{"status":{"deadline":"2024-01-02T00:00:00.000Z","expires":"2025-01-01T00:00:00.000Z","projectId":"none","provisionerId":"prov","retriesLeft":0,"runs":[{"reasonCreated":"scheduled","runId":0,"scheduled":"2024-01-01T00:00:00.000Z","state":"pending"}],"schedulerId":"-","state":"pending","taskGroupId":"AAAAAAAAQACAAAAAAAAAAA","taskId":"AAAAAAAAQACAAAAAAAAAAA","taskQueueId":"prov/wt","workerType":"wt"}}
 10000|POST /api/queue/v1/claim-work/prov%2Fwt|{"workerGroup":"g","workerId":"w"}|200 OK|{"tasks":[{"runId":0,"status":{"deadline":"2024-01-02T00:00:00.000Z","expires":"2025-01-01T00:00:00.000Z","projectId":"none","provisionerId":"prov","retriesLeft":0,"runs":[{"reasonCreated":"scheduled","runId":0,"scheduled":"2024-01-01T00:00:00.000Z","started":"2024-01-01T00:00:10.000Z","state":"running","takenUntil":"2024-01-01T00:20:10.000Z","workerGroup":"g","workerId":"w"}],"schedulerId":"-","state":"running","taskGroupId":"AAAAAAAAQACAAAAAAAAAAA","taskId":"AAAAAAAAQACAAAAAAAAAAA","taskQueueId":"prov/wt","workerType":"wt"},"takenUntil":"2024-01-01T00:20:10.000Z","task":{"created":"2024-01-01T00:00:00.000Z","deadline":"2024-01-02T00:00:00.000Z","dependencies":[],"expires":"2025-01-01T00:00:00.000Z","extra":{},"metadata":{"description":"d","name":"n","owner":"o@example.com","source":"https://example.com/"},"payload":{},"priority":"lowest","projectId":"none","provisionerId":"prov","requires":"all-completed","retries":0,"routes":[],"schedulerId":"-","scopes":[],"tags":{},"taskGroupId":"AAAAAAAAQACAAAAAAAAAAA","taskQueueId":"prov/wt","workerType":"wt"},"workerGroup":"g","workerId":"w"}]}
 1210000|GET /api/queue/v1/task/AAAAAAAAQACAAAAAAAAAAA/status||200 OK|{"status":{"deadline":"2024-01-02T00:00:00.000Z","expires":"2025-01-01T00:00:00.000Z","projectId":"none","provisionerId":"prov","retriesLeft":0,"runs":[{"reasonCreated":"scheduled","reasonResolved":"claim-expired","resolved":"2024-01-01T00:20:10.000Z","runId":0,"scheduled":"2024-01-01T00:00:00.000Z","started":"2024-01-01T00:00:10.000Z","state":"exception","takenUntil":"2024-01-01T00:20:10.000Z","workerGroup":"g","workerId":"w"}],"schedulerId":"-","state":"exception","taskGroupId":"AAAAAAAAQACAAAAAAAAAAA","taskId":"AAAAAAAAQACAAAAAAAAAAA","taskQueueId":"prov/wt","workerType":"wt"}}"#;
 
-#[test]
-fn without_retries_a_lapsed_claim_ends_the_task(rt: HostRuntime) -> Result<(), Fail> {
-    assert_eq!(rt; first_otherwise(rt.alloc(), LAST)?, "none");
-    Ok(())
-}
-
 /// A claim and the deadline end together.
 const DEADLINE_FIRST: &str =
     r#"0|PUT /api/queue/v1/task/AAAAAAAAQACAAAAAAAAAAA|{"created":"2024-01-01T00:00:00.000Z","deadline":"2024-01-01T00:20:10.000Z","metadata":{"description":"d","name":"n","owner":"o@example.com","source":"https://example.com/"},"payload":{},"taskQueueId":"prov/wt"}|200 OK|{"status":{"deadline":"2024-01-01T00:20:10.000Z","expires":"2024-12-31T00:20:10.000Z","projectId":"none","provisionerId":"prov","retriesLeft":5,"runs":[{"reasonCreated":"scheduled","runId":0,"scheduled":"2024-01-01T00:00:00.000Z","state":"pending"}],"schedulerId":"-","state":"pending","taskGroupId":"AAAAAAAAQACAAAAAAAAAAA","taskId":"AAAAAAAAQACAAAAAAAAAAA","taskQueueId":"prov/wt","workerType":"wt"}}
 10000|POST /api/queue/v1/claim-work/prov%2Fwt|{"workerGroup":"g","workerId":"w"}|200 OK|{"tasks":[{"runId":0,"status":{"deadline":"2024-01-01T00:20:10.000Z","expires":"2024-12-31T00:20:10.000Z","projectId":"none","provisionerId":"prov","retriesLeft":5,"runs":[{"reasonCreated":"scheduled","runId":0,"scheduled":"2024-01-01T00:00:00.000Z","started":"2024-01-01T00:00:10.000Z","state":"running","takenUntil":"2024-01-01T00:20:10.000Z","workerGroup":"g","workerId":"w"}],"schedulerId":"-","state":"running","taskGroupId":"AAAAAAAAQACAAAAAAAAAAA","taskId":"AAAAAAAAQACAAAAAAAAAAA","taskQueueId":"prov/wt","workerType":"wt"},"takenUntil":"2024-01-01T00:20:10.000Z","task":{"created":"2024-01-01T00:00:00.000Z","deadline":"2024-01-01T00:20:10.000Z","dependencies":[],"expires":"2024-12-31T00:20:10.000Z","extra":{},"metadata":{"description":"d","name":"n","owner":"o@example.com","source":"https://example.com/"},"payload":{},"priority":"lowest","projectId":"none","provisionerId":"prov","requires":"all-completed","retries":5,"routes":[],"schedulerId":"-","scopes":[],"tags":{},"taskGroupId":"AAAAAAAAQACAAAAAAAAAAA","taskQueueId":"prov/wt","workerType":"wt"},"workerGroup":"g","workerId":"w"}]}
 1210000|GET /api/queue/v1/task/AAAAAAAAQACAAAAAAAAAAA/status||200 OK|{"status":{"deadline":"2024-01-01T00:20:10.000Z","expires":"2024-12-31T00:20:10.000Z","projectId":"none","provisionerId":"prov","retriesLeft":5,"runs":[{"reasonCreated":"scheduled","reasonResolved":"deadline-exceeded","resolved":"2024-01-01T00:20:10.000Z","runId":0,"scheduled":"2024-01-01T00:00:00.000Z","started":"2024-01-01T00:00:10.000Z","state":"exception","takenUntil":"2024-01-01T00:20:10.000Z","workerGroup":"g","workerId":"w"}],"schedulerId":"-","state":"exception","taskGroupId":"AAAAAAAAQACAAAAAAAAAAA","taskId":"AAAAAAAAQACAAAAAAAAAAA","taskQueueId":"prov/wt","workerType":"wt"}}"#;
-
-#[test]
-fn a_deadline_comes_before_a_claim(rt: HostRuntime) -> Result<(), Fail> {
-    assert_eq!(rt; first_otherwise(rt.alloc(), DEADLINE_FIRST)?, "none");
-    Ok(())
-}
 
 /// A task has one retry, and fails twice so that it may be run again.
 const RETRY: &str =
@@ -60,12 +36,6 @@ const RETRY: &str =
 11000|POST /api/queue/v1/task/AAAAAAAAQACAAAAAAAAAAA/runs/0/exception|{"reason":"intermittent-task"}|200 OK|{"status":{"deadline":"2024-01-02T00:00:00.000Z","expires":"2025-01-01T00:00:00.000Z","projectId":"none","provisionerId":"prov","retriesLeft":0,"runs":[{"reasonCreated":"scheduled","reasonResolved":"intermittent-task","resolved":"2024-01-01T00:00:11.000Z","runId":0,"scheduled":"2024-01-01T00:00:00.000Z","started":"2024-01-01T00:00:10.000Z","state":"exception","takenUntil":"2024-01-01T00:20:10.000Z","workerGroup":"g","workerId":"w"},{"reasonCreated":"task-retry","runId":1,"scheduled":"2024-01-01T00:00:11.000Z","state":"pending"}],"schedulerId":"-","state":"pending","taskGroupId":"AAAAAAAAQACAAAAAAAAAAA","taskId":"AAAAAAAAQACAAAAAAAAAAA","taskQueueId":"prov/wt","workerType":"wt"}}
 12000|POST /api/queue/v1/claim-work/prov%2Fwt|{"workerGroup":"g","workerId":"w"}|200 OK|{"tasks":[{"runId":1,"status":{"deadline":"2024-01-02T00:00:00.000Z","expires":"2025-01-01T00:00:00.000Z","projectId":"none","provisionerId":"prov","retriesLeft":0,"runs":[{"reasonCreated":"scheduled","reasonResolved":"intermittent-task","resolved":"2024-01-01T00:00:11.000Z","runId":0,"scheduled":"2024-01-01T00:00:00.000Z","started":"2024-01-01T00:00:10.000Z","state":"exception","takenUntil":"2024-01-01T00:20:10.000Z","workerGroup":"g","workerId":"w"},{"reasonCreated":"task-retry","runId":1,"scheduled":"2024-01-01T00:00:11.000Z","started":"2024-01-01T00:00:12.000Z","state":"running","takenUntil":"2024-01-01T00:20:12.000Z","workerGroup":"g","workerId":"w"}],"schedulerId":"-","state":"running","taskGroupId":"AAAAAAAAQACAAAAAAAAAAA","taskId":"AAAAAAAAQACAAAAAAAAAAA","taskQueueId":"prov/wt","workerType":"wt"},"takenUntil":"2024-01-01T00:20:12.000Z","task":{"created":"2024-01-01T00:00:00.000Z","deadline":"2024-01-02T00:00:00.000Z","dependencies":[],"expires":"2025-01-01T00:00:00.000Z","extra":{},"metadata":{"description":"d","name":"n","owner":"o@example.com","source":"https://example.com/"},"payload":{},"priority":"lowest","projectId":"none","provisionerId":"prov","requires":"all-completed","retries":1,"routes":[],"schedulerId":"-","scopes":[],"tags":{},"taskGroupId":"AAAAAAAAQACAAAAAAAAAAA","taskQueueId":"prov/wt","workerType":"wt"},"workerGroup":"g","workerId":"w"}]}
 13000|POST /api/queue/v1/task/AAAAAAAAQACAAAAAAAAAAA/runs/1/exception|{"reason":"intermittent-task"}|200 OK|{"status":{"deadline":"2024-01-02T00:00:00.000Z","expires":"2025-01-01T00:00:00.000Z","projectId":"none","provisionerId":"prov","retriesLeft":0,"runs":[{"reasonCreated":"scheduled","reasonResolved":"intermittent-task","resolved":"2024-01-01T00:00:11.000Z","runId":0,"scheduled":"2024-01-01T00:00:00.000Z","started":"2024-01-01T00:00:10.000Z","state":"exception","takenUntil":"2024-01-01T00:20:10.000Z","workerGroup":"g","workerId":"w"},{"reasonCreated":"task-retry","reasonResolved":"intermittent-task","resolved":"2024-01-01T00:00:13.000Z","runId":1,"scheduled":"2024-01-01T00:00:11.000Z","started":"2024-01-01T00:00:12.000Z","state":"exception","takenUntil":"2024-01-01T00:20:12.000Z","workerGroup":"g","workerId":"w"}],"schedulerId":"-","state":"exception","taskGroupId":"AAAAAAAAQACAAAAAAAAAAA","taskId":"AAAAAAAAQACAAAAAAAAAAA","taskQueueId":"prov/wt","workerType":"wt"}}"#;
-
-#[test]
-fn an_intermittent_fault_is_retried_once(rt: HostRuntime) -> Result<(), Fail> {
-    assert_eq!(rt; first_otherwise(rt.alloc(), RETRY)?, "none");
-    Ok(())
-}
 
 /// A task without retries.
 const ONCE: &str =
@@ -160,27 +130,50 @@ fn after_fifty(alloc: Global, request: &str) -> Result<Vec<u8>, Fail> {
     written
 }
 
-#[test]
-fn a_task_runs_fifty_times_at_most(rt: HostRuntime) -> Result<(), Fail> {
-    let alloc = rt.alloc();
-    let refused = after_fifty(alloc, RERUN)?;
-    let wanted = fifty_told(
-        alloc,
-        "409 Conflict",
-        r#"{"code":"RequestConflict","details":{"rule":6,"status":"#,
-        r#"},"message":"the state forbids it"}"#,
-    )?;
-    assert_eq!(rt; refused.as_slice(), wanted.as_str().as_bytes());
-    Ok(())
+/// Whether a request is answered so once the task ran fifty times.
+fn is_told(alloc: Global, request: &str, wanted: &str) -> Result<bool, Fail> {
+    let told = after_fifty(alloc, request)?;
+    Ok(told.as_slice() == wanted.as_bytes())
 }
 
+/// The same of a reply of this status whose body has the task's status between these texts.
+fn status_is_told(
+    alloc: Global,
+    request: &str,
+    status: &str,
+    front: &str,
+    back: &str,
+) -> Result<bool, Fail> {
+    let wanted = fifty_told(alloc, status, front, back)?;
+    is_told(alloc, request, wanted.as_str())
+}
+
+/// The same of a success with this body.
+fn body_is_told(alloc: Global, request: &str, body: &str) -> Result<bool, Fail> {
+    let wanted = reply_text(alloc, "200 OK", body)?;
+    is_told(alloc, request, wanted.as_str())
+}
+
+/// A rerun is refused then, and the last report repeated.
 #[test]
-fn the_last_of_fifty_runs_is_told_of_again(rt: HostRuntime) -> Result<(), Fail> {
-    let alloc = rt.alloc();
-    let report = report_of(alloc, 49)?;
-    let told = after_fifty(alloc, report.as_str())?;
-    let wanted = fifty_told(alloc, "200 OK", r#"{"status":"#, "}")?;
-    assert_eq!(rt; told.as_slice(), wanted.as_str().as_bytes());
+fn a_task_runs_fifty_times_at_most(rt: HostRuntime) -> Result<(), Fail> {
+    let told = [
+        status_is_told(
+            rt.alloc(),
+            RERUN,
+            "409 Conflict",
+            r#"{"code":"RequestConflict","details":{"rule":6,"status":"#,
+            r#"},"message":"the state forbids it"}"#,
+        )?,
+        status_is_told(
+            rt.alloc(),
+            "POST /api/queue/v1/task/AAAAAAAAQACAAAAAAAAAAA/runs/49/failed",
+            "200 OK",
+            r#"{"status":"#,
+            "}",
+        )?,
+    ];
+    assert_eq!(rt; told, [true; 2]);
     Ok(())
 }
 
@@ -188,42 +181,52 @@ fn the_last_of_fifty_runs_is_told_of_again(rt: HostRuntime) -> Result<(), Fail> 
 const FULL: &str =
     r#"{"created":"2024-01-01T00:00:00.000Z","deadline":"2024-01-02T00:00:00.000Z","dependencies":[],"expires":"2025-01-01T00:00:00.000Z","extra":{},"metadata":{"description":"d","name":"n","owner":"o@example.com","source":"https://example.com/"},"payload":{},"priority":"lowest","projectId":"none","provisionerId":"prov","requires":"all-completed","retries":0,"routes":[],"schedulerId":"-","scopes":[],"tags":{},"taskGroupId":"AAAAAAAAQACAAAAAAAAAAA","taskQueueId":"prov/wt","workerType":"wt"}"#;
 
-#[test]
-fn fifty_runs_are_listed(rt: HostRuntime) -> Result<(), Fail> {
-    let alloc = rt.alloc();
-    let listed = after_fifty(
+/// Whether the list of the task's group has it with its fifty runs.
+fn is_listed(alloc: Global) -> Result<bool, Fail> {
+    let back = format!(in alloc; r#","task":{FULL}}}]}}"#)?;
+    status_is_told(
         alloc,
         "GET /api/queue/v1/task-group/AAAAAAAAQACAAAAAAAAAAA/list",
-    )?;
-    let back = format!(in alloc; r#","task":{FULL}}}]}}"#)?;
-    let wanted = fifty_told(
-        alloc,
         "200 OK",
         r#"{"taskGroupId":"AAAAAAAAQACAAAAAAAAAAA","tasks":[{"status":"#,
         back.as_str(),
-    )?;
-    assert_eq!(rt; listed.as_slice(), wanted.as_str().as_bytes());
+    )
+}
+
+#[test]
+fn fifty_runs_are_listed(rt: HostRuntime) -> Result<(), Fail> {
+    let told = [
+        is_listed(rt.alloc())?,
+        body_is_told(
+            rt.alloc(),
+            "GET /api/queue/v1/task/AAAAAAAAQACAAAAAAAAAAA/dependents",
+            r#"{"taskId":"AAAAAAAAQACAAAAAAAAAAA","tasks":[]}"#,
+        )?,
+        body_is_told(
+            rt.alloc(),
+            "GET /api/queue/v1/task/AAAAAAAAQACAAAAAAAAAAA",
+            FULL,
+        )?,
+        body_is_told(
+            rt.alloc(),
+            "GET /api/queue/v1/pending/prov/wt",
+            r#"{"pendingTasks":0,"provisionerId":"prov","taskQueueId":"prov/wt","workerType":"wt"}"#,
+        )?,
+    ];
+    assert_eq!(rt; told, [true; 4]);
     Ok(())
 }
 
 #[test]
-fn who_ran_fifty_times_is_told(rt: HostRuntime) -> Result<(), Fail> {
+fn runs_lapse_and_are_retried(rt: HostRuntime) -> Result<(), Fail> {
     let alloc = rt.alloc();
-    let rows = [
-        (
-            "GET /api/queue/v1/task/AAAAAAAAQACAAAAAAAAAAA/dependents",
-            r#"{"taskId":"AAAAAAAAQACAAAAAAAAAAA","tasks":[]}"#,
-        ),
-        ("GET /api/queue/v1/task/AAAAAAAAQACAAAAAAAAAAA", FULL),
-        (
-            "GET /api/queue/v1/pending/prov/wt",
-            r#"{"pendingTasks":0,"provisionerId":"prov","taskQueueId":"prov/wt","workerType":"wt"}"#,
-        ),
+    let told = [
+        first_otherwise(alloc, AGAIN)?,
+        first_otherwise(alloc, LAPSE)?,
+        first_otherwise(alloc, LAST)?,
+        first_otherwise(alloc, DEADLINE_FIRST)?,
+        first_otherwise(alloc, RETRY)?,
     ];
-    for (request, body) in rows {
-        let told = after_fifty(alloc, request)?;
-        let wanted = reply_text(alloc, "200 OK", body)?;
-        assert_eq!(rt; told.as_slice(), wanted.as_str().as_bytes());
-    }
+    assert_eq!(rt; told, ["none"; 5]);
     Ok(())
 }

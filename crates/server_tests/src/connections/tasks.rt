@@ -55,15 +55,6 @@ const ONCE: &str = r#"0|PUT /api/queue/v1/task/AAAAAAAAQACAAAAAAAAAAA|~}|200 OK|
 0|PUT /api/queue/v1/task/AAAAAAAAQACAAAAAAAAAAA|~,"payload":{"a":1}}|409 Conflict|{"code":"RequestConflict","details":{"rule":1,"status":~},"message":"the state forbids it"}
 0|PUT /api/queue/v1/task/AAAAAAAAQACAAAAAAAAAAA|~,"payload":{"a":1.5}}|400 Bad Request|{"code":"InputError","details":{"path":"/payload/a","rule":21},"message":"the request breaks a rule"}"#;
 
-#[test]
-fn a_task_is_made_once_under_three_scopes(rt: HostRuntime) -> Result<(), Fail> {
-    assert_eq!(rt;
-        first_other_at(rt.alloc(), &THREE_SCOPES, 1_000_000, ONCE)?,
-        "none"
-    );
-    Ok(())
-}
-
 /// A status a millisecond before the deadline, some after it, and at 1970, to which the clock goes back.
 const DUE: &str = r#"0|PUT /api/queue/v1/task/AAAAAAAAQACAAAAAAAAAAA|~}|200 OK|{"status":~}
 0|PUT /api/queue/v1/task/AAAAAAAAQACAAAAAAAAAAQ|~,"priority":"high"}|200 OK|{"status":{"deadline":"2024-01-02T00:00:00.000Z","expires":"2025-01-01T00:00:00.000Z","projectId":"none","provisionerId":"prov","retriesLeft":5,"runs":[{"reasonCreated":"scheduled","runId":0,"scheduled":"2024-01-01T00:00:00.000Z","state":"pending"}],"schedulerId":"-","state":"pending","taskGroupId":"AAAAAAAAQACAAAAAAAAAAQ","taskId":"AAAAAAAAQACAAAAAAAAAAQ","taskQueueId":"prov/wt","workerType":"wt"}}
@@ -72,23 +63,11 @@ const DUE: &str = r#"0|PUT /api/queue/v1/task/AAAAAAAAQACAAAAAAAAAAA|~}|200 OK|{
 =0|GET /api/queue/v1/task/AAAAAAAAQACAAAAAAAAAAA/status||200 OK|{"status":{"deadline":"2024-01-02T00:00:00.000Z","expires":"2025-01-01T00:00:00.000Z","projectId":"none","provisionerId":"prov","retriesLeft":5,"runs":[{"reasonCreated":"scheduled","reasonResolved":"deadline-exceeded","resolved":"2024-01-02T00:00:00.000Z","runId":0,"scheduled":"2024-01-01T00:00:00.000Z","state":"exception"}],"schedulerId":"-","state":"exception","taskGroupId":"AAAAAAAAQACAAAAAAAAAAA","taskId":"AAAAAAAAQACAAAAAAAAAAA","taskQueueId":"prov/wt","workerType":"wt"}}
 0|PUT /api/queue/v1/task/AAAAAAAAQACAAAAAAAAAAA|~}|200 OK|{"status":{"deadline":"2024-01-02T00:00:00.000Z","expires":"2025-01-01T00:00:00.000Z","projectId":"none","provisionerId":"prov","retriesLeft":5,"runs":[{"reasonCreated":"scheduled","reasonResolved":"deadline-exceeded","resolved":"2024-01-02T00:00:00.000Z","runId":0,"scheduled":"2024-01-01T00:00:00.000Z","state":"exception"}],"schedulerId":"-","state":"exception","taskGroupId":"AAAAAAAAQACAAAAAAAAAAA","taskId":"AAAAAAAAQACAAAAAAAAAAA","taskQueueId":"prov/wt","workerType":"wt"}}"#;
 
-#[test]
-fn a_deadline_resolves_at_its_own_moment(rt: HostRuntime) -> Result<(), Fail> {
-    assert_eq!(rt; first_other_at(rt.alloc(), &["*"], 1_000_000, DUE)?, "none");
-    Ok(())
-}
-
 /// A farm of one task.
 const FULL: &str = r#"0|PUT /api/queue/v1/task/AAAAAAAAQACAAAAAAAAAAA|~}|200 OK|{"status":~}
 0|PUT /api/queue/v1/task/AAAAAAAAQACAAAAAAAAAAQ|~}|507 Insufficient Storage|{"code":"FarmFull","details":{"count":1},"message":"the farm is full"}
 0|PUT /api/queue/v1/task/AAAAAAAAQACAAAAAAAAAAA|~}|200 OK|{"status":~}
 86400000|PUT /api/queue/v1/task/AAAAAAAAQACAAAAAAAAAAQ|~}|400 Bad Request|{"code":"InputError","details":{"rule":15},"message":"the request breaks a rule"}"#;
-
-#[test]
-fn a_full_farm_still_answers_its_tasks(rt: HostRuntime) -> Result<(), Fail> {
-    assert_eq!(rt; first_other_at(rt.alloc(), &["*"], 1, FULL)?, "none");
-    Ok(())
-}
 
 /// No body, a front of one, and an empty object.
 const BODIES: &str =
@@ -97,7 +76,14 @@ const BODIES: &str =
 0|PUT /api/queue/v1/task/AAAAAAAAQACAAAAAAAAAAA|{}|400 Bad Request|{"code":"InputError","details":{"key":"created","rule":1},"message":"the request breaks a rule"}"#;
 
 #[test]
-fn bodies_are_read_as_json(rt: HostRuntime) -> Result<(), Fail> {
-    assert_eq!(rt; first_other_at(rt.alloc(), &["*"], 1, BODIES)?, "none");
+fn tasks_are_made_and_fall_due(rt: HostRuntime) -> Result<(), Fail> {
+    let alloc = rt.alloc();
+    let told = [
+        first_other_at(alloc, &THREE_SCOPES, 1_000_000, ONCE)?,
+        first_other_at(alloc, &["*"], 1_000_000, DUE)?,
+        first_other_at(alloc, &["*"], 1, FULL)?,
+        first_other_at(alloc, &["*"], 1, BODIES)?,
+    ];
+    assert_eq!(rt; told, ["none"; 4]);
     Ok(())
 }

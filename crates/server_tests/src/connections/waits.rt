@@ -20,12 +20,6 @@ const BOTH: &str =
 0|POST /api/queue/v1/claim-work/prov%2Fwt|{"workerGroup":"g","workerId":"w"}|200 OK|{"tasks":[{"runId":1,"status":{"deadline":"2024-01-02T00:00:00.000Z","expires":"2025-01-01T00:00:00.000Z","projectId":"none","provisionerId":"prov","retriesLeft":5,"runs":[{"reasonCreated":"scheduled","reasonResolved":"completed","resolved":"2024-01-01T00:00:00.000Z","runId":0,"scheduled":"2024-01-01T00:00:00.000Z","started":"2024-01-01T00:00:00.000Z","state":"completed","takenUntil":"2024-01-01T00:20:00.000Z","workerGroup":"g","workerId":"w"},{"reasonCreated":"rerun","runId":1,"scheduled":"2024-01-01T00:00:00.000Z","started":"2024-01-01T00:00:00.000Z","state":"running","takenUntil":"2024-01-01T00:20:00.000Z","workerGroup":"g","workerId":"w"}],"schedulerId":"-","state":"running","taskGroupId":"AAAAAAAAQACAAAAAAAAAAA","taskId":"AAAAAAAAQACAAAAAAAAAAA","taskQueueId":"prov/wt","workerType":"wt"},"takenUntil":"2024-01-01T00:20:00.000Z","task":{"created":"2024-01-01T00:00:00.000Z","deadline":"2024-01-02T00:00:00.000Z","dependencies":[],"expires":"2025-01-01T00:00:00.000Z","extra":{},"metadata":{"description":"d","name":"n","owner":"o@example.com","source":"https://example.com/"},"payload":{},"priority":"lowest","projectId":"none","provisionerId":"prov","requires":"all-completed","retries":5,"routes":[],"schedulerId":"-","scopes":[],"tags":{},"taskGroupId":"AAAAAAAAQACAAAAAAAAAAA","taskQueueId":"prov/wt","workerType":"wt"},"workerGroup":"g","workerId":"w"}]}
 0|POST /api/queue/v1/claim-work/prov%2Fwt|{"workerGroup":"g","workerId":"w"}|200 OK|{"tasks":[{"runId":0,"status":{"deadline":"2024-01-02T00:00:00.000Z","expires":"2025-01-01T00:00:00.000Z","projectId":"none","provisionerId":"prov","retriesLeft":5,"runs":[{"reasonCreated":"scheduled","runId":0,"scheduled":"2024-01-01T00:00:00.000Z","started":"2024-01-01T00:00:00.000Z","state":"running","takenUntil":"2024-01-01T00:20:00.000Z","workerGroup":"g","workerId":"w"}],"schedulerId":"-","state":"running","taskGroupId":"AAAAAAAAQACAAAAAAAAAAg","taskId":"AAAAAAAAQACAAAAAAAAAAg","taskQueueId":"prov/wt","workerType":"wt"},"takenUntil":"2024-01-01T00:20:00.000Z","task":{"created":"2024-01-01T00:00:00.000Z","deadline":"2024-01-02T00:00:00.000Z","dependencies":["AAAAAAAAQACAAAAAAAAAAA","AAAAAAAAQACAAAAAAAAAAQ"],"expires":"2025-01-01T00:00:00.000Z","extra":{},"metadata":{"description":"d","name":"n","owner":"o@example.com","source":"https://example.com/"},"payload":{},"priority":"lowest","projectId":"none","provisionerId":"prov","requires":"all-completed","retries":5,"routes":[],"schedulerId":"-","scopes":[],"tags":{},"taskGroupId":"AAAAAAAAQACAAAAAAAAAAg","taskQueueId":"prov/wt","workerType":"wt"},"workerGroup":"g","workerId":"w"}]}"#;
 
-#[test]
-fn a_rerun_takes_nothing_back(rt: HostRuntime) -> Result<(), Fail> {
-    assert_eq!(rt; first_other_in(rt.alloc(), TWO, BOTH)?, "none");
-    Ok(())
-}
-
 /// Tasks that wait for themselves: one is scheduled, and the deadline of one comes.
 const ITSELF: &str =
     r#"0|PUT /api/queue/v1/task/AAAAAAAAQACAAAAAAAAAAA|{"created":"2024-01-01T00:00:00.000Z","deadline":"2024-01-02T00:00:00.000Z","dependencies":["AAAAAAAAQACAAAAAAAAAAA"],"metadata":{"description":"d","name":"n","owner":"o@example.com","source":"https://example.com/"},"payload":{},"taskQueueId":"prov/wt"}|200 OK|{"status":{"deadline":"2024-01-02T00:00:00.000Z","expires":"2025-01-01T00:00:00.000Z","projectId":"none","provisionerId":"prov","retriesLeft":5,"runs":[],"schedulerId":"-","state":"unscheduled","taskGroupId":"AAAAAAAAQACAAAAAAAAAAA","taskId":"AAAAAAAAQACAAAAAAAAAAA","taskQueueId":"prov/wt","workerType":"wt"}}
@@ -36,12 +30,6 @@ const ITSELF: &str =
 86400000|GET /api/queue/v1/task/AAAAAAAAQACAAAAAAAAAAQ/status||200 OK|{"status":{"deadline":"2024-01-02T00:00:00.000Z","expires":"2025-01-01T00:00:00.000Z","projectId":"none","provisionerId":"prov","retriesLeft":5,"runs":[{"reasonCreated":"exception","reasonResolved":"deadline-exceeded","resolved":"2024-01-02T00:00:00.000Z","runId":0,"scheduled":"2024-01-02T00:00:00.000Z","state":"exception"}],"schedulerId":"-","state":"exception","taskGroupId":"AAAAAAAAQACAAAAAAAAAAQ","taskId":"AAAAAAAAQACAAAAAAAAAAQ","taskQueueId":"prov/wt","workerType":"wt"}}
 86400000|POST /api/queue/v1/task/AAAAAAAAQACAAAAAAAAAAg/schedule||404 Not Found|{"code":"ResourceNotFound","details":{"kind":"task","name":"AAAAAAAAQACAAAAAAAAAAg"},"message":"nothing has that name"}"#;
 
-#[test]
-fn a_task_may_wait_for_itself(rt: HostRuntime) -> Result<(), Fail> {
-    assert_eq!(rt; first_otherwise(rt.alloc(), ITSELF)?, "none");
-    Ok(())
-}
-
 /// A farm that takes one task, and what is judged before that.
 const FULL: &str =
     r#"0|PUT /api/queue/v1/task/AAAAAAAAQACAAAAAAAAAAA|{"created":"2024-01-01T00:00:00.000Z","deadline":"2024-01-02T00:00:00.000Z","metadata":{"description":"d","name":"n","owner":"o@example.com","source":"https://example.com/"},"payload":{},"taskQueueId":"prov/wt"}|200 OK|{"status":{"deadline":"2024-01-02T00:00:00.000Z","expires":"2025-01-01T00:00:00.000Z","projectId":"none","provisionerId":"prov","retriesLeft":5,"runs":[{"reasonCreated":"scheduled","runId":0,"scheduled":"2024-01-01T00:00:00.000Z","state":"pending"}],"schedulerId":"-","state":"pending","taskGroupId":"AAAAAAAAQACAAAAAAAAAAA","taskId":"AAAAAAAAQACAAAAAAAAAAA","taskQueueId":"prov/wt","workerType":"wt"}}
@@ -49,12 +37,6 @@ const FULL: &str =
 0|PUT /api/queue/v1/task/AAAAAAAAQACAAAAAAAAAAA|{"created":"2024-01-01T00:00:00.000Z","deadline":"2024-01-02T00:00:00.000Z","metadata":{"description":"d","name":"n","owner":"o@example.com","source":"https://example.com/"},"payload":{},"taskQueueId":"prov/wt"}|200 OK|{"status":{"deadline":"2024-01-02T00:00:00.000Z","expires":"2025-01-01T00:00:00.000Z","projectId":"none","provisionerId":"prov","retriesLeft":5,"runs":[{"reasonCreated":"scheduled","runId":0,"scheduled":"2024-01-01T00:00:00.000Z","state":"pending"}],"schedulerId":"-","state":"pending","taskGroupId":"AAAAAAAAQACAAAAAAAAAAA","taskId":"AAAAAAAAQACAAAAAAAAAAA","taskQueueId":"prov/wt","workerType":"wt"}}
 0|PUT /api/queue/v1/task/AAAAAAAAQACAAAAAAAAAAg|{"created":"2024-01-01T00:00:00.000Z","deadline":"2024-01-02T00:00:00.000Z","dependencies":["AAAAAAAAQACAAAAAAAAAAw"],"metadata":{"description":"d","name":"n","owner":"o@example.com","source":"https://example.com/"},"payload":{},"taskQueueId":"prov/wt"}|400 Bad Request|{"code":"InputError","details":{"name":"AAAAAAAAQACAAAAAAAAAAw","rule":16},"message":"the request breaks a rule"}
 0|PUT /api/queue/v1/task/AAAAAAAAQACAAAAAAAAAAg|{"created":"2024-01-01T00:00:00.000Z","deadline":"2024-01-02T00:00:00.000Z","metadata":{"description":"d","name":"n","owner":"o@example.com","source":"https://example.com/"},"payload":{},"schedulerId":"s","taskGroupId":"AAAAAAAAQACAAAAAAAAAAA","taskQueueId":"prov/wt"}|409 Conflict|{"code":"RequestConflict","details":{"rule":2,"schedulerId":"-"},"message":"the state forbids it"}"#;
-
-#[test]
-fn what_a_task_waits_for_is_judged_before_the_farm_is_full(rt: HostRuntime) -> Result<(), Fail> {
-    assert_eq!(rt; first_other_at(rt.alloc(), &["*"], 1, FULL)?, "none");
-    Ok(())
-}
 
 /// What a task waits for does not stand, or expires too early; and its group has another scheduler.
 const REFUSED: &str =
@@ -66,12 +48,6 @@ const REFUSED: &str =
 0|PUT /api/queue/v1/task/AAAAAAAAQACAAAAAAAAAAg|{"created":"2024-01-01T00:00:00.000Z","deadline":"2024-01-02T00:00:00.001Z","dependencies":["AAAAAAAAQACAAAAAAAAAAA","AAAAAAAAQACAAAAAAAAAAQ"],"metadata":{"description":"d","name":"n","owner":"o@example.com","source":"https://example.com/"},"payload":{},"taskGroupId":"AAAAAAAAQACAAAAAAAAAAA","taskQueueId":"prov/wt"}|200 OK|{"status":{"deadline":"2024-01-02T00:00:00.001Z","expires":"2025-01-01T00:00:00.001Z","projectId":"none","provisionerId":"prov","retriesLeft":5,"runs":[],"schedulerId":"-","state":"unscheduled","taskGroupId":"AAAAAAAAQACAAAAAAAAAAA","taskId":"AAAAAAAAQACAAAAAAAAAAg","taskQueueId":"prov/wt","workerType":"wt"}}
 0|PUT /api/queue/v1/task/AAAAAAAAQACAAAAAAAAAAg|{"created":"2024-01-01T00:00:00.000Z","deadline":"2024-01-02T00:00:00.001Z","dependencies":["AAAAAAAAQACAAAAAAAAAAA","AAAAAAAAQACAAAAAAAAAAQ"],"metadata":{"description":"d","name":"n","owner":"o@example.com","source":"https://example.com/"},"payload":{},"taskQueueId":"prov/wt"}|409 Conflict|{"code":"RequestConflict","details":{"rule":1,"status":{"deadline":"2024-01-02T00:00:00.001Z","expires":"2025-01-01T00:00:00.001Z","projectId":"none","provisionerId":"prov","retriesLeft":5,"runs":[],"schedulerId":"-","state":"unscheduled","taskGroupId":"AAAAAAAAQACAAAAAAAAAAA","taskId":"AAAAAAAAQACAAAAAAAAAAg","taskQueueId":"prov/wt","workerType":"wt"}},"message":"the state forbids it"}"#;
 
-#[test]
-fn a_task_is_refused_for_what_it_waits_for_and_for_its_group(rt: HostRuntime) -> Result<(), Fail> {
-    assert_eq!(rt; first_otherwise(rt.alloc(), REFUSED)?, "none");
-    Ok(())
-}
-
 /// A task is canceled that two others wait for: until it is resolved, and until it is completed.
 const CANCELED: &str =
     r#"0|PUT /api/queue/v1/task/AAAAAAAAQACAAAAAAAAAAA|{"created":"2024-01-01T00:00:00.000Z","deadline":"2024-01-02T00:00:00.000Z","metadata":{"description":"d","name":"n","owner":"o@example.com","source":"https://example.com/"},"payload":{},"taskQueueId":"prov/wt"}|200 OK|{"status":{"deadline":"2024-01-02T00:00:00.000Z","expires":"2025-01-01T00:00:00.000Z","projectId":"none","provisionerId":"prov","retriesLeft":5,"runs":[{"reasonCreated":"scheduled","runId":0,"scheduled":"2024-01-01T00:00:00.000Z","state":"pending"}],"schedulerId":"-","state":"pending","taskGroupId":"AAAAAAAAQACAAAAAAAAAAA","taskId":"AAAAAAAAQACAAAAAAAAAAA","taskQueueId":"prov/wt","workerType":"wt"}}
@@ -82,12 +58,6 @@ const CANCELED: &str =
 1000|GET /api/queue/v1/task/AAAAAAAAQACAAAAAAAAAAg/status||200 OK|{"status":{"deadline":"2024-01-02T00:00:00.000Z","expires":"2025-01-01T00:00:00.000Z","projectId":"none","provisionerId":"prov","retriesLeft":5,"runs":[],"schedulerId":"-","state":"unscheduled","taskGroupId":"AAAAAAAAQACAAAAAAAAAAg","taskId":"AAAAAAAAQACAAAAAAAAAAg","taskQueueId":"prov/wt","workerType":"wt"}}
 2000|POST /api/queue/v1/task/AAAAAAAAQACAAAAAAAAAAg/cancel||200 OK|{"status":{"deadline":"2024-01-02T00:00:00.000Z","expires":"2025-01-01T00:00:00.000Z","projectId":"none","provisionerId":"prov","retriesLeft":5,"runs":[{"reasonCreated":"exception","reasonResolved":"canceled","resolved":"2024-01-01T00:00:02.000Z","runId":0,"scheduled":"2024-01-01T00:00:02.000Z","state":"exception"}],"schedulerId":"-","state":"exception","taskGroupId":"AAAAAAAAQACAAAAAAAAAAg","taskId":"AAAAAAAAQACAAAAAAAAAAg","taskQueueId":"prov/wt","workerType":"wt"}}"#;
 
-#[test]
-fn a_canceled_task_is_resolved_and_not_completed(rt: HostRuntime) -> Result<(), Fail> {
-    assert_eq!(rt; first_otherwise(rt.alloc(), CANCELED)?, "none");
-    Ok(())
-}
-
 /// A deadline makes a task pending, whose own deadline in the same tick makes the next one pending.
 const ONE_TICK: &str =
     r#"0|PUT /api/queue/v1/task/AAAAAAAAQACAAAAAAAAAAA|{"created":"2024-01-01T00:00:00.000Z","deadline":"2024-01-01T00:00:10.000Z","metadata":{"description":"d","name":"n","owner":"o@example.com","source":"https://example.com/"},"payload":{},"taskQueueId":"prov/wt"}|200 OK|{"status":{"deadline":"2024-01-01T00:00:10.000Z","expires":"2024-12-31T00:00:10.000Z","projectId":"none","provisionerId":"prov","retriesLeft":5,"runs":[{"reasonCreated":"scheduled","runId":0,"scheduled":"2024-01-01T00:00:00.000Z","state":"pending"}],"schedulerId":"-","state":"pending","taskGroupId":"AAAAAAAAQACAAAAAAAAAAA","taskId":"AAAAAAAAQACAAAAAAAAAAA","taskQueueId":"prov/wt","workerType":"wt"}}
@@ -97,7 +67,16 @@ const ONE_TICK: &str =
 30000|GET /api/queue/v1/task/AAAAAAAAQACAAAAAAAAAAg/status||200 OK|{"status":{"deadline":"2024-01-02T00:00:00.000Z","expires":"2025-01-01T00:00:00.000Z","projectId":"none","provisionerId":"prov","retriesLeft":5,"runs":[{"reasonCreated":"scheduled","runId":0,"scheduled":"2024-01-01T00:00:20.000Z","state":"pending"}],"schedulerId":"-","state":"pending","taskGroupId":"AAAAAAAAQACAAAAAAAAAAg","taskId":"AAAAAAAAQACAAAAAAAAAAg","taskQueueId":"prov/wt","workerType":"wt"}}"#;
 
 #[test]
-fn each_deadline_of_a_tick_comes_at_its_own_moment(rt: HostRuntime) -> Result<(), Fail> {
-    assert_eq!(rt; first_otherwise(rt.alloc(), ONE_TICK)?, "none");
+fn tasks_wait_for_others(rt: HostRuntime) -> Result<(), Fail> {
+    let alloc = rt.alloc();
+    let told = [
+        first_other_in(alloc, TWO, BOTH)?,
+        first_otherwise(alloc, ITSELF)?,
+        first_other_at(alloc, &["*"], 1, FULL)?,
+        first_otherwise(alloc, REFUSED)?,
+        first_otherwise(alloc, CANCELED)?,
+        first_otherwise(alloc, ONE_TICK)?,
+    ];
+    assert_eq!(rt; told, ["none"; 6]);
     Ok(())
 }
