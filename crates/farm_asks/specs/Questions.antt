@@ -1,4 +1,4 @@
--- What a farm is asked: a call as it was asked, and what is known of it (the Taskcluster reference; the names of parameters are those of its routes).
+-- What a farm is asked: a call as it was asked, and what is known of it (the Taskcluster reference; the names of parameters are those of its routes, but for `queue`).
 use Rattle.std.specs.Prelude.{ℕ, List, codes}
 use Rattle.farm_record.specs.declared.change.Kind.TheVariants.{Create}
 use Rattle.farm_record.specs.Records.{IsSaid}

@@ -1,4 +1,4 @@
--- What of a planned change is told, as the code chooses it; for private clauses.
+-- What of a planned change is told, as the code chooses it.
 use Rattle.std.specs.Prelude.{List}
 use Rattle.farm_text.specs.Document.{Document}
 use Rattle.run_states.specs.Rows.{Row}

@@ -1,4 +1,4 @@
--- What a caller may do, as the program tells of it; for private clauses.
+-- What a caller may do, as the program tells of it.
 use Rattle.std.specs.Prelude.{◌<◌, ◌^◌}
 use Rattle.hawk_auth.specs.declared.check.AuthFault.{AuthFault}
 use Rattle.hawk_auth.specs.declared.check.AuthFault.TheVariants.{Skew}

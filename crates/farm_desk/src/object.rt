@@ -16,8 +16,8 @@ pub trait Object {
     /// The machine's state that the object is in.
     ghost state: { Self → Self.Law.State };
 
-    /// What the object keeps, beside its state, of a history since an opening, as the records on a disk. A bare object keeps
-    /// nothing.
+    /// What the object keeps, beside its state, of a history since an opening, as the records on a disk. Where an object says
+    /// nothing it is nothing.
     ghost holds: { Self → Self.Law.Opening → List Self.Law.Entry → Type 0 } = { λ _ _ _. Unit {0} };
 
     /// Asks one question. There is an entry that is this ask's call: the ask's entries lead from the old state to the new one,

@@ -26,7 +26,7 @@ pub enum Kind {
     Cancel(SlugId),
     /// A worker takes runs.
     Claim(Claim),
-    /// A worker keeps its run for longer.
+    /// A worker keeps its run until another moment, which may be an earlier one too.
     Reclaim(Reclaim),
     /// A worker tells how its run ended.
     Resolve(Resolution),

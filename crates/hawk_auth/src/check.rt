@@ -40,7 +40,8 @@ pub struct AuthHead<'a> {
     pub port: u16,
 }
 
-/// Why a caller is refused: the first of these conditions that holds.
+/// Why a caller is refused: the first of these conditions that holds. With scopes that the header asks for, `TooMany` comes before `Oversteps` of the client's
+/// own scopes, and behind it of those that are asked for.
 #[derive(Debug, Drop)]
 pub enum AuthFault {
     /// The `Authorization` field is off its form, or stands more than once.

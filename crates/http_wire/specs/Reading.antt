@@ -43,6 +43,6 @@ keeps_all EndedInside = false
 keeps_all ReadFault = false
 keeps_all wire = true
 
--- what a call that gave no message leaves: all of the stream, or all but some bytes at its front where it ended or a read failed inside a body
+-- what a call that gave no message leaves: all of the stream, or all but some bytes at its front where it ended or a read failed
 abbrev pub Leaves : Option (List ℕ) → Option (List ℕ) → Wire → Type 0
 Leaves before now wire = MatchBool (keeps_all wire) (Keeps before now) (Loses before now)

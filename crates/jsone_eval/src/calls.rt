@@ -160,7 +160,7 @@ fn of_function(
     }
 }
 
-/// What the function of a name gives for its arguments; nothing, where that weighs more than may be paid.
+/// What the function of a name gives for its arguments; nothing only where that weighs more than may be paid, as `range` and `join` may find before it is made.
 pub fn called(
     alloc: Global,
     function: Option<Function>,

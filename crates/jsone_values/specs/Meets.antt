@@ -14,7 +14,7 @@ Meets IsOutcome (Ok d) = IsOutcome (Ok (document d))
 Meets IsOutcome (Err (a_fault f)) = IsOutcome (Err f)
 Meets IsOutcome (Err NoMemory) = Unit {0}
 
--- the same, but that no value is made of an outcome that weighs more than so much
+-- the same, but that of an outcome that weighs more than so much no value need be made
 abbrev pub MeetsWithin : ℕ → (Result Document Fault → Type 0) → Result (Option Doc) Stop → Type 0
 MeetsWithin most IsOutcome (Ok (Some d)) = IsOutcome (Ok (document d))
 MeetsWithin most IsOutcome (Ok None) = (d : Document) × IsOutcome (Ok d) × (most < weight d)

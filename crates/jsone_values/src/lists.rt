@@ -108,7 +108,7 @@ fn push_part(alloc: Global, out: &mut String, part: &Doc) -> Result<(), AllocErr
     }
 }
 
-/// The parts with the separator between each two; nothing, where they are longer than so many bytes.
+/// The parts with the separator between each two; nothing only where they are longer than so many bytes.
 fn joined(
     alloc: Global,
     parts: &[Doc],
@@ -134,7 +134,7 @@ fn joined(
     Ok(Some(whole))
 }
 
-/// The texts and numbers of a list as one text, with the separator between each two; nothing, where it weighs more than so much.
+/// The texts and numbers of a list as one text, with the separator between each two; nothing only where it weighs more than so much.
 pub fn join_of(
     alloc: Global,
     parts: &Doc,

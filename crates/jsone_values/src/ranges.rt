@@ -44,7 +44,7 @@ fn numbers_before(
     Ok(Some(numbers))
 }
 
-/// The list of the numbers from the first on and before the second; nothing, where it weighs more than so much.
+/// The list of the numbers from the first on and before the second; nothing only where it weighs more than so much.
 fn ranged(alloc: Global, from: i64, end: i64, step: i64, most: usize) -> Result<Option<Doc>, Stop>
     ensures { MeetsWithin most (λ r. r ≡ ranged (whole from) (whole end) (whole step)) result }
 {
@@ -58,7 +58,7 @@ fn ranged(alloc: Global, from: i64, end: i64, step: i64, most: usize) -> Result<
     }
 }
 
-/// The numbers from the first on and before the second, by steps; nothing, where the list weighs more than so much.
+/// The numbers from the first on and before the second, by steps; nothing only where the list weighs more than so much.
 pub fn range_of(
     alloc: Global,
     from: &Doc,

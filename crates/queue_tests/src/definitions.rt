@@ -238,7 +238,7 @@ fn what_is_said_of_faults(rt: HostRuntime) {
     ];
     assert_eq!(rt; told, [true, false]);
     let whole =
-        "the definition: a definition is a map of known keys, each of its kind, that nests at most 127 deep (rule 1)";
+        "the definition: a definition is a map of known keys, each of its kind, none of those missing that have to stand, that nests at most 127 deep (rule 1)";
     assert!(rt; has_words(rt.alloc(), "[]", whole));
 }
 

@@ -74,7 +74,8 @@ impl RoleSet {
     /// again and again.
     ///
     /// It follows each scope that it finds to the roles whose keys fit, and looks each scope that they give up among those found
-    /// so far: for n roles and a scope of m bytes that is about log2 n comparisons of texts, and one for each role that fits.
+    /// so far: for n roles that is about log2 n comparisons of texts, one for each role that fits, and one for each key that the scope's key begins with
+    /// but for its end.
     pub fn expand(&self, alloc: Global, start: &[Scope]) -> Result<ScopeSet, ExpandFault>
         ensures closure { MatchResult result (IsClosure MOST_SCOPES self.now start.now)
             (FailsToExpand MOST_SCOPES self.now start.now) }

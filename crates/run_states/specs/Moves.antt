@@ -83,7 +83,7 @@ resolve_answer number reason row =
     else if ended_for_at number reason row then Ok false
     else Err (run_refusal number row)
 
--- the answer to a rerun: a pending or running task stays; of an unscheduled task, at or after the deadline, and above 50 runs it is refused
+-- the answer to a rerun: a pending or running task stays; of an unscheduled task, at or after the deadline, and with 50 runs it is refused
 abbrev pub rerun_answer : ℕ → Row → Result Bool Refusal
 rerun_answer at row =
     if is_unscheduled row then Err refusals.Unscheduled

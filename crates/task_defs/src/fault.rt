@@ -20,7 +20,7 @@ impl DefFault {
     fn words(&self) -> &'static str {
         match self.rule {
             1 =>
-                "a definition is a map of known keys, each of its kind, that nests at most 127 deep",
+                "a definition is a map of known keys, each of its kind, none of those missing that have to stand, that nests at most 127 deep",
             2 => "a queue is two identifiers, and what is given of it must agree",
             3 => "a project is 1 to 500 of [A-Za-z0-9._/-], a scheduler 1 to 38 of [A-Za-z0-9_-]",
             4 => "a task group is a slugid",

@@ -1,4 +1,4 @@
--- reclaimTask: a worker keeps its run for longer (the queue service of the Taskcluster reference).
+-- reclaimTask: a worker keeps its run until another moment (the queue service of the Taskcluster reference).
 use Rattle.std.specs.Prelude.{◌+◌, not, [], ◌∷◌}
 use Rattle.call_rules.specs.Policy.{reclaim_policy}
 use Rattle.farm_record.specs.declared.change.Kind.TheVariants.{Reclaim}
