@@ -83,23 +83,25 @@ fn door(alloc: Global) -> Result<MemoryListener, AllocError> {
     }
 }
 
-/// What a claim was answered over a link that came back, and whether the task runs then.
-fn answered(back: &Returned) -> &'static str {
-    let Ok(text) = str::from_utf8(back.link.sink.written()) else {
-        return "no text";
-    };
-    let Some((before, status)) = text.rsplit_once("\r\n\r\n") else {
-        return "no reply";
-    };
+/// What a claim was answered by these replies, and whether the task runs then.
+fn told(replies: &str) -> &'static str {
+    let (before, status) = replies.rsplit_once("\r\n\r\n").unwrap_or((replies, ""));
     if !status.contains("\"state\":\"running\"") {
-        return "it does not run";
-    }
-    if before.contains("{\"tasks\":[]}") {
+        "it does not run"
+    } else if before.contains("{\"tasks\":[]}") {
         "none"
     } else if before.contains("{\"tasks\":[{\"runId\":0,") {
         "run 0"
     } else {
         "no claim"
+    }
+}
+
+/// The same of what was written over a link that came back.
+fn answered(back: &Returned) -> &'static str {
+    match str::from_utf8(back.link.sink.written()) {
+        Ok(replies) => told(replies),
+        Err(_) => "no text",
     }
 }
 

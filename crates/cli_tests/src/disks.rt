@@ -1,7 +1,7 @@
 //! Runs over houses in memory with a disk.
 
 use crate::houses::{Case, Outcome, house_of, outcome_in};
-use crate::rows::{is_outcome, unescaped, words_of};
+use crate::rows::{cut, is_outcome, unescaped, words_of};
 use disk_base::MemoryDisk;
 use farm_cli::memory_house::MemoryHouse;
 use farm_cli::status::Status;
@@ -204,11 +204,11 @@ check farm.toml --disk farm.disk|broken||1000000|9||the disk is damaged: farm.di
 
 /// Whether such a row holds.
 fn fault_holds(rt: &(impl Threads + Wait + Sync), alloc: Global, row: &str) -> Result<bool, Fail> {
-    let (line, rest) = row.split_once('|').ok_or("the words")?;
-    let (disk, rest) = rest.split_once('|').ok_or("the disk")?;
-    let (input, rest) = rest.split_once('|').ok_or("the input")?;
-    let (failing, rest) = rest.split_once('|').ok_or("a call")?;
-    let (code, told) = rest.split_once('|').ok_or("the status")?;
+    let (line, rest) = cut(row);
+    let (disk, rest) = cut(rest);
+    let (input, rest) = cut(rest);
+    let (failing, rest) = cut(rest);
+    let (code, told) = cut(rest);
     let failing = failing.parse().ok().ok_or("a number")?;
     let input = unescaped(alloc, input)?;
     let words = words_of(alloc, line)?;

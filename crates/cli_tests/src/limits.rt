@@ -1,7 +1,7 @@
 //! Runs over houses in memory at the limits of their inputs.
 
 use crate::houses::{Case, PING, outcome_of};
-use crate::rows::{comes_to, words_of};
+use crate::rows::{comes_to, cut, words_of};
 use std::alloc::{AllocError, Global};
 use std::sync::Wait;
 use std::test::Fail;
@@ -35,10 +35,10 @@ fn letters_come_to(
 
 /// Whether such a row holds.
 fn letters_hold(rt: &(impl Threads + Wait + Sync), alloc: Global, row: &str) -> Result<bool, Fail> {
-    let (line, rest) = row.split_once('|').ok_or("the words")?;
-    let (count, rest) = rest.split_once('|').ok_or("a number of letters")?;
-    let (letter, rest) = rest.split_once('|').ok_or("a letter")?;
-    let (code, told) = rest.split_once('|').ok_or("the status")?;
+    let (line, rest) = cut(row);
+    let (count, rest) = cut(rest);
+    let (letter, rest) = cut(rest);
+    let (code, told) = cut(rest);
     let count: usize = count.parse().ok().ok_or("a number")?;
     let letters = letter.repeat(alloc, count)?;
     let words = words_of(alloc, line)?;

@@ -56,7 +56,7 @@ pub(crate) fn is_outcome(
     code: &str,
     told: &str,
 ) -> Result<bool, Fail> {
-    let (output, notes) = told.split_once('|').ok_or("the notes")?;
+    let (output, notes) = cut(told);
     let code: u8 = code.parse().ok().ok_or("a status")?;
     let is_written = is_as(alloc, done.output.as_slice(), output)?;
     let is_noted = is_as(alloc, done.notes.as_slice(), notes)?;
@@ -103,32 +103,33 @@ struct Row<'a> {
     told: &'a str,
 }
 
+/// What stands before the first bar of a text, and what behind it: all of it and nothing, where it has none.
+pub(crate) fn cut(text: &str) -> (&str, &str) {
+    text.split_once('|').unwrap_or((text, ""))
+}
+
 /// The parts of a row, which bars cut.
-fn parts(row: &str) -> Result<Row<'_>, Fail> {
-    let (words, rest) = row.split_once('|').ok_or("the words")?;
-    let (farm, rest) = rest.split_once('|').ok_or("the farm file")?;
-    let (input, rest) = rest.split_once('|').ok_or("the input")?;
-    let (fails, rest) = rest.split_once('|').ok_or("what fails")?;
-    let (code, told) = rest.split_once('|').ok_or("the status")?;
-    Ok(Row {
+fn parts(row: &str) -> Row<'_> {
+    let (words, rest) = cut(row);
+    let (farm, rest) = cut(rest);
+    let (input, rest) = cut(rest);
+    let (fails, rest) = cut(rest);
+    let (code, told) = cut(rest);
+    Row {
         words,
         farm,
         input,
         fails,
         code,
         told,
-    })
+    }
 }
 
 /// The words of a line.
 pub(crate) fn words_of(alloc: Global, line: &str) -> Result<Vec<&str>, AllocError> {
-    let mut words = Vec::new(alloc);
-    for word in line.split(' ') {
-        if !word.is_empty() {
-            words.push(word)?;
-        }
-    }
-    Ok(words)
+    line.split(' ')
+        .filter(|word| !word.is_empty())
+        .collect(alloc)
 }
 
 /// Whether these words, this farm file and this input, of which what the row says fails, come to what it says.
@@ -168,7 +169,7 @@ fn line_holds(
 
 /// Whether a row holds: a run with its words, farm file and input, of which this fails, has this status, output and notes.
 fn holds(rt: &(impl Threads + Wait + Sync), alloc: Global, row: &str) -> Result<bool, Fail> {
-    let row = parts(row)?;
+    let row = parts(row);
     let line = unescaped(alloc, row.words)?;
     let farm = unescaped(alloc, row.farm)?;
     let input = unescaped(alloc, row.input)?;

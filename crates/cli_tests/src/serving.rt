@@ -2,7 +2,7 @@
 
 use crate::disks::{CREATION, ONE, case, disk_of, each_is_checked, house_behind};
 use crate::houses::{Case, PING, link};
-use crate::rows::{failing, house_comes_to, unescaped};
+use crate::rows::{cut, failing, house_comes_to, unescaped};
 use farm_cli::memory_house::MemoryHouse;
 use farm_serving::{MemoryListener, Returned};
 use http_wire::MemoryLink;
@@ -234,14 +234,14 @@ struct Row<'a> {
 }
 
 /// The parts of a row, which bars cut.
-fn parts(row: &str) -> Result<Row<'_>, Fail> {
-    let (address, rest) = row.split_once('|').ok_or("an address")?;
-    let (disk, rest) = rest.split_once('|').ok_or("the disk")?;
-    let (first, rest) = rest.split_once('|').ok_or("the first link")?;
-    let (accept, rest) = rest.split_once('|').ok_or("the accept")?;
-    let (write, rest) = rest.split_once('|').ok_or("the write")?;
-    let (code, told) = rest.split_once('|').ok_or("the status")?;
-    Ok(Row {
+fn parts(row: &str) -> Row<'_> {
+    let (address, rest) = cut(row);
+    let (disk, rest) = cut(rest);
+    let (first, rest) = cut(rest);
+    let (accept, rest) = cut(rest);
+    let (write, rest) = cut(rest);
+    let (code, told) = cut(rest);
+    Row {
         address,
         disk,
         first,
@@ -249,7 +249,7 @@ fn parts(row: &str) -> Result<Row<'_>, Fail> {
         write,
         code,
         told,
-    })
+    }
 }
 
 /// A door at which the first link of a row comes, and then a ping.
@@ -262,7 +262,7 @@ fn door_of(alloc: Global, row: Row<'_>) -> Result<MemoryListener, AllocError> {
 
 /// Whether such a row holds.
 fn fault_holds(rt: &(impl Threads + Wait + Sync), alloc: Global, row: &str) -> Result<bool, Fail> {
-    let row = parts(row)?;
+    let row = parts(row);
     let words = serve("farm.disk", row.address);
     let case = Case {
         failing_writes: failing(row.write, "write"),

@@ -6,11 +6,11 @@ use Rattle.disk_base.specs.Contents.{Contents, IsSettled, StopsLeave}
 use Rattle.disk_base.specs.Calls.{written, Torn, Syncs}
 use Rattle.disk_base.proofs.StopsLemmas.{StopsLeave-now, StopsLeave-weaker, StopsLeave-then, StopsLeave-nothing}
 use Rattle.disk_journal.specs.declared.fault.OpenFault.TheVariants.{Damaged}
-use Rattle.disk_journal.specs.Records.{sized, records, EndsBefore, Opens, IsDamagedBehind}
+use Rattle.disk_journal.specs.Records.{sized, records, EndsBefore, Opens, IsDamagedBehind, placed}
 use Rattle.disk_journal.specs.Images.{IsImage, IsWithin}
 use Rattle.disk_journal.specs.Keeping.{IsReady}
 use Rattle.disk_journal.specs.declared.spans.Span.{Span}
-use Rattle.disk_journal.specs.Bodies.{bodies_in}
+use Rattle.disk_journal.specs.Bodies.{bodies_in, places_in}
 use Rattle.disk_journal.specs.Following.{Reaches}
 use Rattle.disk_journal.specs.Opening.{IsStill, Mends, ClosesGate}
 use Rattle.disk_journal.proofs.LawLemmas.{opens_one, image_opens}
@@ -72,6 +72,10 @@ found_damaged old synced file followed spans place told is same follows names fo
     let kept = subst (λ (l : List ℕ). IsDamagedBehind [] l (bodies_in file spans) place) (is ∙ same) read in
     subst (λ n. IsDamagedBehind [] old (bodies_in file spans) n) one kept
 
+-- the places of what was followed
+pub places_are : (file followed : List ℕ) (spans : List Span) (end : ℕ) → followed ≡ file → Reaches followed spans end → places_in file spans ≡ placed 0 (bodies_in file spans)
+places_are file followed spans end is found = subst (λ (l : List ℕ). places_in l spans ≡ placed 0 (bodies_in l spans)) is found.places
+
 -- the end of what was followed
 pub end_is : (file followed : List ℕ) (spans : List Span) (end : ℕ) → followed ≡ file → Reaches followed spans end → end ≡ length (records (bodies_in file spans))
 end_is file followed spans end is found = subst (λ (l : List ℕ). end ≡ length (records (bodies_in l spans))) is found.place
@@ -93,6 +97,10 @@ module _ {T E : Type 0} (old synced read new : Contents) (file followed closing 
   -- what the closing of the gate is asked for
   pub asked : IsSettled read × (read.bytes ≡ closing)
   asked = (settled_still synced read still settled, still.same ∙ sym is ∙ sym closes)
+
+  -- the disk's own bytes open to the bodies
+  pub opened_file : Opens [] old.bytes (bodies_in file spans)
+  opened_file = subst (λ (l : List ℕ). Opens [] l (bodies_in file spans)) (is ∙ same) opens
 
   pub opened_ready : {T2 E2 : Type 0} (x : T2) → Mends {T = T2} {E = E2} end closing read new (Ok x) → IsReady [] new end (bodies_in file spans)
   opened_ready {T2 = T2} {E2 = E2} x mends =

@@ -1,7 +1,13 @@
 -- What an opening found.
-use Rattle.std.specs.Prelude.{ℕ, List}
+use Rattle.std.specs.Prelude.{◌≡◌, ◌≢◌, ℕ, List, [], length}
+use Rattle.disk_base.specs.Contents.{Contents}
 use Rattle.disk_journal.specs.declared.bodies.Bodies.{Bodies}
+use Rattle.disk_journal.specs.declared.fault.OpenFault.{OpenFault}
+use Rattle.disk_journal.specs.declared.fault.OpenFault.TheVariants.{Damaged}
 use Rattle.disk_journal.specs.Bodies.{bodies_in, places_in}
+use Rattle.disk_journal.specs.Keeping.{IsReady}
+use Rattle.disk_journal.specs.Opening.{ClosesGate}
+use Rattle.disk_journal.specs.Records.{records, Opens, IsDamagedBehind, placed}
 
 -- the bodies, and each with the place of its gate
 abbrev pub opened_bodies : Bodies → List (List ℕ)
@@ -9,3 +15,18 @@ opened_bodies b = bodies_in b.file.items b.spans.items
 
 abbrev pub opened_places : Bodies → List (ℕ × List ℕ)
 opened_places b = places_in b.file.items b.spans.items
+
+-- A journal was opened: what was found are the bodies that its file opens to, each at its place; behind them, at the end place, the gate is closed,
+-- and nothing else was written.
+pub record HasFound (tells : Type 0) (file : List ℕ) (disk : Contents) (end : ℕ) (found : Bodies) : Type 0 where
+  pub opens : tells → Opens [] file (opened_bodies found)
+  pub places : opened_places found ≡ placed 0 (opened_bodies found)
+  pub ready : tells → IsReady [] disk end (opened_bodies found)
+  pub place : end ≡ length (records (opened_bodies found))
+  pub gate : tells → ClosesGate file end disk.bytes
+
+-- A journal was not opened: where it is damaged, the bodies before the damage are handed back, each at its place; else none.
+pub record HasBefore (tells : Type 0) (file : List ℕ) (fault : OpenFault) (before : Bodies) : Type 0 where
+  pub damaged : tells → (place : ℕ) → fault ≡ Damaged place → IsDamagedBehind [] file (opened_bodies before) place
+  pub undamaged : ((place : ℕ) → fault ≢ Damaged place) → opened_bodies before ≡ []
+  pub places : opened_places before ≡ placed 0 (opened_bodies before)

@@ -18,10 +18,10 @@ pub record HasOpenCause {T : Type 0} (before now : ℕ) (result : Result T OpenF
   pub kept : OnOk result (now ≡ before)
   pub spared : (fault : OpenFault) → fault ≢ Disk → IsErrOf result fault → now ≡ before
 
--- what an opening answered, without what it hands back beside a fault
-abbrev pub answer_of : {T F B : Type 0} → Result T (F × B) → Result T F
-answer_of (Ok opened) = Ok opened
-answer_of (Err refused) = Err refused.0
+-- what an opening answered: of what it hands back beside a fault, the fault alone
+abbrev pub answer_of : {T R F : Type 0} → (R → F) → Result T R → Result T F
+answer_of fault_of (Ok opened) = Ok opened
+answer_of fault_of (Err refused) = Err (fault_of refused)
 
 -- a closed gate is put at the end place of a file where it does not stand there, and no other byte changes
 pub record ClosesGate (file : List ℕ) (end : ℕ) (new : List ℕ) : Type 0 where

@@ -1,13 +1,12 @@
 //! A journal on a disk, and an append to it.
 ghost use Rattle.std.specs.Prelude.{◌≡◌, ◌≢◌, ◌+◌, ◌<◌, ◌≤◌, ◌^◌, ℕ, List, [], ◌∷◌, Option, option_to_list, length, OnOk, OnErr, IfOk, IfErr};
-ghost use Rattle.causes.specs.Causes.{HasCause, Rose};
+ghost use Rattle.causes.specs.Causes.{HasCause};
 ghost use Rattle.disk_base.specs.Contents.{IsSettled, StopsLeave};
-ghost use Rattle.disk_journal.specs.declared.fault.OpenFault.TheVariants.{Disk, Damaged};
-ghost use Rattle.disk_journal.specs.Records.{records, Opens, IsDamagedBehind, placed};
+ghost use Rattle.disk_journal.specs.declared.fault.OpenFault.TheVariants.{Disk};
 ghost use Rattle.disk_journal.specs.Images.{IsImage, IsWithin};
 ghost use Rattle.disk_journal.specs.Journals.{disk_after};
 ghost use Rattle.disk_journal.specs.Keeping.{IsReady, Keeps};
-ghost use Rattle.disk_journal.specs.Opening.{IsStill, ClosesGate};
+ghost use Rattle.disk_journal.specs.Opening.{IsStill, HasOpenCause, answer_of};
 
 use crate::bodies::Bodies;
 use crate::fault::{DiskFault, OpenFault};
@@ -36,7 +35,7 @@ pub struct Journal<D: Disk> {
 }
 
 impl<D: Disk> Journal<D> {
-    ghost use Rattle.disk_journal.specs.Opened.{opened_bodies, opened_places};
+    ghost use Rattle.disk_journal.specs.Opened.{HasFound, HasBefore};
 
     /// Opens the journal on a disk: syncs, reads all bytes once, follows the open records, and closes the gate behind them where it
     /// is not. An `Err` hands the disk back, and unless a call of it failed it is as it was, with nothing pending; where it is damaged the bodies
@@ -45,20 +44,12 @@ impl<D: Disk> Journal<D> {
     /// Over a file that a stop of an earlier journal left, a stop in it leaves what a stop at its start might have left, or the same bodies, or
     /// these and the one pending behind them.
     pub fn open(alloc: Global, disk: D) -> Result<(Self, Bodies), (OpenFault, D, Bodies)>
-        ensures bodies { D.tells → IfOk result (λ o. Opens [] (D.contents disk).bytes (opened_bodies o.1)) }
-        ensures places { IfOk result (λ o. opened_places o.1 ≡ placed 0 (opened_bodies o.1)) }
-        ensures ready { D.tells → IfOk result (λ o. IsReady [] (D.contents o.0.disk) o.0.end (opened_bodies o.1)) }
-        ensures end { IfOk result (λ o. o.0.end ≡ length (records (opened_bodies o.1))) }
-        ensures gate { D.tells → IfOk result (λ o. ClosesGate (D.contents disk).bytes o.0.end (D.contents o.0.disk).bytes) }
-        ensures damaged { D.tells → (place : ℕ) → IfErr result (λ e. e.0 ≡ Damaged place → IsDamagedBehind [] (D.contents disk).bytes (opened_bodies e.2) place) }
-        ensures before { IfErr result (λ e. opened_places e.2 ≡ placed 0 (opened_bodies e.2)) }
+        ensures opened { IfOk result (λ o. HasFound D.tells (D.contents disk).bytes (D.contents o.0.disk) o.0.end o.1) }
+        ensures refused { IfErr result (λ e. HasBefore D.tells (D.contents disk).bytes e.0 e.2) }
         ensures untouched { D.tells → IfErr result (λ e. e.0 ≢ Disk → IsStill (D.contents disk) (D.contents e.1) × IsSettled (D.contents e.1)) }
         ensures any_moment { D.tells → (bodies : List (List ℕ)) (pending : Option (List ℕ)) → IsImage [] bodies pending (D.contents disk).bytes
             → StopsLeave (D.contents disk) (D.contents (disk_after (λ j. j.disk) result)) (IsWithin [] bodies (option_to_list pending)) }
-        ensures cause { IfErr result (λ e. e.0 ≡ Disk → Rose (D.faults disk) (D.faults e.1)) }
-        ensures spared { IfErr result (λ e. e.0 ≢ Disk → D.faults e.1 ≡ D.faults disk) }
-        ensures later { D.faults disk ≤ D.faults (disk_after (λ j. j.disk) result) }
-        ensures kept { IfOk result (λ o. D.faults o.0.disk ≡ D.faults disk) }
+        ensures cause { HasOpenCause (D.faults disk) (D.faults (disk_after (λ j. j.disk) result)) (answer_of (λ e. e.0) result) }
     {
         let mut disk = disk;
         match open_disk(alloc, &mut disk) {

@@ -2,12 +2,10 @@
 ghost use Rattle.std.specs.Prelude.{◌≡◌, ◌≢◌, ℕ, ◌<◌, ◌≤◌, ◌^◌, List, [], length, Option, option_to_list, Err, IfOk, IfErr, OnOk};
 ghost use Rattle.causes.specs.Causes.{HasCause};
 ghost use Rattle.disk_base.specs.Contents.{IsSettled, StopsLeave};
-ghost use Rattle.disk_journal.specs.declared.fault.OpenFault.TheVariants.{Disk, Damaged};
-ghost use Rattle.disk_journal.specs.Records.{records, Opens, IsDamagedBehind, placed};
+ghost use Rattle.disk_journal.specs.declared.fault.OpenFault.TheVariants.{Disk};
 ghost use Rattle.disk_journal.specs.Images.{IsImage, IsWithin};
-ghost use Rattle.disk_journal.specs.Keeping.{IsReady};
-ghost use Rattle.disk_journal.specs.Opened.{opened_bodies, opened_places};
-ghost use Rattle.disk_journal.specs.Opening.{IsStill, ClosesGate, Mends, HasOpenCause, answer_of};
+ghost use Rattle.disk_journal.specs.Opened.{HasFound, HasBefore};
+ghost use Rattle.disk_journal.specs.Opening.{IsStill, Mends, HasOpenCause, answer_of};
 
 use crate::bodies::Bodies;
 use crate::fault::OpenFault;
@@ -37,17 +35,12 @@ pub(crate) fn open_disk<D: Disk>(
     alloc: Global,
     disk: &mut D,
 ) -> Result<(u64, Bodies), (OpenFault, Bodies)>
-    ensures bodies { D.tells → IfOk result (λ o. Opens [] (D.contents disk.old).bytes (opened_bodies o.1)) }
-    ensures places { IfOk result (λ o. opened_places o.1 ≡ placed 0 (opened_bodies o.1)) }
-    ensures ready { D.tells → IfOk result (λ o. IsReady [] (D.contents disk.new) o.0 (opened_bodies o.1)) }
-    ensures end { IfOk result (λ o. o.0 ≡ length (records (opened_bodies o.1))) }
-    ensures gate { D.tells → IfOk result (λ o. ClosesGate (D.contents disk.old).bytes o.0 (D.contents disk.new).bytes) }
-    ensures damaged { D.tells → (place : ℕ) → IfErr result (λ e. e.0 ≡ Damaged place → IsDamagedBehind [] (D.contents disk.old).bytes (opened_bodies e.1) place) }
-    ensures before { IfErr result (λ e. opened_places e.1 ≡ placed 0 (opened_bodies e.1)) }
+    ensures opened { IfOk result (λ o. HasFound D.tells (D.contents disk.old).bytes (D.contents disk.new) o.0 o.1) }
+    ensures refused { IfErr result (λ e. HasBefore D.tells (D.contents disk.old).bytes e.0 e.1) }
     ensures untouched { D.tells → IfErr result (λ e. e.0 ≢ Disk → IsStill (D.contents disk.old) (D.contents disk.new) × IsSettled (D.contents disk.new)) }
     ensures any_moment { D.tells → (bodies : List (List ℕ)) (pending : Option (List ℕ)) → IsImage [] bodies pending (D.contents disk.old).bytes
         → StopsLeave (D.contents disk.old) (D.contents disk.new) (IsWithin [] bodies (option_to_list pending)) }
-    ensures cause { HasOpenCause (D.faults disk.old) (D.faults disk.new) (answer_of result) }
+    ensures cause { HasOpenCause (D.faults disk.old) (D.faults disk.new) (answer_of (λ e. e.0) result) }
     ensures within { IfOk result (λ o. o.0 < 2 ^ 63) }
 {
     match disk.sync() {

@@ -1,8 +1,8 @@
 -- What the opening of a farm finds, from what the opening of its journal and its replay found.
-use Rattle.std.proofs.Common.{◌≡◌, ℕ, List, [], length, None, Err, refl, sym, ◌∙◌, subst, inl, inr}
+use Rattle.std.proofs.Common.{◌≡◌, ℕ, List, [], length, None, Ok, Err, refl, sym, ◌∙◌, ap, subst, inl, inr}
 use Rattle.disk_base.specs.Contents.{Contents as Disk, IsSettled}
 use Rattle.disk_journal.specs.Keeping.{IsReady}
-use Rattle.disk_journal.specs.Opening.{IsStill, ClosesGate}
+use Rattle.disk_journal.specs.Opening.{IsStill, ClosesGate, HasOpenCause}
 use Rattle.disk_journal.specs.Records.{Opens, IsDamagedBehind}
 use Rattle.disk_journal.proofs.AppendLemmas.{ready_image}
 use Rattle.disk_journal.proofs.LawLemmas.{opens_one, opens_whole, image_opens}
@@ -51,6 +51,26 @@ pub disk-first : (bodies : List (List ℕ)) (fault first : OpenFault) → IsFirs
 disk-first bodies (faults.Damaged at) first found is = cc
 disk-first bodies faults.NoMemory first found is = cc
 disk-first bodies faults.Disk first found is = found
+
+-- what calls of the disk an opening counts, where all was replayed, where a body was broken, and where the journal was not opened
+pub opened-cause : {T U : Type 0} (old now : ℕ) (journal : T) (farm : U) → HasOpenCause {T = T} old now (Ok journal) → HasOpenCause {T = U} old now (Ok farm)
+opened-cause old now journal farm opening = record { later = opening.later; failed = λ is. cc; kept = opening.kept; spared = λ fault other is. cc }
+
+pub restored-cause : {T U : Type 0} (old now : ℕ) (journal : T) (bodies : List (List ℕ)) (fault : OpenFault) → HasOpenCause {T = T} old now (Ok journal) → IsRestored bodies (Err fault) → HasOpenCause {T = U} old now (Err fault)
+restored-cause old now journal bodies fault opening restored = record {
+  later = opening.later;
+  failed = λ is. let disk : fault ≡ faults.Disk = cc in absurd (restored-no_disk bodies fault restored disk);
+  kept = tt;
+  spared = λ told other is. opening.kept;
+}
+
+pub first-cause : {T U : Type 0} (old now : ℕ) (bodies : List (List ℕ)) (fault first : OpenFault) → HasOpenCause {T = T} old now (Err fault) → IsFirstFault bodies fault first → HasOpenCause {T = U} old now (Err first)
+first-cause old now bodies fault first opening found = record {
+  later = opening.later;
+  failed = λ is. let disk : first ≡ faults.Disk = cc in opening.failed (ap Err (first-disk bodies fault first found disk));
+  kept = tt;
+  spared = λ told other is. let same : first ≡ told = cc in opening.spared fault (λ disk. other (sym same ∙ disk-first bodies fault first found disk)) refl;
+}
 
 -- a disk whose journal was not opened is as it was, and nothing is pending
 pub still-keeps : (old new : Disk) → IsStill old new → IsSettled new → KeepsRefused old new

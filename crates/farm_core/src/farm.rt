@@ -1,8 +1,9 @@
 //! The farm over a disk: what was acknowledged is on it.
 ghost use Rattle.std.specs.Prelude.{◌≡◌, ◌≢◌, ◌≤◌, ◌^◌, ◌-◌, false, true, ℕ, List, [], ◌++◌, length, Option, option_to_list, IfOk, IfErr};
-ghost use Rattle.causes.specs.Causes.{HasCause, Rose};
+ghost use Rattle.causes.specs.Causes.{HasCause};
 ghost use Rattle.disk_base.specs.Contents.{StopsLeave};
 ghost use Rattle.disk_journal.specs.Images.{IsImage, IsWithin};
+ghost use Rattle.disk_journal.specs.Opening.{HasOpenCause, answer_of};
 ghost use Rattle.disk_journal.specs.declared.fault.OpenFault.TheVariants.{Disk, Damaged};
 ghost use Rattle.farm_rows.specs.Contents.{Contents};
 ghost use Rattle.farm_rows.specs.Summary.{summary_of};
@@ -55,10 +56,7 @@ fn open_records<D: Disk>(alloc: Global, disk: D) -> Result<(Tables, Records<D>),
     ensures untouched { D.tells → IfErr result (λ e. e.0 ≢ Disk → KeepsRefused (D.contents disk) (D.contents e.1)) }
     ensures any_moment { D.tells → (bodies : List (List ℕ)) (pending : Option (List ℕ)) → IsImage [] bodies pending (D.contents disk).bytes
         → StopsLeave (D.contents disk) (D.contents (disk_left (λ o. o.1.disk) result)) (IsWithin [] bodies (option_to_list pending)) }
-    ensures cause { IfErr result (λ e. e.0 ≡ Disk → Rose (D.faults disk) (D.faults e.1)) }
-    ensures spared { IfErr result (λ e. e.0 ≢ Disk → D.faults e.1 ≡ D.faults disk) }
-    ensures later { D.faults disk ≤ D.faults (disk_left (λ o. o.1.disk) result) }
-    ensures kept { IfOk result (λ o. D.faults o.1.disk ≡ D.faults disk) }
+    ensures cause { HasOpenCause (D.faults disk) (D.faults (disk_left (λ o. o.1.disk) result)) (answer_of (λ e. e.0) result) }
 {
     let (journal, bodies) = match Journal::open(alloc, disk) {
         Ok((journal, bodies)) => (journal, bodies),
@@ -89,10 +87,7 @@ impl<D: Disk> Farm<D> {
         ensures untouched { D.tells → IfErr result (λ e. e.0 ≢ Disk → KeepsRefused (D.contents disk) (D.contents e.1)) }
         ensures any_moment { D.tells → (bodies : List (List ℕ)) (pending : Option (List ℕ)) → IsImage [] bodies pending (D.contents disk).bytes
             → StopsLeave (D.contents disk) (D.contents (disk_left (λ farm. farm.records.disk) result)) (IsWithin [] bodies (option_to_list pending)) }
-        ensures cause { IfErr result (λ e. e.0 ≡ Disk → Rose (D.faults disk) (D.faults e.1)) }
-        ensures spared { IfErr result (λ e. e.0 ≢ Disk → D.faults e.1 ≡ D.faults disk) }
-        ensures later { D.faults disk ≤ D.faults (disk_left (λ farm. farm.records.disk) result) }
-        ensures kept { IfOk result (λ farm. D.faults farm.records.disk ≡ D.faults disk) }
+        ensures cause { HasOpenCause (D.faults disk) (D.faults (disk_left (λ farm. farm.records.disk) result)) (answer_of (λ e. e.0) result) }
     {
         match open_records(alloc, disk) {
             Ok((tables, records)) => Ok(Farm {

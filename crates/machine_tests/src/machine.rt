@@ -134,17 +134,22 @@ struct Row<'a> {
     wanted: &'a str,
 }
 
+/// What stands before the first bar of a text, and what behind it: all of it and nothing, where it has none.
+fn cut(text: &str) -> (&str, &str) {
+    text.split_once('|').unwrap_or((text, ""))
+}
+
 /// The parts of a row, which bars cut.
-fn parts(row: &str) -> Result<Row<'_>, Fail> {
-    let (after, rest) = row.split_once('|').ok_or("a moment")?;
-    let (header, rest) = rest.split_once('|').ok_or("a header")?;
-    let (word, wanted) = rest.split_once('|').ok_or("a call")?;
-    Ok(Row {
+fn parts(row: &str) -> Row<'_> {
+    let (after, rest) = cut(row);
+    let (header, rest) = cut(rest);
+    let (word, wanted) = cut(rest);
+    Row {
         after,
         header,
         word,
         wanted,
-    })
+    }
 }
 
 /// Whether a reply is this one, or begins so, where a star stands at its end.
@@ -157,7 +162,7 @@ fn is_as(reply: &str, wanted: &str) -> bool {
 
 /// Whether the call of a row is answered as it says.
 fn is_answered(alloc: Global, tables: &mut Tables, farm: &Config, row: &str) -> Result<bool, Fail> {
-    let row = parts(row)?;
+    let row = parts(row);
     let reply = reply_to(alloc, tables, farm, row)?;
     Ok(is_as(reply.as_str(), row.wanted))
 }

@@ -1,7 +1,7 @@
 //! Calls that clients sign, over connections in memory. The MACs and the hash were made by Python's hmac and hashlib.
 //!
 //! A line begins with the client's id, the attributes of the header that may be left out, and the MAC; the rest of it is a row.
-use super::rows::{Row, body_of, replies, row_of};
+use super::rows::{Row, body_of, cut, replies, row_of};
 use super::tasks::{CREATED, THREE_SCOPES};
 use super::*;
 use crate::configs::{granted, of_parts, scopes};
@@ -23,11 +23,11 @@ struct Signature<'a> {
 }
 
 /// The signature of a line, and its row.
-fn signed(line: &str) -> Option<(Signature<'_>, Row<'_>)> {
-    let (id, rest) = line.split_once('|')?;
-    let (more, rest) = rest.split_once('|')?;
-    let (mac, rest) = rest.split_once('|')?;
-    Some((Signature { id, more, mac }, row_of(rest)?))
+fn signed(line: &str) -> (Signature<'_>, Row<'_>) {
+    let (id, rest) = cut(line);
+    let (more, rest) = cut(rest);
+    let (mac, rest) = cut(rest);
+    (Signature { id, more, mac }, row_of(rest))
 }
 
 /// The bytes of a request that is signed so.
@@ -108,7 +108,7 @@ fn farm(alloc: Global) -> Result<Solo<Bare>, Fail> {
 
 /// Whether a desk gives the reply of a line to its call.
 fn is_answered(alloc: Global, desk: &mut Solo<Bare>, line: &str) -> Result<bool, Fail> {
-    let (by, row) = signed(line).ok_or("a row")?;
+    let (by, row) = signed(line);
     let request = request_of(alloc, &by, &row)?;
     replies(alloc, desk, &row, request.as_str())
 }

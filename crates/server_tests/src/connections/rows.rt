@@ -19,19 +19,24 @@ pub(super) struct Row<'a> {
     reply: &'a str,
 }
 
+/// What stands before the first bar of a text, and what behind it: all of it and nothing, where it has none.
+pub(super) fn cut(text: &str) -> (&str, &str) {
+    text.split_once('|').unwrap_or((text, ""))
+}
+
 /// The row of a line.
-pub(super) fn row_of(line: &str) -> Option<Row<'_>> {
-    let (at, rest) = line.split_once('|')?;
-    let (request, rest) = rest.split_once('|')?;
-    let (body, rest) = rest.split_once('|')?;
-    let (status, reply) = rest.split_once('|')?;
-    Some(Row {
+pub(super) fn row_of(line: &str) -> Row<'_> {
+    let (at, rest) = cut(line);
+    let (request, rest) = cut(rest);
+    let (body, rest) = cut(rest);
+    let (status, reply) = cut(rest);
+    Row {
         at,
         request,
         body,
         status,
         reply,
-    })
+    }
 }
 
 /// When the request of a row comes.
@@ -121,7 +126,7 @@ fn is_answered(alloc: Global, desk: &mut Solo<Bare>, row: &Row) -> Result<bool, 
 /// The first line of a conversation that is answered otherwise, or `none`.
 fn first_other<'a>(alloc: Global, desk: &mut Solo<Bare>, talk: &'a str) -> Result<&'a str, Fail> {
     for line in talk.split('\n') {
-        let row = row_of(line).ok_or("a row")?;
+        let row = row_of(line);
         if !is_answered(alloc, desk, &row)? {
             return Ok(line);
         }

@@ -1,4 +1,4 @@
-use Rattle.std.proofs.Common.{refl, ◌∙◌, inl, inr}
+use Rattle.std.proofs.Common.{Err, refl, ap, ◌∙◌, inl, inr}
 use Rattle.farm_cli.specs.Views.{views_of}
 use Rattle.farm_cli.proofs.RunLemmas.{IsRefusedFor-by}
 use Rattle.farm_cli.proofs.disks.open_farm.Goals as goal
@@ -23,7 +23,7 @@ returns-in-Ok-open-clause-opened g c = record {
   lends = c.in-Ok.ensures.lends;
   config_is = c.in-Ok-open.ensures.state.0;
   at_work = c.in-Ok-open.ensures.state.1;
-  kept = c.in-Ok-open.ensures.kept;
+  kept = c.in-Ok-open.ensures.cause.kept;
   opened = c.in-Ok-open.ensures.opened;
 }
 
@@ -38,7 +38,7 @@ returns-in-Err-open-clause-opened g c =
       back = c.in-Err-open.disk;
       disk = record { could = c.in-Ok.ensures.opens; returned = rw (takes, gives) refl };
       fault = c.in-Err-open.fault;
-      why = IsRefusedFor-by (views_of g.H.File.Source g.H.Store.Disk g.H.Console.Link g.H.Notes.Sink g.H.Time.Clock g.H.Ids.Draws g.H.Door.Listener) c.in-Ok.disk c.in-Err-open.disk c.in-Err-open.fault c.in-Err-open.ensures.cause c.in-Err-open.ensures.spared (λ tells place is. c.in-Err-open.ensures.damaged tells place is);
+      why = IsRefusedFor-by (views_of g.H.File.Source g.H.Store.Disk g.H.Console.Link g.H.Notes.Sink g.H.Time.Clock g.H.Ids.Draws g.H.Door.Listener) c.in-Ok.disk c.in-Err-open.disk c.in-Err-open.fault (λ is. c.in-Err-open.ensures.cause.failed (ap Err is)) (λ other. c.in-Err-open.ensures.cause.spared c.in-Err-open.fault other refl) (λ tells place is. c.in-Err-open.ensures.damaged tells place is);
       stops = λ tells bodies pending image. c.in-Err-open.ensures.any_moment tells bodies pending image;
       untouched = λ tells other. c.in-Err-open.ensures.untouched tells other;
       status_is = c.by_fault.ensures;
