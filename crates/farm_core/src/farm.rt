@@ -1,6 +1,6 @@
 //! The farm over a disk: what was acknowledged is on it.
 ghost use Rattle.std.specs.Prelude.{◌≡◌, ◌≢◌, ◌≤◌, ◌^◌, ◌-◌, false, true, ℕ, List, [], ◌++◌, length, Option, option_to_list, IfOk, IfErr};
-ghost use Rattle.causes.specs.Causes.{HasCause};
+ghost use Rattle.causes.specs.Causes.{HasCause, Rose};
 ghost use Rattle.disk_base.specs.Contents.{StopsLeave};
 ghost use Rattle.disk_journal.specs.Images.{IsImage, IsWithin};
 ghost use Rattle.disk_journal.specs.Opening.{HasOpenCause, answer_of};
