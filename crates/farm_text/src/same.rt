@@ -11,14 +11,13 @@ use std::collections::BTreeMap;
 pub fn same_doc(a: &Doc, b: &Doc) -> bool
     ensures { IsTrue result ↔ (document a.now ≡ document b.now) }
 {
-    match (a, b) {
-        (Doc::Null, Doc::Null) => true,
-        (Doc::Bool(x), Doc::Bool(y)) => x == y,
-        (Doc::Int(x), Doc::Int(y)) => x == y,
-        (Doc::Text(x), Doc::Text(y)) => x.as_str() == y.as_str(),
-        (Doc::List(xs), Doc::List(ys)) => same_items(xs, ys),
-        (Doc::Map(xs), Doc::Map(ys)) => same_members(xs, ys),
-        _ => false,
+    match a {
+        Doc::Null => matches!(b, Doc::Null),
+        Doc::Bool(x) => matches!(b, Doc::Bool(y) if x == y),
+        Doc::Int(x) => matches!(b, Doc::Int(y) if x == y),
+        Doc::Text(x) => matches!(b, Doc::Text(y) if x.as_str() == y.as_str()),
+        Doc::List(xs) => matches!(b, Doc::List(ys) if same_items(xs, ys)),
+        Doc::Map(xs) => matches!(b, Doc::Map(ys) if same_members(xs, ys)),
     }
 }
 

@@ -1,5 +1,6 @@
 //! The functions that an expression may call.
 ghost use Rattle.std.specs.Prelude.{◌≡◌};
+ghost use Rattle.std.specs.Str.{bytes_eq};
 ghost use Rattle.jsone_expr.specs.Functions.{function_of};
 
 /// A function of the language.
@@ -29,25 +30,49 @@ impl Function {
     pub fn from_name(name: &[u8]) -> Option<Function>
         ensures { result ≡ function_of name.now }
     {
-        match name {
-            b"min" => Some(Function::Min),
-            b"max" => Some(Function::Max),
-            b"abs" => Some(Function::Abs),
-            b"len" => Some(Function::Len),
-            b"str" => Some(Function::Str),
-            b"number" => Some(Function::Number),
-            b"lowercase" => Some(Function::Lowercase),
-            b"uppercase" => Some(Function::Uppercase),
-            b"strip" => Some(Function::Strip),
-            b"lstrip" => Some(Function::StripLeft),
-            b"rstrip" => Some(Function::StripRight),
-            b"split" => Some(Function::Split),
-            b"join" => Some(Function::Join),
-            b"range" => Some(Function::Range),
-            b"typeof" => Some(Function::TypeOf),
-            b"defined" => Some(Function::Defined),
-            b"fromNow" => Some(Function::FromNow),
-            _ => None,
+        if is(name, "min") {
+            Some(Function::Min)
+        } else if is(name, "max") {
+            Some(Function::Max)
+        } else if is(name, "abs") {
+            Some(Function::Abs)
+        } else if is(name, "len") {
+            Some(Function::Len)
+        } else if is(name, "str") {
+            Some(Function::Str)
+        } else if is(name, "number") {
+            Some(Function::Number)
+        } else if is(name, "lowercase") {
+            Some(Function::Lowercase)
+        } else if is(name, "uppercase") {
+            Some(Function::Uppercase)
+        } else if is(name, "strip") {
+            Some(Function::Strip)
+        } else if is(name, "lstrip") {
+            Some(Function::StripLeft)
+        } else if is(name, "rstrip") {
+            Some(Function::StripRight)
+        } else if is(name, "split") {
+            Some(Function::Split)
+        } else if is(name, "join") {
+            Some(Function::Join)
+        } else if is(name, "range") {
+            Some(Function::Range)
+        } else if is(name, "typeof") {
+            Some(Function::TypeOf)
+        } else if is(name, "defined") {
+            Some(Function::Defined)
+        } else if is(name, "fromNow") {
+            Some(Function::FromNow)
+        } else {
+            None
         }
     }
+}
+
+/// Whether a name is this word.
+fn is(name: &[u8], word: &str) -> bool
+    ensures { result ≡ bytes_eq name.now word.now }
+{
+    name == word.as_bytes()
 }

@@ -2,6 +2,7 @@
 ghost use Rattle.std.specs.Prelude.{◌≡◌, ℕ, ℤ, Bool, Option, Some, min, take, drop, slice_index, true, false, MatchOption, option_map};
 ghost use Rattle.std.specs.Char.{is_ascii_digit, is_ascii_alphabetic};
 ghost use Rattle.std.specs.List.{prefix_len};
+ghost use Rattle.std.specs.Str.{bytes_eq};
 ghost use Rattle.farm_text.specs.Doc.{document};
 ghost use Rattle.jsone_values.specs.Letters.{is_space};
 ghost use Rattle.jsone_values.specs.Meets.{Meets};
@@ -27,26 +28,26 @@ const SECOND: u64 = 1_000;
 fn unit_of(word: &[u8]) -> Option<u64>
     ensures { result ≡ unit_of word.now }
 {
-    match word {
-        b"weeks" => Some(WEEK),
-        b"week" => Some(WEEK),
-        b"w" => Some(WEEK),
-        b"days" => Some(DAY),
-        b"day" => Some(DAY),
-        b"d" => Some(DAY),
-        b"hours" => Some(HOUR),
-        b"hour" => Some(HOUR),
-        b"h" => Some(HOUR),
-        b"minutes" => Some(MINUTE),
-        b"minute" => Some(MINUTE),
-        b"min" => Some(MINUTE),
-        b"m" => Some(MINUTE),
-        b"seconds" => Some(SECOND),
-        b"second" => Some(SECOND),
-        b"sec" => Some(SECOND),
-        b"s" => Some(SECOND),
-        _ => None,
+    if is(word, "weeks") || is(word, "week") || is(word, "w") {
+        Some(WEEK)
+    } else if is(word, "days") || is(word, "day") || is(word, "d") {
+        Some(DAY)
+    } else if is(word, "hours") || is(word, "hour") || is(word, "h") {
+        Some(HOUR)
+    } else if is(word, "minutes") || is(word, "minute") || is(word, "min") || is(word, "m") {
+        Some(MINUTE)
+    } else if is(word, "seconds") || is(word, "second") || is(word, "sec") || is(word, "s") {
+        Some(SECOND)
+    } else {
+        None
     }
+}
+
+/// Whether a word is this name.
+fn is(word: &[u8], name: &str) -> bool
+    ensures { result ≡ bytes_eq word.now name.now }
+{
+    word == name.as_bytes()
 }
 
 fn is_space(byte: u8) -> bool
