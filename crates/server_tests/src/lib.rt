@@ -1,4 +1,5 @@
-//! Tests of one connection to a farm in memory: of `farm_server`, and of the calls of a farm in their order.
+//! Tests of connections to a farm in memory: of one (`farm_server`), with the calls of a farm in their order, and of many workers and their doors
+//! over sockets (`farm_serving`).
 //!
 //! They stand in a crate of their own since the gate proves a crate's tests together with the crate: here it proves the tests alone.
 #![tactic(auto)]
@@ -7,3 +8,7 @@
 mod configs;
 #[cfg(test)]
 mod connections;
+#[cfg(test)]
+mod sockets;
+#[cfg(test)]
+mod workers;

@@ -1,0 +1,17 @@
+//! Tests of a farm below its connections: of the machine (`farm_machine`), the farm file (`farm_files`), the farm in memory and over disks
+//! (`farm_core`), and of which call a message makes (`api_routes`).
+//!
+//! They stand in a crate of their own since the gate proves a crate's tests together with the crate: here it proves the tests alone. They are
+//! one crate, since each crate so high up reads all libraries below it anew.
+#![tactic(auto)]
+
+#[cfg(test)]
+mod farms;
+#[cfg(test)]
+mod files;
+#[cfg(test)]
+mod hook_files;
+#[cfg(test)]
+mod machine;
+#[cfg(test)]
+mod routes;
