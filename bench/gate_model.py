@@ -30,7 +30,7 @@ TESTS = {
     "history": 0.4,
 }
 # An edit over what its crate's seed, a proof of the crate, has left.
-EDIT = 0.7
+EDIT = 0.3
 # What a check gains from more jobs.
 GAIN = {1: 1, 2: 1.6, 3: 2.0, 4: 2.3}
 
