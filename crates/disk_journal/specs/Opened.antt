@@ -16,8 +16,8 @@ opened_bodies b = bodies_in b.file.items b.spans.items
 abbrev pub opened_places : Bodies → List (ℕ × List ℕ)
 opened_places b = places_in b.file.items b.spans.items
 
--- A journal was opened: what was found are the bodies that its file opens to, each at its place; behind them, at the end place, the gate is closed,
--- and nothing else was written.
+-- A journal was opened: each body that was found stands at its place, and the end place behind them; and where the disk tells what it holds, they
+-- are the bodies that its file opens to, ready, and nothing but the gate at the end place was written.
 pub record HasFound (tells : Type 0) (file : List ℕ) (disk : Contents) (end : ℕ) (found : Bodies) : Type 0 where
   pub opens : tells → Opens [] file (opened_bodies found)
   pub places : opened_places found ≡ placed 0 (opened_bodies found)
@@ -25,7 +25,8 @@ pub record HasFound (tells : Type 0) (file : List ℕ) (disk : Contents) (end : 
   pub place : end ≡ length (records (opened_bodies found))
   pub gate : tells → ClosesGate file end disk.bytes
 
--- A journal was not opened: where it is damaged, the bodies before the damage are handed back, each at its place; else none.
+-- A journal was not opened: beside a fault that is no damage there are no bodies, and else each stands at its place; and where the disk tells what
+-- it holds, the damage is the file's, and they are the bodies before it.
 pub record HasBefore (tells : Type 0) (file : List ℕ) (fault : OpenFault) (before : Bodies) : Type 0 where
   pub damaged : tells → (place : ℕ) → fault ≡ Damaged place → IsDamagedBehind [] file (opened_bodies before) place
   pub undamaged : ((place : ℕ) → fault ≢ Damaged place) → opened_bodies before ≡ []
