@@ -1,5 +1,5 @@
 -- What a connection leaves of its link.
-use Rattle.std.proofs.Common.{◌≡◌, ℕ, Bool, true, false, List, [], ◌++◌, Option, Some, None, IfSome, Result, Ok, Err, length, take, drop, refl, sym, ◌∙◌, ap, append_assoc, take-append-drop}
+use Rattle.std.proofs.Common.{◌≡◌, ℕ, Bool, true, false, List, [], ◌∷◌, ◌++◌, Option, Some, None, IfSome, Result, Ok, Err, length, take, drop, refl, sym, ◌∙◌, ap, arith, append_assoc, take-append-drop}
 use Rattle.std.specs.Prelude.{nat_le, if◌then◌else◌}
 use Rattle.std.specs.Io.KnownBytes.{prepend_known}
 use Rattle.std.proofs.KnownBytes.{Consumes-nil, Consumes-trans}
@@ -10,9 +10,11 @@ use Rattle.http_wire.specs.declared.message.Wire.TheVariants as wire
 use Rattle.http_wire.specs.Framing.{named_fields, body_length}
 use Rattle.http_wire.specs.Head.{message, fault, too_large, ended, inside}
 use Rattle.http_wire.specs.Message.{message_of}
+use Rattle.http_wire.specs.Needed.{LosesUnfinished, LosesFew, TakesTo, TakesInto}
 use Rattle.http_wire.specs.Reading.{Loses, Leaves}
 use Rattle.http_wire.specs.Stream.{whole, stops, with_body, Gives, TakesOne}
 use Rattle.http_wire.proofs.KnownLemmas.{Loses-none}
+use Rattle.http_wire.proofs.NeededLemmas.{none_unfinished}
 
 -- nothing was read
 pub Loses-nothing : (left : Option (List ℕ)) → Loses left left
@@ -70,3 +72,36 @@ Loses-stopped before now wire.NoMemory leaves = Loses-none before now leaves
 pub IfSome-each : (left : Option (List ℕ)) (P : List ℕ → Type 0) → ((bytes : List ℕ) → P bytes) → IfSome left P
 IfSome-each None P each = tt
 IfSome-each (Some bytes) P each = each bytes
+
+-- ---- what was taken was needed
+
+-- nothing was read for an unfinished message
+pub LosesUnfinished-nothing : (left : Option (List ℕ)) → LosesUnfinished left left
+LosesUnfinished-nothing left = record { seen = []; last = []; lost = Consumes-nil left; unfinished = none_unfinished; piece = omega arith }
+
+-- what is lost is some bytes, few or not
+pub Loses-few : (before now : Option (List ℕ)) → LosesFew before now → Loses before now
+Loses-few before now few = (few.0, few.1)
+
+-- no message was asked, and an unfinished one was taken
+pub TakesInto-none : (stream left : Option (List ℕ)) → LosesUnfinished stream left → IfSome stream (λ bytes. TakesInto bytes [] left)
+TakesInto-none None left needed = tt
+TakesInto-none (Some bytes) left needed = (bytes, refl, needed)
+
+-- no message was asked, and what is held behind the ones before is few
+pub TakesTo-none : (stream left : Option (List ℕ)) → LosesFew stream left → IfSome stream (λ bytes. TakesTo bytes [] left)
+TakesTo-none None left few = tt
+TakesTo-none (Some bytes) left few = (bytes, refl, few)
+
+-- one message was asked, and few bytes are taken behind it
+pub TakesTo-one : (stream rest left : Option (List ℕ)) (m : Message) → TakesOne stream m rest → LosesFew rest left → IfSome stream (λ bytes. TakesTo bytes (m ∷ []) left)
+TakesTo-one None rest left m takes few = tt
+TakesTo-one (Some bytes) None left m takes few = absurd takes
+TakesTo-one (Some bytes) (Some rest) left m takes few = (rest, (rest, takes, refl), few)
+
+-- the same of the messages after one
+pub TakesTo-more : (bytes rest : List ℕ) (m : Message) (ms : List Message) (left : Option (List ℕ)) → Gives bytes (whole m rest) → TakesTo rest ms left → TakesTo bytes (m ∷ ms) left
+TakesTo-more bytes rest m ms left gives (after, follows, few) = (after, (rest, gives, follows), few)
+
+pub TakesInto-more : (bytes rest : List ℕ) (m : Message) (ms : List Message) (left : Option (List ℕ)) → Gives bytes (whole m rest) → TakesInto rest ms left → TakesInto bytes (m ∷ ms) left
+TakesInto-more bytes rest m ms left gives (after, follows, needed) = (after, (rest, gives, follows), needed)

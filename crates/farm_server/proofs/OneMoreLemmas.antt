@@ -19,7 +19,7 @@ use Rattle.farm_server.specs.declared.gate.When.TheVariants.{Asked, Answered}
 use Rattle.farm_server.specs.declared.served.Served.{Served}
 use Rattle.farm_server.specs.declared.served.Served.TheVariants.{Closed, EndedInside, WireFault, ReadFault, WriteFault, Full, NoMemory}
 use Rattle.farm_server.specs.declared.served.TheConstants.{REQUESTS}
-use Rattle.farm_server.proofs.LeftLemmas.{Loses-then, Loses-message}
+use Rattle.farm_server.proofs.LeftLemmas.{Loses-then, Loses-message, TakesTo-more, TakesInto-more}
 
 -- without room there is no message
 Messages-no_room : (bytes : List ℕ) (ms : List Message) (e : Ending) → Messages 0 bytes ms e → (ms ≡ []) × (e ≡ full)
@@ -105,14 +105,17 @@ refused-more room (Some bytes) (Some rest) m ms reason some takes goes_on others
 -- what is left at the end of the messages after one is left at the end of all
 LeavesAtEnd-more : (room : ℕ) (bytes rest : List ℕ) (m : Message) (ms : List Message) (now : Option (List ℕ)) (served : Served) → 0 < room → Gives bytes (whole m rest) → (m.closes ≡ false) ⊎ (room ≡ 1) → LeavesAtEnd (room - 1) rest ms now served → LeavesAtEnd room bytes (m ∷ ms) now served
 LeavesAtEnd-more room bytes rest m ms now Closed some gives goes_on (inl others) =
-    inl (Messages-more room bytes rest m ms closed m.closes some refl gives goes_on others)
-LeavesAtEnd-more room bytes rest m ms now Closed some gives goes_on (inr at_end) = inr at_end
+    inl (Messages-more room bytes rest m ms closed m.closes some refl gives goes_on others.0, TakesTo-more bytes rest m ms now gives others.1)
+LeavesAtEnd-more room bytes rest m ms now Closed some gives goes_on (inr others) =
+    inr (Messages-more room bytes rest m ms (stopped wire.End) m.closes some refl gives goes_on others.0, others.1)
 LeavesAtEnd-more room bytes rest m ms now EndedInside some gives goes_on at_end = at_end
-LeavesAtEnd-more room bytes rest m ms now Full some gives goes_on others = tt
-LeavesAtEnd-more room bytes rest m ms now (WireFault reason) some gives goes_on others = tt
-LeavesAtEnd-more room bytes rest m ms now ReadFault some gives goes_on others = tt
-LeavesAtEnd-more room bytes rest m ms now WriteFault some gives goes_on others = tt
-LeavesAtEnd-more room bytes rest m ms now NoMemory some gives goes_on others = tt
+LeavesAtEnd-more room bytes rest m ms now Full some gives goes_on others = TakesTo-more bytes rest m ms now gives others
+LeavesAtEnd-more room bytes rest m ms now (WireFault reason) some gives goes_on others = TakesInto-more bytes rest m ms now gives others
+LeavesAtEnd-more room bytes rest m ms now ReadFault some gives goes_on others = TakesInto-more bytes rest m ms now gives others
+LeavesAtEnd-more room bytes rest m ms now WriteFault some gives goes_on (inl others) = inl (TakesTo-more bytes rest m ms now gives others)
+LeavesAtEnd-more room bytes rest m ms now WriteFault some gives goes_on (inr (reason, refused, others, into)) =
+    inr (reason, refused, Messages-more room bytes rest m ms (stopped reason) m.closes some refl gives goes_on others, TakesInto-more bytes rest m ms now gives into)
+LeavesAtEnd-more room bytes rest m ms now NoMemory some gives goes_on others = TakesInto-more bytes rest m ms now gives others
 
 ended-more : (room : ℕ) (left next now : Option (List ℕ)) (m : Message) (ms : List Message) (served : Served) → 0 < room → TakesOne left m next → (m.closes ≡ false) ⊎ (room ≡ 1) → IfSome next (λ bytes. LeavesAtEnd (room - 1) bytes ms now served) → IfSome left (λ bytes. LeavesAtEnd room bytes (m ∷ ms) now served)
 ended-more room None next now m ms served some takes goes_on others = tt

@@ -11,6 +11,7 @@ use Rattle.http_wire.specs.declared.link.Link as links
 use Rattle.http_wire.specs.declared.message.Message.{Message}
 use Rattle.http_wire.specs.declared.message.Wire.{Wire}
 use Rattle.http_wire.specs.declared.message.Wire.TheVariants as wire
+use Rattle.http_wire.specs.Needed.{TakesTo, TakesInto}
 use Rattle.http_wire.specs.Reading.{Loses}
 use Rattle.http_wire.specs.Stream.{whole, Gives, Messages, stopped, closed, full}
 use Rattle.http_wire.specs.Whole.{IsProperFrontOf}
@@ -109,11 +110,16 @@ EndsAs room bytes messages ReadFault = IsOpenFront room bytes messages
 EndsAs room bytes messages WriteFault = IsFront room bytes messages
 EndsAs room bytes messages NoMemory = IsOpenFront room bytes messages
 
--- What is left to read where a connection ended so: nothing where the stream ended, before a message or inside one. Behind a last message that closes may be any bytes.
+-- What is left to read where a connection ended so: nothing where the stream ended, before a message or inside one; all but less than a piece behind
+-- the messages that were asked where it ended with the last of them, or its reply could not be written; else all but an unfinished message and a piece behind them.
 abbrev pub LeavesAtEnd : ℕ → List ℕ → List Message → Option (List ℕ) → Served → Type 0
-LeavesAtEnd room bytes messages left Closed = Messages room bytes messages closed ⊎ IsAtEnd left
+LeavesAtEnd room bytes messages left Closed =
+    (Messages room bytes messages closed × TakesTo bytes messages left) ⊎ (Messages room bytes messages (stopped wire.End) × IsAtEnd left)
 LeavesAtEnd room bytes messages left EndedInside = IsAtEnd left
-LeavesAtEnd room bytes messages left served = Unit {0}
+LeavesAtEnd room bytes messages left Full = TakesTo bytes messages left
+LeavesAtEnd room bytes messages left WriteFault =
+    TakesTo bytes messages left ⊎ ((reason : Wire) × (is_refused reason ≡ true) × Messages room bytes messages (stopped reason) × TakesInto bytes messages left)
+LeavesAtEnd room bytes messages left served = TakesInto bytes messages left
 
 -- What a gate is told of asks, with room for so many messages: of each in turn that it is asked, and then that it is answered. The place of one is how many a connection had before it.
 abbrev pub told_of : ℕ → List Ask → List When

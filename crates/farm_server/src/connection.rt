@@ -1,6 +1,7 @@
 //! One connection, message by message.
-ghost use Rattle.std.specs.Prelude.{◌≡◌, ◌-◌, ◌<◌, ◌≤◌};
+ghost use Rattle.std.specs.Prelude.{◌≡◌, ◌-◌, ◌<◌, ◌≤◌, length, IsNone};
 ghost use Rattle.std.specs.Io.KnownBytes.{prepend_known};
+ghost use Rattle.http_wire.specs.Whole.{piece_size};
 ghost use Rattle.farm_asks.specs.Questions.{IsSaidCall};
 ghost use Rattle.farm_server.specs.Served.{outside_of, Serves};
 ghost use Rattle.farm_server.specs.Turn.{telling_of, AsksOnce, Ends, Refuses, Turns};
@@ -21,7 +22,9 @@ use route_table::Table;
 use std::alloc::Global;
 
 /// Serves one connection: takes requests from the link (RFC 9112), asks the desk each of them, and writes the replies in
-/// order, until the stream ends, a request closes it (section 9.6), or a thousand were answered.
+/// order, until the stream ends, a request closes it (section 9.6), or a thousand were answered. The link is read only
+/// while a request is not there whole, and once the reply to the one before is written; what is read beyond a request is
+/// less than a piece of 8,192 bytes.
 ///
 /// For each request the clock is read once, one id is drawn and the desk is asked once, so a desk that has a thousand asks
 /// left is needed. The gate is told of each request in turn, before the desk is asked and after the reply is written, but
@@ -118,7 +121,9 @@ fn turn<
 ) -> Option<Served>
     requires within { place < REQUESTS }
     requires spare { 0 < K.spare desk.old }
+    requires held { length reader.old < piece_size }
     ensures home { K.home desk.new ≡ K.home desk.old }
+    ensures held { IsNone result → length reader.new < piece_size }
     ensures turns { Turns (REQUESTS - place)
         (record { stands = K.stands desk.old; spare = K.spare desk.old })
         (record { stands = K.stands desk.new; spare = K.spare desk.new })

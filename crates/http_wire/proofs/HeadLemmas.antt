@@ -119,7 +119,7 @@ HasHead-append s more h rest head = record { reads = ReadsRequest-append s h res
 
 -- ---- undecided lines
 
-take_past : (p rest : List ℕ) (n : ℕ) → length p ≤ n → take n (p ++ rest) ≡ p ++ take (n - length p) rest
+pub take_past : (p rest : List ℕ) (n : ℕ) → length p ≤ n → take n (p ++ rest) ≡ p ++ take (n - length p) rest
 take_past p rest n le =
     let same : n ≡ length p + (n - length p) = omega arith in
     ap (λ k. take k (p ++ rest)) same ∙ take-append-add p rest (n - length p)

@@ -3,6 +3,7 @@ pub mod HeadLemmas
 pub mod HeldLemmas
 pub mod KnownLemmas
 pub mod MoveLemmas
+pub mod NeededLemmas
 pub mod StreamLemmas
 pub mod StreamLaws
 pub mod Taken

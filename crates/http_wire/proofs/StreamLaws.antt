@@ -9,7 +9,8 @@ use Rattle.http_wire.specs.Head.{head_limit, IsOpen, HasHead, HasFault, Next, me
 use Rattle.std.proofs.lemmas.Bool.{cases_lt}
 use Rattle.std.proofs.lemmas.Bool.Decides.{nat_tests}
 use Rattle.http_wire.specs.Stream.{Outcome, whole, stops, finish, Gives, Ending, stopped, closed, full, closing, Messages, TakesOne, is_of_stream, Stops}
-use Rattle.http_wire.proofs.Taken.{Takes, TakesKnown, NoneCloses}
+use Rattle.http_wire.specs.Needed.{AreFollowedBy}
+use Rattle.http_wire.proofs.Taken.{TakesKnown, NoneCloses}
 
 -- a head and a fault exclude each other
 head_no_fault : (bytes : List ℕ) (h : RequestHead) (rest : List ℕ) (n : ℕ) → HasHead bytes h rest → HasFault bytes n → ⊥
@@ -128,13 +129,13 @@ some_messages (suc room) bytes none = some_outcome bytes (by_outcome room bytes 
 -- ---- a list of messages, one message at a time
 
 -- one more message
-pub Takes-push : (bytes : List ℕ) (ms : List Message) (rest : List ℕ) (m : Message) (after : List ℕ) → Takes bytes ms rest → Gives rest (whole m after)
-    → Takes bytes (ms ++ m ∷ []) after
-Takes-push bytes [] rest m after took gives = (after, subst (λ b. Gives b (whole m after)) took gives, refl)
-Takes-push bytes (n ∷ ms) rest m after (next, first, took) gives = (next, first, Takes-push next ms rest m after took gives)
+pub AreFollowedBy-push : (bytes : List ℕ) (ms : List Message) (rest : List ℕ) (m : Message) (after : List ℕ) → AreFollowedBy bytes ms rest → Gives rest (whole m after)
+    → AreFollowedBy bytes (ms ++ m ∷ []) after
+AreFollowedBy-push bytes [] rest m after took gives = (after, subst (λ b. Gives b (whole m after)) took gives, refl)
+AreFollowedBy-push bytes (n ∷ ms) rest m after (next, first, took) gives = (next, first, AreFollowedBy-push next ms rest m after took gives)
 
 -- messages that do not close, and then the reason why there is no further one
-pub Messages-stopped : (room : ℕ) (bytes : List ℕ) (ms : List Message) (rest : List ℕ) (wire : Wire) → Takes bytes ms rest → NoneCloses ms → length ms < room
+pub Messages-stopped : (room : ℕ) (bytes : List ℕ) (ms : List Message) (rest : List ℕ) (wire : Wire) → AreFollowedBy bytes ms rest → NoneCloses ms → length ms < room
     → Gives rest (stops wire) → Messages room bytes ms (stopped wire)
 Messages-stopped room bytes [] rest wire took none fits gives =
     inr (fits, (wire, subst (λ b. Gives b (stops wire)) took gives, refl))
@@ -149,7 +150,7 @@ Messages-stopped room bytes (m ∷ ms) rest wire (next, first, took) (open_, non
 )
 
 -- as many messages as there is room for, none of which closes
-pub Messages-full : (room : ℕ) (bytes : List ℕ) (ms : List Message) (rest : List ℕ) → Takes bytes ms rest → NoneCloses ms → length ms ≡ room → Messages room bytes ms full
+pub Messages-full : (room : ℕ) (bytes : List ℕ) (ms : List Message) (rest : List ℕ) → AreFollowedBy bytes ms rest → NoneCloses ms → length ms ≡ room → Messages room bytes ms full
 Messages-full room bytes [] rest took none fits = inl (sym fits, refl)
 Messages-full room bytes (m ∷ ms) rest (next, first, took) (open_, none) fits = (
   omega arith,
@@ -162,7 +163,7 @@ Messages-full room bytes (m ∷ ms) rest (next, first, took) (open_, none) fits 
 )
 
 -- messages that do not close, and then one that does
-pub Messages-closed : (room : ℕ) (bytes : List ℕ) (ms : List Message) (rest : List ℕ) (m : Message) (after : List ℕ) → Takes bytes ms rest → NoneCloses ms → length ms < room
+pub Messages-closed : (room : ℕ) (bytes : List ℕ) (ms : List Message) (rest : List ℕ) (m : Message) (after : List ℕ) → AreFollowedBy bytes ms rest → NoneCloses ms → length ms < room
     → Gives rest (whole m after) → m.closes ≡ true → Messages room bytes (ms ++ m ∷ []) (closing (room - (length ms + 1)))
 Messages-closed room bytes [] rest m after took none fits gives closes_ = (
   fits,
@@ -199,7 +200,7 @@ pub TakesKnown-push : (a b c : Option (List ℕ)) (ms : List Message) (m : Messa
 TakesKnown-push None b c ms m took one = tt
 TakesKnown-push (Some bytes) None c ms m took one = absurd took
 TakesKnown-push (Some bytes) (Some rest) None ms m took one = absurd one
-TakesKnown-push (Some bytes) (Some rest) (Some after) ms m took one = Takes-push bytes ms rest m after took one
+TakesKnown-push (Some bytes) (Some rest) (Some after) ms m took one = AreFollowedBy-push bytes ms rest m after took one
 
 pub known_stopped : (room : ℕ) (a b : Option (List ℕ)) (ms : List Message) (wire : Wire) → TakesKnown a ms b → NoneCloses ms → length ms < room
     → is_of_stream wire ≡ true → Stops b wire → IfSome a (λ bytes. Messages room bytes ms (stopped wire))

@@ -113,7 +113,7 @@ body_short : (h : RequestHead) (rest : List ℕ) (n : ℕ) → length rest < n �
 body_short h rest n short =
     cond-false (nat_le n (length rest)) (whole (message_of h (take n rest)) (drop n rest)) (stops EndedInside) (lt-leb n (length rest) short)
 
-stops_short : (held : List ℕ) (spans : List HeaderSpan) (at : HeadAt) (left : Option (List ℕ)) (n : ℕ) → IsHeadAt held spans at
+pub stops_short : (held : List ℕ) (spans : List HeaderSpan) (at : HeadAt) (left : Option (List ℕ)) (n : ℕ) → IsHeadAt held spans at
     → Ok n ≡ body_length (fields_at held spans at) → IfSome (prepend_known (drop at.request.len held) left) (λ bytes. length bytes < n)
     → Stops (prepend_known held left) EndedInside
 stops_short held spans at None n has e short = tt

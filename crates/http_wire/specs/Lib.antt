@@ -6,6 +6,7 @@ pub mod Host
 pub mod List
 pub mod Memory
 pub mod Message
+pub mod Needed
 pub mod Reading
 pub mod Stream
 pub mod Whole

@@ -3,7 +3,9 @@ ghost use Rattle.std.specs.Prelude.{◌≡◌, ℕ, ◌+◌, ◌<◌, ◌≤◌,
 ghost use Rattle.std.specs.Io.KnownBytes.{prepend_known, Keeps, Consumes, IsAtEnd};
 ghost use Rattle.causes.specs.Causes.{Rose};
 ghost use Rattle.http_wire.specs.Calls.{state_of, OnlyReads};
-ghost use Rattle.http_wire.specs.Reading.{IsFillStop, IsReadStop, IsBodyStop, Ends, Leaves, Loses};
+ghost use Rattle.http_wire.specs.Needed.{TakesLacking};
+ghost use Rattle.http_wire.specs.Reading.{IsFillStop, IsReadStop, IsBodyStop, Ends, Leaves};
+ghost use Rattle.http_wire.specs.Whole.{LosesWithin};
 
 use crate::link::Link;
 use crate::message::Wire;
@@ -19,7 +21,7 @@ pub(crate) fn fill<L: Link>(held: &mut Vec<u8>, link: &mut L) -> Result<usize, W
     ensures piece { IfOk result (λ n. n ≤ PIECE) }
     ensures end { IfOk result (λ n. n ≡ 0 → (held.new.items ≡ held.old.items) × IsAtEnd (L.left link.new)) }
     ensures grown { OnOk result ((piece : List ℕ) × (held.new.items ≡ held.old.items ++ piece)) }
-    ensures same { OnErr result (vec_len held.new ≡ vec_len held.old) }
+    ensures same { OnErr result (held.new.items ≡ held.old.items) }
     ensures stop { IfErr result (IsFillStop (L.read_faults link.old) (L.read_faults link.new)) }
     ensures kept { Keeps (prepend_known held.old.items (L.left link.old)) (prepend_known held.new.items (L.left link.new)) }
     ensures only_reads { OnlyReads (state_of L.Link link.old) (state_of L.Link link.new) result }
@@ -45,7 +47,7 @@ pub(crate) fn fill<L: Link>(held: &mut Vec<u8>, link: &mut L) -> Result<usize, W
 fn read_into<L: Link>(buf: &mut [u8], link: &mut L) -> Result<(), Wire>
     ensures bytes { OnOk result (Consumes (L.left link.old) (L.left link.new) buf.new) }
     ensures stop { IfErr result (IsReadStop (length buf.old) (L.left link.old) (L.read_faults link.old) (L.read_faults link.new)) }
-    ensures lost { Loses (L.left link.old) (L.left link.new) }
+    ensures lost { LosesWithin (length buf.old) (L.left link.old) (L.left link.new) }
     ensures ended { IfErr result (Ends (L.left link.new)) }
     ensures only_reads { OnlyReads (state_of L.Link link.old) (state_of L.Link link.new) result }
     ensures untouched { length buf.old ≡ 0 → link.new ≡ link.old }
@@ -117,6 +119,8 @@ pub(crate) fn take_body<L: Link>(
     ensures stop { IfErr result (IsBodyStop size (prepend_known (drop start held.old.items) (L.left link.old)) (L.read_faults link.old) (L.read_faults link.new)) }
     ensures only_reads { OnlyReads (state_of L.Link link.old) (state_of L.Link link.new) result }
     ensures untouched { start + size ≤ vec_len held.old → link.new ≡ link.old }
+    ensures lacking { TakesLacking (vec_len held.old - start) size (L.left link.old) (L.left link.new) }
+    ensures rest { OnOk result (vec_len held.new ≡ vec_len held.old - (start + size)) }
 {
     let have = (held.len() - start).min(size);
     let mut body = match Vec::from_slice(alloc, &held[start..start + have]) {

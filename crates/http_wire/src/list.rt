@@ -1,7 +1,7 @@
 //! All messages of a stream.
 ghost use Rattle.std.specs.Prelude.{◌≡◌, ◌≤◌, IfOk, IfErr, IfSome, MatchResult, Err, false};
 ghost use Rattle.causes.specs.Causes.{Rose};
-ghost use Rattle.http_wire.specs.List.{ending_of};
+ghost use Rattle.http_wire.specs.List.{ending_of, LeavesBehind};
 ghost use Rattle.http_wire.specs.Calls.{state_of, OnlyReads};
 ghost use Rattle.http_wire.specs.Stream.{Messages, is_of_stream};
 
@@ -28,12 +28,14 @@ pub struct MessageList {
     pub end: ListEnd,
 }
 
-/// All messages that the link gives, where there is room for so many. An `Err` is a failed read or want of memory.
+/// All messages that the link gives, where there is room for so many. An `Err` is a failed read or want of memory. The link
+/// is read no further than the messages need, but for the rest of a piece.
 pub fn read_messages<L: Link>(alloc: Global, link: &mut L, room: usize) -> Result<MessageList, Wire>
     ensures all { IfOk result (λ list. IfSome (L.left link.old)
         (λ bytes. Messages room bytes list.messages.items (ending_of list.end))) }
     ensures other { IfErr result (λ wire. is_of_stream wire ≡ false) }
     ensures only_reads { OnlyReads (state_of L.Link link.old) (state_of L.Link link.new) result }
+    ensures leaves { IfOk result (λ list. IfSome (L.left link.old) (λ bytes. LeavesBehind bytes list.messages.items (L.left link.new) list.end)) }
 {
     let mut reader = match Reader::new(alloc) {
         Ok(reader) => reader,

@@ -1,5 +1,5 @@
 //! The reader of requests.
-ghost use Rattle.std.specs.Prelude.{◌≡◌, ℕ, ◌<◌, ◌≤◌, List, [], length, vec_len, IsTrue, IfOk, IfErr, OnErr, MatchResult, Err, false};
+ghost use Rattle.std.specs.Prelude.{◌≡◌, ℕ, ◌<◌, ◌≤◌, List, [], length, vec_len, IsTrue, IfOk, IfErr, OnOk, OnErr, MatchResult, Err, false};
 ghost use Rattle.std.specs.Io.KnownBytes.{prepend_known, Keeps, IsAtEnd};
 ghost use Rattle.causes.specs.Causes.{Rose};
 ghost use Rattle.http_wire.specs.declared.head.TheConstants.{FIELD_LIMIT, HEAD_LIMIT};
@@ -7,8 +7,10 @@ ghost use Rattle.httparse.specs.Grammar.{RequestHead};
 ghost use Rattle.http_wire.specs.Head.{HasHead, IsOpen};
 ghost use Rattle.http_wire.specs.Front.{IsHeadAt};
 ghost use Rattle.http_wire.specs.Calls.{state_of, OnlyReads};
+ghost use Rattle.http_wire.specs.Needed.{LosesUnfinished, GrowsOpen, GrowsNeeded};
 ghost use Rattle.http_wire.specs.Reading.{Ends, IsFillStop, Leaves};
 ghost use Rattle.http_wire.specs.Stream.{Gives, whole, TakesOne, Stops};
+ghost use Rattle.http_wire.specs.Whole.{piece_size};
 
 use crate::body::{fill, take_body};
 use crate::head::{FIELD_LIMIT, Front, HEAD_LIMIT, HeadAt, are_empty_lines, lines_end, look_at};
@@ -29,6 +31,7 @@ fn await_line<L: Link>(held: &mut Vec<u8>, link: &mut L) -> Result<bool, Wire>
     ensures stop { IfErr result (IsFillStop (L.read_faults link.old) (L.read_faults link.new)) }
     ensures kept { Keeps (prepend_known held.old.items (L.left link.old)) (prepend_known held.new.items (L.left link.new)) }
     ensures only_reads { OnlyReads (state_of L.Link link.old) (state_of L.Link link.new) result }
+    ensures grown { GrowsOpen held.old.items held.new.items }
 {
     'pieces: loop {
         let len = held.len();
@@ -56,6 +59,7 @@ fn read_head<L: Link>(
     ensures ended { IfErr result (Ends (L.left link.new)) }
     ensures only_reads { OnlyReads (state_of L.Link link.old) (state_of L.Link link.new) result }
     ensures untouched { (h : RequestHead) (rest : List ℕ) → HasHead held.old.items h rest → (link.new ≡ link.old) × (held.new.items ≡ held.old.items) }
+    ensures grown { GrowsNeeded held.old.items held.new.items }
 {
     loop {
         match look_at(held, spans) {
@@ -87,6 +91,8 @@ fn next_message<L: Link>(
     ensures ended { IfErr result (Ends (L.left link.new)) }
     ensures only_reads { OnlyReads (state_of L.Link link.old) (state_of L.Link link.new) result }
     ensures untouched { (m : Message) (rest : List ℕ) → Gives held.old.items (whole m rest) → link.new ≡ link.old }
+    ensures needed { vec_len held.old < piece_size → LosesUnfinished (prepend_known held.old.items (L.left link.old)) (L.left link.new) }
+    ensures rest { vec_len held.old < piece_size → OnOk result (vec_len held.new < piece_size) }
 {
     let at = match read_head(held, spans, link) {
         Ok(at) => at,
@@ -149,8 +155,11 @@ impl Reader {
         ensures ended { IfErr result (Ends (L.left link.new)) }
         ensures only_reads { OnlyReads (state_of L.Link link.old) (state_of L.Link link.new) result }
 
-        // Where the bytes held give a whole message, the link is left as it was.
+        // Where the bytes held give a whole message, the link is left as it was. The link is last read while the message is
+        // unfinished, so less than a piece is held behind it: of the first message, and so of each.
         ensures untouched { (m : Message) (rest : List ℕ) → Gives self.old (whole m rest) → link.new ≡ link.old }
+        ensures needed { length self.old < piece_size → LosesUnfinished (prepend_known self.old (L.left link.old)) (L.left link.new) }
+        ensures rest { length self.old < piece_size → OnOk result (length self.new < piece_size) }
     {
         next_message(&mut self.held, &mut self.spans, alloc, link)
     }

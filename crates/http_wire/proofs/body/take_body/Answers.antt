@@ -1,10 +1,13 @@
-use Rattle.std.proofs.Common.{◌≡◌, ◌+◌, ◌-◌, ◌≤◌, ◌++◌, min, length, take, drop, replicate, vec_len, ap, ◌∙◌, arith, take_all, length-take, length-drop}
+use Rattle.std.proofs.Common.{◌≡◌, [], inl, refl, ◌+◌, ◌-◌, ◌≤◌, ◌++◌, min, length, take, drop, replicate, vec_len, ap, ◌∙◌, arith, take_all, length-take, length-drop}
+use Rattle.std.proofs.KnownBytes.{Consumes-nil}
 use Rattle.http_wire.proofs.KnownLemmas.{Leaves-cleared, body_taken, body_stop}
+use Rattle.http_wire.proofs.NeededLemmas.{lacking_by}
 use Rattle.http_wire.proofs.body.take_body.Goals as goal
 
 pub returns-in-Err-read_into-clause-leaves : goal.returns-in-Err-read_into-clause-leaves
 returns-in-Err-read_into-clause-leaves g c =
-    Leaves-cleared _ _ _ _ _ _ _ _ c.in-Err-read_into.wire c.clear.ensures.items c.in-Err-read_into.ensures.stop c.in-Err-read_into.ensures.lost
+    Leaves-cleared _ _ _ _ _ _ _ _ c.in-Err-read_into.wire c.clear.ensures.items c.in-Err-read_into.ensures.stop
+    (c.in-Err-read_into.ensures.lost.0, c.in-Err-read_into.ensures.lost.1)
 
 pub returns-in-Err-read_into-clause-stop : goal.returns-in-Err-read_into-clause-stop
 returns-in-Err-read_into-clause-stop g c =
@@ -45,3 +48,27 @@ returns-in-Err-clause-ended g c = tt
 
 pub returns-in-Err-resize-clause-ended : goal.returns-in-Err-resize-clause-ended
 returns-in-Err-resize-clause-ended g c = tt
+
+pub returns-in-Err-clause-lacking : goal.returns-in-Err-clause-lacking
+returns-in-Err-clause-lacking g c = ([], Consumes-nil (g.L.Link.left c.args.link.now), inl refl)
+
+pub returns-in-Err-resize-clause-lacking : goal.returns-in-Err-resize-clause-lacking
+returns-in-Err-resize-clause-lacking g c = ([], Consumes-nil (g.L.Link.left c.args.link.now), inl refl)
+
+pub returns-in-Err-read_into-clause-lacking : goal.returns-in-Err-read_into-clause-lacking
+returns-in-Err-read_into-clause-lacking g c =
+    let have = c.min-have.result in
+    let now = c.deref_mut.result.now in
+    let rest = length-take (length now - have) (drop have now) in
+    let after = length-drop have now in
+    lacking_by (vec_len c.args.held.now - c.args.start) have _ c.args.size _ _ (omega (arith, c.len.ensures, c.min-have.ensures))
+    (omega (arith, rest, after, c.min-have.ensures, c.deref_mut.ensures.len, c.in-Ok-resize.ensures.len)) c.in-Err-read_into.ensures.lost
+
+pub returns-clause-lacking : goal.returns-clause-lacking
+returns-clause-lacking g c =
+    let have = c.min-have.result in
+    let now = c.deref_mut.result.now in
+    let rest = length-take (length now - have) (drop have now) in
+    let after = length-drop have now in
+    lacking_by (vec_len c.args.held.now - c.args.start) have _ c.args.size _ _ (omega (arith, c.len.ensures, c.min-have.ensures))
+    (omega (arith, rest, after, c.min-have.ensures, c.deref_mut.ensures.len, c.in-Ok-resize.ensures.len)) c.in_default.ensures.lost

@@ -1,10 +1,12 @@
 use Rattle.std.proofs.Common.{◌≡◌, ◌+◌, ◌-◌, ◌<◌, List, length, true, false, IfSome, sym, ap, subst, ◌∙◌, arith}
 use Rattle.std.specs.Io.KnownBytes.{prepend_known}
-use Rattle.http_wire.specs.List.{ending_of}
+use Rattle.http_wire.specs.List.{ending_of, LeavesBehind}
+use Rattle.http_wire.specs.declared.list.ListEnd.{ListEnd}
 use Rattle.http_wire.specs.declared.message.Message.{Message}
 use Rattle.http_wire.specs.Stream.{Ending, Messages, closing, is_of_stream}
 use Rattle.http_wire.proofs.Taken.{TakesKnown, NoneCloses}
 use Rattle.http_wire.proofs.StreamLaws.{TakesKnown-push, NoneCloses-push, known_stopped, known_full, known_closed, closing_some, closing_none}
+use Rattle.http_wire.proofs.NeededLemmas.{LosesFew-held, known_into, known_to}
 use Rattle.http_wire.proofs.list.read_messages.Goals as goal
 use Rattle.http_wire.proofs.list.read_messages.Goals.{then-len-room, else-len-room}
 
@@ -40,6 +42,7 @@ messages-preserved g c =
       took = subst (λ items. TakesKnown (g.L.Link.left c.args.link.now) items (prepend_known c.next_request.new.self (g.L.Link.left c.next_request.new.link))) (sym c.in-Ok-push.ensures.items)
           (TakesKnown-push (g.L.Link.left c.args.link.now) (prepend_known c.messages.reader (g.L.Link.left c.messages.link)) (prepend_known c.next_request.new.self (g.L.Link.left c.next_request.new.link)) c.messages.messages.items c.in-Ok-next_request.message inv.took c.in-Ok-next_request.ensures.message);
       none = subst NoneCloses (sym c.in-Ok-push.ensures.items) (NoneCloses-push c.messages.messages.items c.in-Ok-next_request.message inv.none open_);
+      few = c.in-Ok-next_request.ensures.rest inv.few;
       fits = omega (arith, c.messages-test.true, c.len.ensures, c.in-Ok-push.ensures.len);
       reads = c.in-Ok-next_request.ensures.only_reads.reads ∙ inv.reads;
       written = c.in-Ok-next_request.ensures.only_reads.written ∙ inv.written;
@@ -51,3 +54,29 @@ returns-clause-all g c =
     let inv = c.messages.invariant in
     let whole : length c.messages.messages.items ≡ c.args.room = omega (arith, c.messages-test.false, c.len.ensures, c.messages.messages.ok.0, inv.fits) in
     known_full c.args.room (g.L.Link.left c.args.link.now) (prepend_known c.messages.reader (g.L.Link.left c.messages.link)) c.messages.messages.items inv.took inv.none whole
+
+pub returns-in-Err-next_request-clause-leaves : goal.returns-in-Err-next_request-clause-leaves
+returns-in-Err-next_request-clause-leaves g c =
+    known_into (g.L.Link.left c.args.link.now) (prepend_known c.messages.reader (g.L.Link.left c.messages.link)) (g.L.Link.left c.next_request.new.link) c.messages.messages.items c.messages.invariant.took
+    (c.in-Err-next_request.ensures.needed c.messages.invariant.few)
+
+pub returns-then-closes-clause-leaves : goal.returns-then-closes-clause-leaves
+returns-then-closes-clause-leaves g c =
+    let inv = c.messages.invariant in
+    let left = g.L.Link.left c.args.link.now in
+    let now = g.L.Link.left c.next_request.new.link in
+    let held = c.next_request.new.self in
+    let took = TakesKnown-push left (prepend_known c.messages.reader (g.L.Link.left c.messages.link)) (prepend_known held now) c.messages.messages.items c.in-Ok-next_request.message inv.took c.in-Ok-next_request.ensures.message in
+    let to = known_to left (prepend_known held now) now c.push.new.self.items (subst (λ (items : List Message). TakesKnown left items (prepend_known held now)) (sym c.in-Ok-push.ensures.items) took)
+    (LosesFew-held held now (c.in-Ok-next_request.ensures.rest inv.few)) in
+    let Q : ListEnd → Type 0 = λ e. IfSome left (λ bytes. LeavesBehind bytes c.push.new.self.items now e) in
+    elim c.if-len-room.branch [
+      | then-len-room w ↦ subst Q (sym w.end-is) to
+      | else-len-room w ↦ subst Q (sym w.end-is) to
+    ]
+
+pub returns-clause-leaves : goal.returns-clause-leaves
+returns-clause-leaves g c =
+    let inv = c.messages.invariant in
+    let now = g.L.Link.left c.messages.link in
+    known_to (g.L.Link.left c.args.link.now) (prepend_known c.messages.reader now) now c.messages.messages.items inv.took (LosesFew-held c.messages.reader now inv.few)

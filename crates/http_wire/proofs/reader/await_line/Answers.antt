@@ -1,4 +1,4 @@
-use Rattle.std.proofs.Common.{◌≡◌, length, ◌∙◌, arith}
+use Rattle.std.proofs.Common.{◌≡◌, ℕ, List, [], ◌++◌, length, ap, ◌∙◌, arith, append_assoc, append-nil}
 use Rattle.std.proofs.KnownBytes.{Keeps-trans}
 use Rattle.http_wire.proofs.HeadLemmas.{IsOpen-piece}
 use Rattle.http_wire.proofs.reader.await_line.Goals as goal
@@ -11,6 +11,7 @@ pieces-preserved g c =
     record {
       short = omega arith;
       neither = IsOpen-piece c.pieces.held.items c.fill.new.held.items c.deref.result.now c.in-Ok.ensures.grown.0 c.len-len.result c.in-Ok.ensures.grown.1 size c.deref.ensures.value old.neither (λ m some. c.lines_end.ensures.last m (omega arith));
+      grown = (old.grown.0 ++ c.in-Ok.ensures.grown.0, c.in-Ok.ensures.grown.1 ∙ ap (λ (l : List ℕ). l ++ c.in-Ok.ensures.grown.0) old.grown.1 ∙ append_assoc c.args.held.now.items old.grown.0 c.in-Ok.ensures.grown.0);
       longer = omega (arith, old.longer, c.in-Ok.ensures.count);
       kept = Keeps-trans _ _ _ old.kept c.in-Ok.ensures.kept;
       reads = c.in-Ok.ensures.only_reads.reads ∙ old.reads;

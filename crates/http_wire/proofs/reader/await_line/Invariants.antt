@@ -1,4 +1,4 @@
-use Rattle.std.proofs.Common.{◌≡◌, ◌<◌, ◌≤◌, ◌-◌, vec_len}
+use Rattle.std.proofs.Common.{◌≡◌, ℕ, ◌<◌, ◌≤◌, ◌-◌, List, ◌++◌, vec_len}
 use Rattle.std.specs.Io.KnownBytes.{prepend_known, Keeps}
 use Rattle.http_wire.specs.Head.{head_limit, IsOpen}
 use Rattle.http_wire.proofs.reader.await_line.Given as goal
@@ -8,6 +8,7 @@ abbrev pub invariant-pieces : goal.invariant-pieces
 invariant-pieces g l = record {
   short : vec_len l.held < head_limit;
   neither : IsOpen l.held.items;
+  grown : (seen : List ℕ) × (l.held.items ≡ l.initial.held.items ++ seen);
   longer : vec_len l.initial.held ≤ vec_len l.held;
   kept : Keeps (prepend_known l.initial.held.items (g.L.Link.left l.initial.link)) (prepend_known l.held.items (g.L.Link.left l.link));
   reads : g.L.Link.read_faults l.link ≡ g.L.Link.read_faults l.initial.link;

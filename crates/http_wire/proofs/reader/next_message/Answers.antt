@@ -1,11 +1,13 @@
-use Rattle.std.proofs.Common.{◌≡◌, Ok, Err, take, length, sym, ap, ◌∙◌, subst, arith}
+use Rattle.std.proofs.Common.{◌≡◌, ℕ, ◌-◌, vec_len, Ok, Err, take, length, sym, ap, ◌∙◌, subst, arith}
 use Rattle.std.specs.Io.KnownBytes.{Consumes}
 use Rattle.httparse.specs.Spans.{IsRequestAt}
 use Rattle.http_wire.specs.Framing.{body_length}
 use Rattle.http_wire.specs.declared.message.Message.{Message}
+use Rattle.http_wire.specs.Needed.{TakesLacking}
 use Rattle.http_wire.specs.Stream.{Gives, whole}
 use Rattle.http_wire.proofs.HeldLemmas.{head_held, body_held}
 use Rattle.http_wire.proofs.KnownLemmas.{Leaves-then}
+use Rattle.http_wire.proofs.NeededLemmas.{head_needed, body_needed, rest_few}
 use Rattle.http_wire.proofs.StreamLemmas.{fields_at, Stops-kept, stops_refused, refused_ends, takes_one, stops_body, TakesOne-kept}
 use Rattle.http_wire.proofs.reader.next_message.Goals as goal
 
@@ -53,3 +55,34 @@ returns-in-Err-take_body-clause-untouched g c m rest gives =
     let same = c.in-Ok.ensures.untouched found.0 found.1 found.2 in
     let fits = body_held _ _ c.in-Ok.at m rest c.in-Ok-body_length.size c.in-Ok.ensures.head rule (subst (λ held. Gives held (whole m rest)) (sym same.1) gives) in
     c.in-Err-take_body.ensures.untouched (omega (arith, fits, c.read_head.new.held.ok.0)) ∙ same.0
+
+pub returns-in-Err-clause-needed : goal.returns-in-Err-clause-needed
+returns-in-Err-clause-needed g c few = head_needed _ _ _ _ (omega (arith, few, c.args.held.now.ok.0)) c.in-Err.ensures.kept c.in-Err.ensures.grown
+
+pub returns-in-Err-body_length-clause-needed : goal.returns-in-Err-body_length-clause-needed
+returns-in-Err-body_length-clause-needed g c few = head_needed _ _ _ _ (omega (arith, few, c.args.held.now.ok.0)) c.in-Ok.ensures.kept c.in-Ok.ensures.grown
+
+pub returns-in-Err-message_of-clause-needed : goal.returns-in-Err-message_of-clause-needed
+returns-in-Err-message_of-clause-needed g c few = head_needed _ _ _ _ (omega (arith, few, c.args.held.now.ok.0)) c.in-Ok.ensures.kept c.in-Ok.ensures.grown
+
+pub returns-in-Ok-take_body-clause-needed : goal.returns-in-Ok-take_body-clause-needed
+returns-in-Ok-take_body-clause-needed g c few =
+    let rule = subst (λ held. Ok c.in-Ok-body_length.size ≡ body_length (fields_at held c.read_head.new.spans c.in-Ok.at)) c.deref.ensures.value c.in-Ok-body_length.ensures in
+    let held = c.read_head.new.held in
+    let size : vec_len held ≡ length held.items = omega (arith, held.ok.0) in
+    body_needed _ held.items c.read_head.new.spans c.in-Ok.at _ _ _ c.in-Ok-body_length.size (omega (arith, few, c.args.held.now.ok.0)) c.in-Ok.ensures.kept c.in-Ok.ensures.grown c.in-Ok.ensures.head rule
+    (subst (λ (n : ℕ). TakesLacking (n - c.in-Ok.at.request.len) c.in-Ok-body_length.size (g.L.Link.left c.read_head.new.link) (g.L.Link.left c.take_body.new.link)) size c.in-Ok-take_body.ensures.lacking)
+
+pub returns-in-Err-take_body-clause-needed : goal.returns-in-Err-take_body-clause-needed
+returns-in-Err-take_body-clause-needed g c few =
+    let rule = subst (λ held. Ok c.in-Ok-body_length.size ≡ body_length (fields_at held c.read_head.new.spans c.in-Ok.at)) c.deref.ensures.value c.in-Ok-body_length.ensures in
+    let held = c.read_head.new.held in
+    let size : vec_len held ≡ length held.items = omega (arith, held.ok.0) in
+    body_needed _ held.items c.read_head.new.spans c.in-Ok.at _ _ _ c.in-Ok-body_length.size (omega (arith, few, c.args.held.now.ok.0)) c.in-Ok.ensures.kept c.in-Ok.ensures.grown c.in-Ok.ensures.head rule
+    (subst (λ (n : ℕ). TakesLacking (n - c.in-Ok.at.request.len) c.in-Ok-body_length.size (g.L.Link.left c.read_head.new.link) (g.L.Link.left c.take_body.new.link)) size c.in-Err-take_body.ensures.lacking)
+
+pub returns-in-Ok-take_body-clause-rest : goal.returns-in-Ok-take_body-clause-rest
+returns-in-Ok-take_body-clause-rest g c few =
+    let held = c.read_head.new.held in
+    let under = rest_few _ held.items c.read_head.new.spans c.in-Ok.at c.in-Ok-body_length.size (omega (arith, few, c.args.held.now.ok.0)) c.in-Ok.ensures.grown c.in-Ok.ensures.head in
+    omega (arith, under, held.ok.0, c.in-Ok-take_body.ensures.rest)

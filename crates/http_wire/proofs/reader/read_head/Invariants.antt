@@ -1,5 +1,6 @@
 use Rattle.httparse.specs.Grammar.{RequestHead}
 use Rattle.http_wire.specs.Head.{head_limit, HasHead}
+use Rattle.http_wire.specs.Needed.{GrowsNeeded}
 use Rattle.std.proofs.Common.{◌≡◌, ℕ, List, ◌-◌, length, vec_len}
 use Rattle.std.specs.Io.KnownBytes.{prepend_known, Keeps}
 use Rattle.http_wire.specs.declared.head.TheConstants.{FIELD_LIMIT}
@@ -14,6 +15,7 @@ invariant-loop-at g l = record {
   written : g.L.Link.written l.link ≡ g.L.Link.written l.initial.link;
   write_faults : g.L.Link.write_faults l.link ≡ g.L.Link.write_faults l.initial.link;
   untouched : (h : RequestHead) (rest : List ℕ) → HasHead l.initial.held.items h rest → (l.link ≡ l.initial.link) × (l.held.items ≡ l.initial.held.items);
+  grown : GrowsNeeded l.initial.held.items l.held.items;
 }
 
 abbrev pub decreases-loop-at : goal.decreases-loop-at
