@@ -1,6 +1,5 @@
 pub mod EmptyLines
 pub mod HeadLemmas
-pub mod HeldLemmas
 pub mod KnownLemmas
 pub mod MoveLemmas
 pub mod NeededLemmas

@@ -1,5 +1,5 @@
 -- What is taken from a link is needed.
-use Rattle.std.proofs.Common.{◌≡◌, ℕ, ◌+◌, ◌-◌, ◌<◌, ◌≤◌, ◌⊎◌, ⊎_elim, inl, inr, min, Bool, true, false, List, [], ◌∷◌, ◌++◌, Option, Some, None, IfSome, Result, Ok, length, take, drop, refl, sym, ap, ◌∙◌, subst, subst₂, arith, append_assoc, append-nil, length-append, length-drop, length-take-le, take-append-drop, take_all}
+use Rattle.std.proofs.Common.{◌≡◌, ℕ, ◌+◌, ◌-◌, ◌<◌, ◌≤◌, ⊎_elim, inl, inr, min, Bool, true, false, List, [], ◌∷◌, ◌++◌, Option, Some, None, IfSome, Ok, length, take, drop, refl, sym, ap, ◌∙◌, subst, subst₂, arith, append_assoc, append-nil, length-append, length-drop, length-take-le, take-append-drop, take_all}
 use Rattle.std.proofs.lemmas.List.{take-append-le, nil_from_length}
 use Rattle.std.proofs.lemmas.Bool.{cases_lt}
 use Rattle.std.specs.Io.KnownBytes.{prepend_known, Keeps, Consumes}
@@ -7,12 +7,13 @@ use Rattle.httparse.specs.Grammar.{RequestHead, print_request}
 use Rattle.httparse.specs.declared.spans.HeaderSpan.{HeaderSpan}
 use Rattle.http_wire.specs.declared.head.HeadAt.{HeadAt}
 use Rattle.http_wire.specs.declared.message.Message.{Message}
-use Rattle.http_wire.specs.declared.message.Wire.{Wire}
 use Rattle.http_wire.specs.Framing.{body_length}
 use Rattle.http_wire.specs.Front.{IsHeadAt}
-use Rattle.http_wire.specs.Head.{head_limit, HasHead, HasFault, IsOpen, IsEmptyLines, ended, inside}
+use Rattle.http_wire.specs.Head.{head_limit, HasHead, IsOpen, IsEmptyLines, ended, inside}
 use Rattle.http_wire.specs.Needed.{IsUnfinished, LosesUnfinished, LosesFew, TakesTo, TakesInto, GrowsOpen, GrowsNeeded, TakesLacking}
 use Rattle.http_wire.specs.Whole.{piece_size, LosesWithin}
+use Rattle.http_wire.specs.Stream.{Gives, stops}
+use Rattle.http_wire.specs.declared.message.Wire.TheVariants.{EndedInside}
 use Rattle.http_wire.proofs.EmptyLines.{is_pairs, empty_lines_meaning}
 use Rattle.http_wire.proofs.HeadLemmas.{head_line, take_past}
 use Rattle.http_wire.proofs.KnownLemmas.{Consumes-held}
@@ -139,6 +140,20 @@ body_needed old held spans at a b c n few kept grown has e (x ∷ xs, lost, inr 
       unfinished = inr (stops_short held spans at (Some front) n has e short);
       piece = omega (arith, length-drop (length xs) gone);
     }
+
+-- where the bytes held are not unfinished, the body is held whole
+pub body_there : (held : List ℕ) (spans : List HeaderSpan) (at : HeadAt) (n : ℕ) → ¬ IsUnfinished held → IsHeadAt held spans at → Ok n ≡ body_length (fields_at held spans at)
+    → at.request.len + n ≤ length held
+body_there held spans at n finished has e =
+    let size = length-take-le at.lines held has.inside in
+    let lacks_none : n ≤ length held - at.request.len =
+    ⊎_elim
+    (λ (lacks : length held - at.request.len < n).
+    let short : length (drop at.request.len held ++ []) < n = omega (arith, ap length (append-nil (drop at.request.len held)), length-drop at.request.len held, lacks) in
+    absurd (finished (inr (subst (λ (bytes : List ℕ). Gives bytes (stops EndedInside)) (append-nil held) (stops_short held spans at (Some []) n has e short)))))
+    (λ (there : n ≤ length held - at.request.len). there)
+    (cases_lt (length held - at.request.len) n) in
+    omega (arith, lacks_none, size, has.within.section.len_fits, has.inside)
 
 -- ---- what is held behind a message
 

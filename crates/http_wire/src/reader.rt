@@ -3,13 +3,12 @@ ghost use Rattle.std.specs.Prelude.{◌≡◌, ℕ, ◌<◌, ◌≤◌, List, []
 ghost use Rattle.std.specs.Io.KnownBytes.{prepend_known, Keeps, IsAtEnd};
 ghost use Rattle.causes.specs.Causes.{Rose};
 ghost use Rattle.http_wire.specs.declared.head.TheConstants.{FIELD_LIMIT, HEAD_LIMIT};
-ghost use Rattle.httparse.specs.Grammar.{RequestHead};
-ghost use Rattle.http_wire.specs.Head.{HasHead, IsOpen};
+ghost use Rattle.http_wire.specs.Head.{IsOpen};
 ghost use Rattle.http_wire.specs.Front.{IsHeadAt};
 ghost use Rattle.http_wire.specs.Calls.{state_of, OnlyReads};
-ghost use Rattle.http_wire.specs.Needed.{LosesUnfinished, GrowsOpen, GrowsNeeded};
+ghost use Rattle.http_wire.specs.Needed.{IsUnfinished, LosesUnfinished, GrowsOpen, GrowsNeeded};
 ghost use Rattle.http_wire.specs.Reading.{Ends, IsFillStop, Leaves};
-ghost use Rattle.http_wire.specs.Stream.{Gives, whole, TakesOne, Stops};
+ghost use Rattle.http_wire.specs.Stream.{TakesOne, Stops};
 ghost use Rattle.http_wire.specs.Whole.{piece_size};
 
 use crate::body::{fill, take_body};
@@ -58,7 +57,7 @@ fn read_head<L: Link>(
     ensures kept { Keeps (prepend_known held.old.items (L.left link.old)) (prepend_known held.new.items (L.left link.new)) }
     ensures ended { IfErr result (Ends (L.left link.new)) }
     ensures only_reads { OnlyReads (state_of L.Link link.old) (state_of L.Link link.new) result }
-    ensures untouched { (h : RequestHead) (rest : List ℕ) → HasHead held.old.items h rest → (link.new ≡ link.old) × (held.new.items ≡ held.old.items) }
+    ensures untouched { ¬ IsUnfinished held.old.items → (link.new ≡ link.old) × (held.new.items ≡ held.old.items) }
     ensures grown { GrowsNeeded held.old.items held.new.items }
 {
     loop {
@@ -90,7 +89,7 @@ fn next_message<L: Link>(
     ensures leaves { IfErr result (Leaves (prepend_known held.old.items (L.left link.old)) (prepend_known held.new.items (L.left link.new))) }
     ensures ended { IfErr result (Ends (L.left link.new)) }
     ensures only_reads { OnlyReads (state_of L.Link link.old) (state_of L.Link link.new) result }
-    ensures untouched { (m : Message) (rest : List ℕ) → Gives held.old.items (whole m rest) → link.new ≡ link.old }
+    ensures untouched { ¬ IsUnfinished held.old.items → link.new ≡ link.old }
     ensures needed { vec_len held.old < piece_size → LosesUnfinished (prepend_known held.old.items (L.left link.old)) (L.left link.new) }
     ensures rest { vec_len held.old < piece_size → OnOk result (vec_len held.new < piece_size) }
 {
@@ -142,22 +141,18 @@ impl Reader {
         })
     }
 
-    /// The next request of the stream, which is the bytes held and then those that the link has left. After an error
-    /// the reader is not used again: inside a body that the end of the input or a failed read cut off, what was read
-    /// of it is gone.
+    /// The next request of the stream, which is the bytes held and then those that the link has left; what comes leaves the rest
+    /// of the stream. The link is read only while the bytes held are an unfinished message (RFC 9112, section 8): for a head in
+    /// pieces of 8,192 bytes at most, for a body no further than its end. So less than a piece is held behind the first message,
+    /// and behind each. Only a read that fails gives `ReadFault`, and nothing is written. After an error the reader is not used
+    /// again: inside a body that the end of the input or a failed read cut off, what was read of it is gone.
     pub fn next_request<L: Link>(&mut self, alloc: Global, link: &mut L) -> Result<Message, Wire>
-        // What came is what stands next in the stream, and the rest of the stream is left.
         ensures message { IfOk result (λ m. TakesOne (prepend_known self.old (L.left link.old)) m (prepend_known self.new (L.left link.new))) }
         ensures stops { IfErr result (Stops (prepend_known self.old (L.left link.old))) }
         ensures leaves { IfErr result (Leaves (prepend_known self.old (L.left link.old)) (prepend_known self.new (L.left link.new))) }
-
-        // Where the input has ended, no byte is left. Only a read that fails gives ReadFault, and nothing is written.
         ensures ended { IfErr result (Ends (L.left link.new)) }
         ensures only_reads { OnlyReads (state_of L.Link link.old) (state_of L.Link link.new) result }
-
-        // Where the bytes held give a whole message, the link is left as it was. The link is last read while the message is
-        // unfinished, so less than a piece is held behind it: of the first message, and so of each.
-        ensures untouched { (m : Message) (rest : List ℕ) → Gives self.old (whole m rest) → link.new ≡ link.old }
+        ensures untouched { ¬ IsUnfinished self.old → link.new ≡ link.old }
         ensures needed { length self.old < piece_size → LosesUnfinished (prepend_known self.old (L.left link.old)) (L.left link.new) }
         ensures rest { length self.old < piece_size → OnOk result (length self.new < piece_size) }
     {

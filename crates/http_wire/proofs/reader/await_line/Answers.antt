@@ -1,4 +1,4 @@
-use Rattle.std.proofs.Common.{◌≡◌, ℕ, List, [], ◌++◌, length, ap, ◌∙◌, arith, append_assoc, append-nil}
+use Rattle.std.proofs.Common.{◌≡◌, ℕ, List, ◌++◌, length, ap, ◌∙◌, arith, append_assoc}
 use Rattle.std.proofs.KnownBytes.{Keeps-trans}
 use Rattle.http_wire.proofs.HeadLemmas.{IsOpen-piece}
 use Rattle.http_wire.proofs.reader.await_line.Goals as goal

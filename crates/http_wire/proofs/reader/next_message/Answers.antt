@@ -3,11 +3,9 @@ use Rattle.std.specs.Io.KnownBytes.{Consumes}
 use Rattle.httparse.specs.Spans.{IsRequestAt}
 use Rattle.http_wire.specs.Framing.{body_length}
 use Rattle.http_wire.specs.declared.message.Message.{Message}
-use Rattle.http_wire.specs.Needed.{TakesLacking}
-use Rattle.http_wire.specs.Stream.{Gives, whole}
-use Rattle.http_wire.proofs.HeldLemmas.{head_held, body_held}
-use Rattle.http_wire.proofs.KnownLemmas.{Leaves-then}
-use Rattle.http_wire.proofs.NeededLemmas.{head_needed, body_needed, rest_few}
+use Rattle.http_wire.specs.Needed.{IsUnfinished, TakesLacking}
+use Rattle.http_wire.proofs.KnownLemmas.{Leaves-kept, Leaves-then}
+use Rattle.http_wire.proofs.NeededLemmas.{body_there, head_needed, body_needed, rest_few}
 use Rattle.http_wire.proofs.StreamLemmas.{fields_at, Stops-kept, stops_refused, refused_ends, takes_one, stops_body, TakesOne-kept}
 use Rattle.http_wire.proofs.reader.next_message.Goals as goal
 
@@ -41,20 +39,23 @@ pub returns-in-Err-message_of-clause-ended : goal.returns-in-Err-message_of-clau
 returns-in-Err-message_of-clause-ended g c = tt
 
 pub returns-in-Ok-take_body-clause-untouched : goal.returns-in-Ok-take_body-clause-untouched
-returns-in-Ok-take_body-clause-untouched g c m rest gives =
+returns-in-Ok-take_body-clause-untouched g c finished =
     let rule = subst (λ held. Ok c.in-Ok-body_length.size ≡ body_length (fields_at held c.read_head.new.spans c.in-Ok.at)) c.deref.ensures.value c.in-Ok-body_length.ensures in
-    let found = head_held _ m rest gives in
-    let same = c.in-Ok.ensures.untouched found.0 found.1 found.2 in
-    let fits = body_held _ _ c.in-Ok.at m rest c.in-Ok-body_length.size c.in-Ok.ensures.head rule (subst (λ held. Gives held (whole m rest)) (sym same.1) gives) in
-    c.in-Ok-take_body.ensures.untouched (omega (arith, fits, c.read_head.new.held.ok.0)) ∙ same.0
+    let same = c.in-Ok.ensures.untouched finished in
+    let held = c.read_head.new.held in
+    let there = body_there held.items _ c.in-Ok.at c.in-Ok-body_length.size (subst (λ bytes. ¬ IsUnfinished bytes) (sym same.1) finished) c.in-Ok.ensures.head rule in
+    c.in-Ok-take_body.ensures.untouched (omega (arith, there, held.ok.0)) ∙ same.0
 
 pub returns-in-Err-take_body-clause-untouched : goal.returns-in-Err-take_body-clause-untouched
-returns-in-Err-take_body-clause-untouched g c m rest gives =
+returns-in-Err-take_body-clause-untouched g c finished =
     let rule = subst (λ held. Ok c.in-Ok-body_length.size ≡ body_length (fields_at held c.read_head.new.spans c.in-Ok.at)) c.deref.ensures.value c.in-Ok-body_length.ensures in
-    let found = head_held _ m rest gives in
-    let same = c.in-Ok.ensures.untouched found.0 found.1 found.2 in
-    let fits = body_held _ _ c.in-Ok.at m rest c.in-Ok-body_length.size c.in-Ok.ensures.head rule (subst (λ held. Gives held (whole m rest)) (sym same.1) gives) in
-    c.in-Err-take_body.ensures.untouched (omega (arith, fits, c.read_head.new.held.ok.0)) ∙ same.0
+    let same = c.in-Ok.ensures.untouched finished in
+    let held = c.read_head.new.held in
+    let there = body_there held.items _ c.in-Ok.at c.in-Ok-body_length.size (subst (λ bytes. ¬ IsUnfinished bytes) (sym same.1) finished) c.in-Ok.ensures.head rule in
+    c.in-Err-take_body.ensures.untouched (omega (arith, there, held.ok.0)) ∙ same.0
+
+pub returns-in-Err-clause-leaves : goal.returns-in-Err-clause-leaves
+returns-in-Err-clause-leaves g c = Leaves-kept _ _ c.in-Err.wire c.in-Err.ensures.kept
 
 pub returns-in-Err-clause-needed : goal.returns-in-Err-clause-needed
 returns-in-Err-clause-needed g c few = head_needed _ _ _ _ (omega (arith, few, c.args.held.now.ok.0)) c.in-Err.ensures.kept c.in-Err.ensures.grown

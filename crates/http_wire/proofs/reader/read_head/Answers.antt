@@ -1,10 +1,11 @@
-use Rattle.std.proofs.Common.{◌≡◌, ℕ, List, inr, sym, ◌∙◌, rules, ◌<◌, length, true, subst, arith}
+use Rattle.std.proofs.Common.{◌≡◌, ℕ, List, inr, ◌∙◌, rules, ◌<◌, length, true, subst, arith}
 use Rattle.std.proofs.KnownBytes.{Keeps-trans}
 use Rattle.std.specs.Io.KnownBytes.{prepend_known}
 use Rattle.http_wire.specs.declared.message.Wire.TheVariants.{HeadFault, HeadTooLarge}
-use Rattle.http_wire.specs.Head.{head_limit, HasHead, IsEmptyLines}
+use Rattle.http_wire.specs.Head.{head_limit, IsEmptyLines}
 use Rattle.http_wire.specs.Stream.{Stops}
-use Rattle.http_wire.proofs.NeededLemmas.{GrowsOpen-then}
+use Rattle.http_wire.specs.Needed.{IsUnfinished}
+use Rattle.http_wire.proofs.NeededLemmas.{open_unfinished, GrowsOpen-then}
 use Rattle.http_wire.proofs.StreamLemmas.{Stops-kept, stops_fault, stops_large, stops_end, stops_inside}
 use Rattle.http_wire.proofs.reader.read_head.Goals as goal
 
@@ -33,6 +34,21 @@ returns-in-Ok-false-2-clause-grown g c = inr (GrowsOpen-then _ _ _ c.loop-at.inv
 pub returns-in-Err-clause-grown : goal.returns-in-Err-clause-grown
 returns-in-Err-clause-grown g c = inr (GrowsOpen-then _ _ _ c.loop-at.invariant.grown c.in-Err.ensures.grown)
 
+pub returns-in-Ok-false-clause-untouched : goal.returns-in-Ok-false-clause-untouched
+returns-in-Ok-false-clause-untouched g c finished =
+    let same = c.loop-at.invariant.untouched finished in
+    absurd (finished (subst IsUnfinished (c.deref.ensures.value ∙ same.1) (open_unfinished c.deref.result.now c.in-Short.ensures.0 c.in-Short.ensures.1)))
+
+pub returns-in-Ok-false-2-clause-untouched : goal.returns-in-Ok-false-2-clause-untouched
+returns-in-Ok-false-2-clause-untouched g c finished =
+    let same = c.loop-at.invariant.untouched finished in
+    absurd (finished (subst IsUnfinished (c.deref.ensures.value ∙ same.1) (open_unfinished c.deref.result.now c.in-Short.ensures.0 c.in-Short.ensures.1)))
+
+pub returns-in-Err-clause-untouched : goal.returns-in-Err-clause-untouched
+returns-in-Err-clause-untouched g c finished =
+    let same = c.loop-at.invariant.untouched finished in
+    absurd (finished (subst IsUnfinished (c.deref.ensures.value ∙ same.1) (open_unfinished c.deref.result.now c.in-Short.ensures.0 c.in-Short.ensures.1)))
+
 pub returns-in-Fault-clause-stops : goal.returns-in-Fault-clause-stops
 returns-in-Fault-clause-stops g c =
     let left = g.L.Link.left c.loop-at.link in
@@ -55,8 +71,8 @@ loop-at-preserved g c =
       reads = now.only_reads.reads ∙ old.reads;
       written = now.only_reads.written ∙ old.written;
       write_faults = now.only_reads.write_faults ∙ old.write_faults;
-      untouched = λ h rest has.
-          let same = old.untouched h rest has in
-          absurd (c.in-Short.ensures.1.no_head h rest (subst (λ (held : List ℕ). HasHead held h rest) (sym (c.deref.ensures.value ∙ same.1)) has));
+      untouched = λ finished.
+          let same = old.untouched finished in
+          absurd (finished (subst IsUnfinished (c.deref.ensures.value ∙ same.1) (open_unfinished c.deref.result.now c.in-Short.ensures.0 c.in-Short.ensures.1)));
       grown = inr (GrowsOpen-then _ _ _ old.grown now.grown);
     }

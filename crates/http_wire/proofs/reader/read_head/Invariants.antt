@@ -1,12 +1,11 @@
-use Rattle.httparse.specs.Grammar.{RequestHead}
-use Rattle.http_wire.specs.Head.{head_limit, HasHead}
-use Rattle.http_wire.specs.Needed.{GrowsNeeded}
-use Rattle.std.proofs.Common.{◌≡◌, ℕ, List, ◌-◌, length, vec_len}
+use Rattle.http_wire.specs.Head.{head_limit}
+use Rattle.std.proofs.Common.{◌≡◌, ◌-◌, length, vec_len}
 use Rattle.std.specs.Io.KnownBytes.{prepend_known, Keeps}
 use Rattle.http_wire.specs.declared.head.TheConstants.{FIELD_LIMIT}
+use Rattle.http_wire.specs.Needed.{IsUnfinished, GrowsNeeded}
 use Rattle.http_wire.proofs.reader.read_head.Given as goal
 
--- the stream stays as it was, and the link is else as it was; where a head was held at first, both are untouched
+-- the stream stays as it was, and the link is else as it was; where no unfinished message was held at first, both are untouched
 abbrev pub invariant-loop-at : goal.invariant-loop-at
 invariant-loop-at g l = record {
   room : length l.spans ≡ FIELD_LIMIT;
@@ -14,7 +13,7 @@ invariant-loop-at g l = record {
   reads : g.L.Link.read_faults l.link ≡ g.L.Link.read_faults l.initial.link;
   written : g.L.Link.written l.link ≡ g.L.Link.written l.initial.link;
   write_faults : g.L.Link.write_faults l.link ≡ g.L.Link.write_faults l.initial.link;
-  untouched : (h : RequestHead) (rest : List ℕ) → HasHead l.initial.held.items h rest → (l.link ≡ l.initial.link) × (l.held.items ≡ l.initial.held.items);
+  untouched : ¬ IsUnfinished l.initial.held.items → (l.link ≡ l.initial.link) × (l.held.items ≡ l.initial.held.items);
   grown : GrowsNeeded l.initial.held.items l.held.items;
 }
 
