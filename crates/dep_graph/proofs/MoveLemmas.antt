@@ -12,7 +12,7 @@ use Rattle.dep_graph.specs.Nodes.{Task, rows_of, is_in, dependants_of, moved, ju
 use Rattle.dep_graph.specs.Ready.{serves, row_serves}
 use Rattle.dep_graph.specs.Kept.{HaveOwnRows}
 use Rattle.dep_graph.specs.Trees.{node_at}
-use Rattle.dep_graph.specs.Tables.{lacks, IsMoved, shown, shown_at, ShowReady, AreCounted}
+use Rattle.dep_graph.specs.Tables.{lacks, IsMoved, MayCount, CountsAgain, shown, shown_at, ShowReady, AreCounted}
 use Rattle.dep_graph.proofs.TaskLemmas.{same_row, row_same, one-serves, moved-rows, dependants-moved}
 use Rattle.dep_graph.proofs.EdgeLemmas.{one-place}
 use Rattle.dep_graph.proofs.PlaceLemmas.{get-push, get-last}
@@ -253,26 +253,17 @@ counted-added tasks lacking ready later t n are created distinct few is fit put_
 
 -- ---- what is asked and told as each dependant is counted again
 
--- what is asked
-pub record StepsWell (new : List Task) (names : List ℕ) (before now : Progress) (lacking : List ℕ) (later : List (Option ℕ)) : Type 0 where
-  pub own : HaveOwnRows new
-  pub long : length lacking ≡ length new
-  pub fit : length new ≤ length later
-  pub distinct : IsDistinct ◌==◌ names
-  pub fits : (p : ℕ) (task : Task) → slice_get new p ≡ Some task → is_in names task.row ≡ true → (n : ℕ) × (n < 2 ^ 63) × IsMoved true task.needs before now (slice_index lacking p) n
-  pub showing : ShowReady new lacking later
-
 row-is : (tasks : List Task) (row place : ℕ) (t : Task) → slice_get (rows_of tasks) place ≡ Some row → slice_get tasks place ≡ Some t → t.row ≡ row
 row-is tasks row place t at there = let e : Some t.row ≡ Some row = sym (row-of tasks place t there) ∙ at in cc
 
 pub steps-well : (tasks new : List Task) (lacking names : List ℕ) (ready later : List (Option ℕ)) (row place : ℕ) (t task : Task) (before now : Progress) → HaveOwnRows tasks → slice_get (rows_of tasks) place ≡ Some row → slice_get tasks place ≡ Some t → before ≡ t.progress → AreCounted tasks lacking ready
-    → names ≡ dependants_of tasks row → new ≡ moved row now tasks → slice_get new place ≡ Some task → later ≡ slice_set ready place (shown task (slice_index lacking place)) → StepsWell new names before now lacking later
+    → names ≡ dependants_of tasks row → new ≡ moved row now tasks → slice_get new place ≡ Some task → later ≡ slice_set ready place (shown task (slice_index lacking place)) → MayCount new names before now lacking later
 steps-well tasks new lacking names ready later row place t task before now own at there was are names_are is now_there put_ =
     let t_row = row-is tasks row place t at there in
     let far = far-long row now tasks in
     let named : names ≡ dependants_of (moved row now tasks) row = names_are ∙ sym (dependants-moved row now tasks row) in
     let moved_there : slice_get (moved row now tasks) place ≡ Some task = subst (λ l. slice_get l place ≡ Some task) is now_there in
-    let well : StepsWell (moved row now tasks) names t.progress now lacking later = record {
+    let well : MayCount (moved row now tasks) names t.progress now lacking later = record {
       own = subst (IsDistinct ◌==◌) (sym (moved-rows row now tasks)) own;
       long = are.long ∙ sym far;
       fit = let a = ap length put_ in let b = length-set ready place (shown task (slice_index lacking place)) in let c = are.fit in omega (arith, a, b, c, far);
@@ -280,19 +271,18 @@ steps-well tasks new lacking names ready later row place t task before now own a
       fits = fits-moved tasks lacking ready row place t now own there t_row are names named;
       showing = shown-moved tasks lacking ready row place t now own there t_row are later task moved_there put_;
     } in
-    subst (λ (l : List Task). StepsWell l names before now lacking later) (sym is) (subst (λ (g : Progress). StepsWell (moved row now tasks) names g now lacking later) (sym was) well)
+    subst (λ (l : List Task). MayCount l names before now lacking later) (sym is) (subst (λ (g : Progress). MayCount (moved row now tasks) names g now lacking later) (sym was) well)
 
 pub steps-done : (tasks new : List Task) (lacking names after : List ℕ) (ready later last : List (Option ℕ)) (row place : ℕ) (t task : Task) (before now : Progress) → HaveOwnRows tasks → slice_get (rows_of tasks) place ≡ Some row → slice_get tasks place ≡ Some t → before ≡ t.progress → AreCounted tasks lacking ready
-    → names ≡ dependants_of tasks row → new ≡ moved row now tasks → later ≡ slice_set ready place (shown task (slice_index lacking place)) → length after ≡ length lacking → length last ≡ length later
-    → ((p : ℕ) (u : Task) → slice_get new p ≡ Some u → IsMoved (is_in names u.row) u.needs before now (slice_index lacking p) (slice_index after p)) → ShowReady new after last → AreCounted new after last
-steps-done tasks new lacking names after ready later last row place t task before now own at there was are names_are is put_ long fit counted shown_ =
+    → names ≡ dependants_of tasks row → new ≡ moved row now tasks → later ≡ slice_set ready place (shown task (slice_index lacking place)) → CountsAgain new names before now lacking after later last → AreCounted new after last
+steps-done tasks new lacking names after ready later last row place t task before now own at there was are names_are is put_ again =
     let t_row = row-is tasks row place t at there in
     let named : names ≡ dependants_of (moved row now tasks) row = names_are ∙ sym (dependants-moved row now tasks row) in
-    let counts = subst (λ (l : List Task). (p : ℕ) (u : Task) → slice_get l p ≡ Some u → IsMoved (is_in names u.row) u.needs before now (slice_index lacking p) (slice_index after p)) is counted in
+    let counts = subst (λ (l : List Task). (p : ℕ) (u : Task) → slice_get l p ≡ Some u → IsMoved (is_in names u.row) u.needs before now (slice_index lacking p) (slice_index after p)) is again.counted in
     let counts_ = subst (λ (g : Progress). (p : ℕ) (u : Task) → slice_get (moved row now tasks) p ≡ Some u → IsMoved (is_in names u.row) u.needs g now (slice_index lacking p) (slice_index after p)) was counts in
-    let shows = subst (λ (l : List Task). ShowReady l after last) is shown_ in
-    let wide : length last ≡ length ready = fit ∙ (ap length put_ ∙ length-set ready place (shown task (slice_index lacking place))) in
-    subst (λ (l : List Task). AreCounted l after last) (sym is) (counted-moved tasks lacking ready row place t now own there t_row are names after last named long wide counts_ shows)
+    let shows = subst (λ (l : List Task). ShowReady l after last) is again.showing in
+    let wide : length last ≡ length ready = again.fit ∙ (ap length put_ ∙ length-set ready place (shown task (slice_index lacking place))) in
+    subst (λ (l : List Task). AreCounted l after last) (sym is) (counted-moved tasks lacking ready row place t now own there t_row are names after last named again.long wide counts_ shows)
 
 pub moved-long : (tasks new : List Task) (row : ℕ) (now : Progress) → new ≡ moved row now tasks → length new ≡ length tasks
 moved-long tasks new row now is = ap length is ∙ far-long row now tasks

@@ -8,26 +8,22 @@ use Rattle.dep_graph.specs.declared.node.Progress.{Progress}
 use Rattle.dep_graph.specs.Nodes.{Task, rows_of, is_in}
 use Rattle.dep_graph.specs.Kept.{HaveOwnRows}
 use Rattle.dep_graph.specs.Trees.{node_at}
-use Rattle.dep_graph.specs.Tables.{IsMoved, shown, shown_at, ShowReady}
+use Rattle.dep_graph.specs.Tables.{IsMoved, CountsAgain, shown, shown_at, ShowReady}
 use Rattle.dep_graph.proofs.TaskLemmas.{same_row}
 use Rattle.dep_graph.proofs.EdgeLemmas.{one-place, not-named, last-named, at-in, take-more, not-before}
 use Rattle.dep_graph.proofs.CountLemmas.{some-task, row-of}
 use Rattle.dep_graph.proofs.TreeLemmas.{same?}
 
--- what was counted for the tasks of so many names
-pub record CountsSo (tasks : List Task) (names : List ℕ) (before now : Progress) (i : ℕ) (old lacking : List ℕ) (first ready : List (Option ℕ)) : Type 0 where
-  pub counted : (place : ℕ) (task : Task) → slice_get tasks place ≡ Some task → IsMoved (is_in (take i names) task.row) task.needs before now (slice_index old place) (slice_index lacking place)
-  pub showing : ShowReady tasks lacking ready
-  pub long : length lacking ≡ length old
-  pub fit : length ready ≡ length first
+-- it was counted again for the first so many of these
+abbrev pub CountsSo : List Task → List ℕ → Progress → Progress → ℕ → List ℕ → List ℕ → List (Option ℕ) → List (Option ℕ) → Type 0
+CountsSo tasks names before now i old lacking first ready = CountsAgain tasks (take i names) before now old lacking first ready
 
 pub counts-first : (tasks : List Task) (names : List ℕ) (before now : Progress) (old : List ℕ) (first : List (Option ℕ)) → ShowReady tasks old first → CountsSo tasks names before now 0 old old first first
 counts-first tasks names before now old first shown_ = record { counted = λ place task at. refl; showing = shown_; long = refl; fit = refl }
 
 pub counts-whole : (tasks : List Task) (names : List ℕ) (before now : Progress) (i : ℕ) (old lacking : List ℕ) (first ready : List (Option ℕ)) → length names ≤ i → CountsSo tasks names before now i old lacking first ready
-    → (place : ℕ) (task : Task) → slice_get tasks place ≡ Some task → IsMoved (is_in names task.row) task.needs before now (slice_index old place) (slice_index lacking place)
-counts-whole tasks names before now i old lacking first ready past so place task at =
-    subst (λ (l : List ℕ). IsMoved (is_in l task.row) task.needs before now (slice_index old place) (slice_index lacking place)) (take_all i names past) (so.counted place task at)
+    → CountsAgain tasks names before now old lacking first ready
+counts-whole tasks names before now i old lacking first ready past so = subst (λ (l : List ℕ). CountsAgain tasks l before now old lacking first ready) (take_all i names past) so
 
 unlike : (a b : ℕ) → (a ≡ b → ⊥) → (a == b) ≡ false
 unlike a b ne = by (a == b) refl where

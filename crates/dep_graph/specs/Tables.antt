@@ -10,7 +10,7 @@ use Rattle.dep_graph.specs.declared.edges.Edges.{Edges}
 use Rattle.dep_graph.specs.declared.graph.Addition.{Addition}
 use Rattle.dep_graph.specs.declared.waits.Waits.{Waits}
 use Rattle.dep_graph.specs.Nodes.{Task, rows_of, is_in}
-use Rattle.dep_graph.specs.Kept.{HasRooms}
+use Rattle.dep_graph.specs.Kept.{HasRooms, HaveOwnRows}
 use Rattle.dep_graph.specs.Ready.{serves, row_serves}
 use Rattle.dep_graph.specs.Trees.{node_at}
 
@@ -57,6 +57,22 @@ pub record AreCounted (tasks : List Task) (lacking : List ℕ) (ready : List (Op
   pub showing : ShowReady tasks lacking ready
   pub few : (place : ℕ) (task : Task) → slice_get tasks place ≡ Some task → length task.dependencies < 2 ^ 63
   pub distinct : (place : ℕ) (task : Task) → slice_get tasks place ≡ Some task → IsDistinct ◌==◌ task.dependencies
+
+-- For these rows, which depend on a task that came from here to there, it may be counted again for how many each waits.
+pub record MayCount (tasks : List Task) (rows : List ℕ) (before now : Progress) (lacking : List ℕ) (ready : List (Option ℕ)) : Type 0 where
+  pub own : HaveOwnRows tasks
+  pub long : length lacking ≡ length tasks
+  pub fit : length tasks ≤ length ready
+  pub distinct : IsDistinct ◌==◌ rows
+  pub fits : (place : ℕ) (task : Task) → slice_get tasks place ≡ Some task → is_in rows task.row ≡ true → (new : ℕ) × (new < 2 ^ 63) × IsMoved true task.needs before now (slice_index lacking place) new
+  pub showing : ShowReady tasks lacking ready
+
+-- It was counted again for these rows, and for no others.
+pub record CountsAgain (tasks : List Task) (rows : List ℕ) (before now : Progress) (old new : List ℕ) (old_ready new_ready : List (Option ℕ)) : Type 0 where
+  pub counted : (place : ℕ) (task : Task) → slice_get tasks place ≡ Some task → IsMoved (is_in rows task.row) task.needs before now (slice_index old place) (slice_index new place)
+  pub showing : ShowReady tasks new new_ready
+  pub long : length new ≡ length old
+  pub fit : length new_ready ≡ length old_ready
 
 -- where there is room for a task, there is room to count what it waits for
 abbrev pub HasCounts : List Task → Waits → Option Addition → Type 0

@@ -1,9 +1,7 @@
 //! For how many tasks each still waits, and the rows of those that are ready.
 ghost use Rattle.std.specs.Prelude.{◌≡◌, ◌==◌, ℕ, ◌+◌, ◌^◌, ◌<◌, ◌≤◌, [], ◌++◌, ◌∷◌, true, Some, OnOk, length, slice_get, slice_index, slice_set, vec_capacity};
-ghost use Rattle.std.specs.List.{IsDistinct};
-ghost use Rattle.dep_graph.specs.Nodes.{Task, is_in};
 ghost use Rattle.dep_graph.specs.Kept.{HaveOwnRows};
-ghost use Rattle.dep_graph.specs.Tables.{IsMoved, ShowReady, lacks, shown};
+ghost use Rattle.dep_graph.specs.Tables.{IsMoved, MayCount, CountsAgain, lacks, shown};
 ghost use Rattle.dep_graph.specs.Trees.{node_at};
 
 use crate::least::Least;
@@ -94,18 +92,8 @@ impl Waits {
     /// Counts again for each of these, which depend on one that came from there to here. Where it serves them as before nothing is counted: a task's
     /// claims and retries cost the same whoever waits for it.
     pub(crate) fn count_each(&mut self, tasks: &Tasks, rows: &[u32], step: Step)
-        requires own { HaveOwnRows tasks.now.tasks }
-        requires long { length self.old.lacking.items ≡ length tasks.now.tasks }
-        requires fit { length tasks.now.tasks ≤ length self.old.ready }
-        requires distinct { IsDistinct ◌==◌ rows.now }
-        requires fits { (place : ℕ) (task : Task) → slice_get tasks.now.tasks place ≡ Some task → is_in rows.now task.row ≡ true
-            → (lacking : ℕ) × (lacking < 2 ^ 63) × IsMoved true task.needs step.before step.now (slice_index self.old.lacking.items place) lacking }
-        requires shown { ShowReady tasks.now.tasks self.old.lacking.items self.old.ready }
-        ensures counted { (place : ℕ) (task : Task) → slice_get tasks.now.tasks place ≡ Some task
-            → IsMoved (is_in rows.now task.row) task.needs step.before step.now (slice_index self.old.lacking.items place) (slice_index self.new.lacking.items place) }
-        ensures shown { ShowReady tasks.now.tasks self.new.lacking.items self.new.ready }
-        ensures long { length self.new.lacking.items ≡ length self.old.lacking.items }
-        ensures fit { length self.new.ready ≡ length self.old.ready }
+        requires { MayCount tasks.now.tasks rows.now step.before step.now self.old.lacking.items self.old.ready }
+        ensures counts { CountsAgain tasks.now.tasks rows.now step.before step.now self.old.lacking.items self.new.lacking.items self.old.ready self.new.ready }
         ensures capacity { vec_capacity self.new.lacking ≡ vec_capacity self.old.lacking }
     {
         if changes_nothing(step) {
@@ -116,18 +104,8 @@ impl Waits {
 
     /// Counts again for each of these.
     fn count_all(&mut self, tasks: &Tasks, rows: &[u32], step: Step)
-        requires own { HaveOwnRows tasks.now.tasks }
-        requires long { length self.old.lacking.items ≡ length tasks.now.tasks }
-        requires fit { length tasks.now.tasks ≤ length self.old.ready }
-        requires distinct { IsDistinct ◌==◌ rows.now }
-        requires fits { (place : ℕ) (task : Task) → slice_get tasks.now.tasks place ≡ Some task → is_in rows.now task.row ≡ true
-            → (lacking : ℕ) × (lacking < 2 ^ 63) × IsMoved true task.needs step.before step.now (slice_index self.old.lacking.items place) lacking }
-        requires shown { ShowReady tasks.now.tasks self.old.lacking.items self.old.ready }
-        ensures counted { (place : ℕ) (task : Task) → slice_get tasks.now.tasks place ≡ Some task
-            → IsMoved (is_in rows.now task.row) task.needs step.before step.now (slice_index self.old.lacking.items place) (slice_index self.new.lacking.items place) }
-        ensures shown { ShowReady tasks.now.tasks self.new.lacking.items self.new.ready }
-        ensures long { length self.new.lacking.items ≡ length self.old.lacking.items }
-        ensures fit { length self.new.ready ≡ length self.old.ready }
+        requires { MayCount tasks.now.tasks rows.now step.before step.now self.old.lacking.items self.old.ready }
+        ensures counts { CountsAgain tasks.now.tasks rows.now step.before step.now self.old.lacking.items self.new.lacking.items self.old.ready self.new.ready }
         ensures capacity { vec_capacity self.new.lacking ≡ vec_capacity self.old.lacking }
     {
         for row in rows {

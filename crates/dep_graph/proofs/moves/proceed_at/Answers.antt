@@ -4,7 +4,7 @@ use Rattle.dep_graph.specs.declared.edges.Edges.{Edges}
 use Rattle.dep_graph.specs.Nodes.{Task, rows_of, dependants_of}
 use Rattle.dep_graph.specs.Kept.{edges_of}
 use Rattle.dep_graph.proofs.EdgeLemmas.{place-within-tasks, edge-within, dependants-at}
-use Rattle.dep_graph.proofs.MoveLemmas.{StepsWell, steps-well, steps-done, moved-long}
+use Rattle.dep_graph.proofs.MoveLemmas.{steps-well, steps-done, moved-long}
 use Rattle.dep_graph.proofs.moves.proceed_at.Goals as goal
 
 pub at-requires : goal.at-requires
@@ -36,16 +36,7 @@ count_each-requires c =
     let lacking = waits.lacking.items in
     let told = dependants-at tasks c.args.edges.now c.args.row c.args.place c.index-edges-place.result c.requires.edges c.requires.at c.index-edges-place.is in
     let names : c.deref.result.now ≡ dependants_of tasks c.args.row = c.deref.ensures.value ∙ (ap (λ (e : Edges). e.rows.items) (sym c.index-edges-place.is) ∙ told) in
-    let well : StepsWell new c.deref.result.now c.progress-before.result c.args.progress lacking c.look.new.self.ready =
-    steps-well tasks new lacking c.deref.result.now waits.ready c.look.new.self.ready c.args.row c.args.place c.at.result.now c.at-2.result.now c.progress-before.result c.args.progress c.requires.own c.requires.at c.at.ensures c.progress-before.ensures c.requires.counted names c.proceed.ensures.tasks c.at-2.ensures c.look.ensures.ready in
-    rw c.look.ensures.lacking (record {
-      own = well.own;
-      long = well.long;
-      fit = well.fit;
-      distinct = well.distinct;
-      fits = well.fits;
-      shown = well.showing;
-    })
+    rw c.look.ensures.lacking (steps-well tasks new lacking c.deref.result.now waits.ready c.look.new.self.ready c.args.row c.args.place c.at.result.now c.at-2.result.now c.progress-before.result c.args.progress c.requires.own c.requires.at c.at.ensures c.progress-before.ensures c.requires.counted names c.proceed.ensures.tasks c.at-2.ensures c.look.ensures.ready)
 
 pub returns-clause-counted : goal.returns-clause-counted
 returns-clause-counted c =
@@ -57,10 +48,10 @@ returns-clause-counted c =
     let names : c.deref.result.now ≡ dependants_of tasks c.args.row = c.deref.ensures.value ∙ (ap (λ (e : Edges). e.rows.items) (sym c.index-edges-place.is) ∙ told) in
     steps-done tasks new lacking c.deref.result.now c.count_each.new.self.lacking.items waits.ready c.look.new.self.ready c.count_each.new.self.ready c.args.row c.args.place c.at.result.now c.at-2.result.now c.progress-before.result c.args.progress c.requires.own c.requires.at c.at.ensures c.progress-before.ensures
     c.requires.counted names c.proceed.ensures.tasks c.look.ensures.ready
-    (rw (← c.look.ensures.lacking) c.count_each.ensures.long) c.count_each.ensures.fit (rw (← c.look.ensures.lacking) c.count_each.ensures.counted) c.count_each.ensures.shown
+    (rw (← c.look.ensures.lacking) c.count_each.ensures.counts)
 
 pub returns-clause-places : goal.returns-clause-places
-returns-clause-places c = c.count_each.ensures.fit ∙ (ap length c.look.ensures.ready ∙ length-set c.args.waits.now.ready c.args.place _)
+returns-clause-places c = c.count_each.ensures.counts.fit ∙ (ap length c.look.ensures.ready ∙ length-set c.args.waits.now.ready c.args.place _)
 
 pub returns-clause-count_room : goal.returns-clause-count_room
 returns-clause-count_room c = c.count_each.ensures.capacity ∙ ap vec_capacity c.look.ensures.lacking

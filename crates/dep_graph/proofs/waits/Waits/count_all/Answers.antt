@@ -6,7 +6,7 @@ use Rattle.dep_graph.proofs.waits.Waits.count_all.Goals as goal
 use Rattle.dep_graph.proofs.waits.Waits.count_all.Goals.{in-Some, in-None}
 
 pub loop-row-init : goal.loop-row-init
-loop-row-init c = (counts-first c.args.tasks.now.tasks c.args.rows.now c.args.step.before c.args.step.now c.args.self.now.lacking.items c.args.self.now.ready c.requires.shown, refl)
+loop-row-init c = (counts-first c.args.tasks.now.tasks c.args.rows.now c.args.step.before c.args.step.now c.args.self.now.lacking.items c.args.self.now.ready c.requires.showing, refl)
 
 pub at-requires : goal.at-requires
 at-requires c = place-within-tasks c.args.tasks.now.tasks (slice_index c.args.rows.now c.loop-row.row-index) c.in-Some.place c.in-Some.ensures.some
@@ -58,19 +58,10 @@ loop-row-preserved c =
           (counts-nowhere tasks names c.args.step.before c.args.step.now i name c.args.self.now.lacking.items c.loop-row.self.lacking.items c.args.self.now.ready c.loop-row.self.ready within next w.in-None.ensures.none so, c.loop-row.invariant.1)
     ]
 
-pub returns-clause-counted : goal.returns-clause-counted
-returns-clause-counted c =
+pub returns-clause-counts : goal.returns-clause-counts
+returns-clause-counts c =
     let past : length c.args.rows.now ≤ c.loop-row.row-index = search (rules, arith) in
     counts-whole c.args.tasks.now.tasks c.args.rows.now c.args.step.before c.args.step.now c.loop-row.row-index c.args.self.now.lacking.items c.loop-row.self.lacking.items c.args.self.now.ready c.loop-row.self.ready past c.loop-row.invariant.0
-
-pub returns-clause-shown : goal.returns-clause-shown
-returns-clause-shown c = c.loop-row.invariant.0.showing
-
-pub returns-clause-long : goal.returns-clause-long
-returns-clause-long c = c.loop-row.invariant.0.long
-
-pub returns-clause-fit : goal.returns-clause-fit
-returns-clause-fit c = c.loop-row.invariant.0.fit
 
 pub returns-clause-capacity : goal.returns-clause-capacity
 returns-clause-capacity c = c.loop-row.invariant.1
