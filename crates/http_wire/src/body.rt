@@ -111,16 +111,14 @@ pub(crate) fn take_body<L: Link>(
     link: &mut L,
 ) -> Result<Vec<u8>, Wire>
     requires { start ≤ vec_len held.old }
-    ensures size { IfOk result (λ body. vec_len body ≡ size) }
-    ensures bytes { IfOk result (λ body. Consumes (prepend_known (drop start held.old.items) (L.left link.old))
-        (prepend_known held.new.items (L.left link.new)) body.items) }
+    ensures sizes { IfOk result (λ body. (vec_len body ≡ size) × (vec_len held.new ≡ vec_len held.old - (start + size))) }
+    ensures bytes { IfOk result (λ body. Consumes (prepend_known (drop start held.old.items) (L.left link.old)) (prepend_known held.new.items (L.left link.new)) body.items) }
     ensures leaves { IfErr result (Leaves (prepend_known held.old.items (L.left link.old)) (prepend_known held.new.items (L.left link.new))) }
     ensures ended { IfErr result (Ends (L.left link.new)) }
     ensures stop { IfErr result (IsBodyStop size (prepend_known (drop start held.old.items) (L.left link.old)) (L.read_faults link.old) (L.read_faults link.new)) }
     ensures only_reads { OnlyReads (state_of L.Link link.old) (state_of L.Link link.new) result }
     ensures untouched { start + size ≤ vec_len held.old → link.new ≡ link.old }
     ensures lacking { TakesLacking (vec_len held.old - start) size (L.left link.old) (L.left link.new) }
-    ensures rest { OnOk result (vec_len held.new ≡ vec_len held.old - (start + size)) }
 {
     let have = (held.len() - start).min(size);
     let mut body = match Vec::from_slice(alloc, &held[start..start + have]) {

@@ -19,7 +19,7 @@ returns-in-Ok-take_body-clause-message g c =
     let rule = subst (λ held. Ok c.in-Ok-body_length.size ≡ body_length (fields_at held c.read_head.new.spans c.in-Ok.at)) c.deref.ensures.value c.in-Ok-body_length.ensures in
     let head = c.in-Ok.ensures.head.head in
     let is = c.in-Ok-message_of.ensures head.0 (subst (λ held. IsRequestAt (take c.in-Ok.at.lines held) c.read_head.new.spans c.in-Ok.at.request head.0) (sym c.deref.ensures.value) head.1) in
-    let size : length c.from.result ≡ c.in-Ok-body_length.size = omega (arith, ap length c.from.ensures, c.in-Ok-take_body.body.ok.0, c.in-Ok-take_body.ensures.size) in
+    let size : length c.from.result ≡ c.in-Ok-body_length.size = omega (arith, ap length c.from.ensures, c.in-Ok-take_body.body.ok.0, c.in-Ok-take_body.ensures.sizes.0) in
     TakesOne-kept _ _ _ _ c.in-Ok.ensures.kept
     (takes_one _ _ c.in-Ok.at _ c.in-Ok-body_length.size c.from.result _ _ _ c.in-Ok.ensures.head rule size
     (subst (Consumes _ _) (sym c.from.ensures) c.in-Ok-take_body.ensures.bytes) (ap (λ (m : Message). record m { body = c.from.result }) is))
@@ -86,4 +86,4 @@ pub returns-in-Ok-take_body-clause-rest : goal.returns-in-Ok-take_body-clause-re
 returns-in-Ok-take_body-clause-rest g c few =
     let held = c.read_head.new.held in
     let under = rest_few _ held.items c.read_head.new.spans c.in-Ok.at c.in-Ok-body_length.size (omega (arith, few, c.args.held.now.ok.0)) c.in-Ok.ensures.grown c.in-Ok.ensures.head in
-    omega (arith, under, held.ok.0, c.in-Ok-take_body.ensures.rest)
+    omega (arith, under, held.ok.0, c.in-Ok-take_body.ensures.sizes.1)
