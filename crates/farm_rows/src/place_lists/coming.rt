@@ -30,10 +30,8 @@ pub(crate) fn keep_listed(
     requires unknown { row_with row.now.id rows.now ≡ None }
     requires stand { depends_on_these (ids_of rows.now ++ row.now.id ∷ []) row.now ≡ true }
     requires few { length rows.now < 1_000_000 }
-    requires empty { grown.items ≡ [] }
-    requires room { HasRoom (length rows.now) (vec_capacity grown) }
-    requires member { HasRoomOn rows.now (Group row.now.definition.task_group_id) member }
-    requires waited { AllZip (HasRoomOn rows.now) (map Dependants row.now.definition.dependencies) waited.items }
+    requires grown { (grown.items ≡ []) × HasRoom (length rows.now) (vec_capacity grown) }
+    requires rooms { HasRoomOn rows.now (Group row.now.definition.task_group_id) member × AllZip (HasRoomOn rows.now) (map Dependants row.now.definition.dependencies) waited.items }
     ensures { AreListed lists.new (rows.now ++ row.now ∷ []) }
 {
     begin(lists, rows, index, row, grown, member);
@@ -53,8 +51,7 @@ fn begin(
     requires index { IsIndexOf index.now rows.now }
     requires unknown { row_with row.now.id rows.now ≡ None }
     requires few { length rows.now < 1_000_000 }
-    requires empty { grown.items ≡ [] }
-    requires room { HasRoom (length rows.now) (vec_capacity grown) }
+    requires grown { (grown.items ≡ []) × HasRoom (length rows.now) (vec_capacity grown) }
     requires member { HasRoomOn rows.now (Group row.now.definition.task_group_id) member }
     ensures waited { AreWaitedSoFar lists.new rows.now row.now [] }
     ensures grouped { AreGrouped lists.new (rows.now ++ row.now ∷ []) }
