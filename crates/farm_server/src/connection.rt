@@ -125,11 +125,9 @@ fn turn<
     ensures home { K.home desk.new ≡ K.home desk.old }
     ensures held { IsNone result → length reader.new < piece_size }
     ensures turns { Turns (REQUESTS - place)
-        (record { stands = K.stands desk.old; spare = K.spare desk.old })
-        (record { stands = K.stands desk.new; spare = K.spare desk.new })
+        (record { stands = K.stands desk.old; spare = K.spare desk.old }) (record { stands = K.stands desk.new; spare = K.spare desk.new })
         (record (outside_of L.Link C.Clock R.Draws G.Gate link.old clock.old draws.old gate.old) { left = prepend_known reader.old (L.left link.old) })
-        (outside_of L.Link C.Clock R.Draws G.Gate link.new clock.new draws.new gate.new)
-        (prepend_known reader.new (L.left link.new)) result }
+        (outside_of L.Link C.Clock R.Draws G.Gate link.new clock.new draws.new gate.new) (prepend_known reader.new (L.left link.new)) result }
 {
     match reader.next_request(alloc, link) {
         Ok(message) => answer(alloc, table, message, place, link, desk, clock, draws, gate),
@@ -159,8 +157,7 @@ fn answer<
     requires spare { 0 < K.spare desk.old }
     ensures home { K.home desk.new ≡ K.home desk.old }
     ensures ends { Ends (REQUESTS - place)
-        (record { stands = K.stands desk.old; spare = K.spare desk.old })
-        (record { stands = K.stands desk.new; spare = K.spare desk.new })
+        (record { stands = K.stands desk.old; spare = K.spare desk.old }) (record { stands = K.stands desk.new; spare = K.spare desk.new })
         (telling_of (outside_of L.Link C.Clock R.Draws G.Gate link.old clock.old draws.old gate.old))
         (telling_of (outside_of L.Link C.Clock R.Draws G.Gate link.new clock.new draws.new gate.new)) message result }
     ensures left { L.left link.new ≡ L.left link.old }
