@@ -1,8 +1,8 @@
 -- What a task serves those that wait for it: nothing takes it back, and a schedule changes nothing of it.
-use Rattle.std.proofs.Common.{◌≡◌, ℕ, zero, suc, nat_le, Bool, true, false, ◌||◌, ◌&&◌, ◌⊎◌, inl, inr, List, [], ◌∷◌, ◌++◌, Option, Some, None, is_some, is_none, refl, sym, ◌∙◌, ap, option_map}
+use Rattle.std.proofs.Common.{◌≡◌, ℕ, zero, suc, nat_le, Bool, true, false, ◌&&◌, ◌⊎◌, inl, inr, List, [], ◌∷◌, ◌++◌, Option, Some, None, is_some, is_none, refl, sym, ◌∙◌, ap}
 use Rattle.std.specs.List.{last_or, list_any}
 use Rattle.std.specs.Option.{option_map_or}
-use Rattle.std.proofs.lemmas.Bool.{and_parts, or_cases}
+use Rattle.std.proofs.lemmas.Bool.{or_cases}
 use Rattle.std.proofs.Math.Bool.{or-true}
 use Rattle.std.proofs.lemmas.List.Folds.{list_any-append}
 use Rattle.task_defs.specs.declared.choices.Requires.{Requires}
@@ -15,7 +15,7 @@ use Rattle.run_states.specs.declared.run.Outcome.{Outcome}
 use Rattle.run_states.specs.declared.run.Run.{Run}
 use Rattle.run_states.specs.Reasons.{resolved_name}
 use Rattle.std.specs.Str.{bytes_eq}
-use Rattle.run_states.specs.Runs.{is_pending_run, is_running_run, kept, change_at, change_last, taken, pending_run}
+use Rattle.run_states.specs.Runs.{is_pending_run, kept, change_at, pending_run}
 use Rattle.run_states.specs.Rows.{Row, has_ended, is_unscheduled, is_resolved, is_pending, is_running_at, loses_claim, first_run, scheduled, finished, exceeded}
 use Rattle.run_states.specs.Moves.{claimed, reclaimed, resolved, expired, canceled, may_rerun, run_again}
 use Rattle.run_states.specs.Later.{RunLater, RunsLater, RowLater}

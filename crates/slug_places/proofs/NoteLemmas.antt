@@ -1,5 +1,5 @@
 -- What a change of a map at an id leaves at any id.
-use Rattle.std.proofs.Common.{◌≡◌, ℕ, List, sym, subst, ◌∙◌, refl, Bool, true, false, Option}
+use Rattle.std.proofs.Common.{◌≡◌, ℕ, List, sym, subst, ◌∙◌, Bool, true, false, Option}
 use mathlib.Core.Bool.{cond}
 use mathlib.Core.Logic.{⊎_elim}
 use Rattle.std.specs.Ordering.{is_eq, nat_cmp}

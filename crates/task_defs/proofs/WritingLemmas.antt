@@ -1,10 +1,10 @@
 -- What is written of members, put together.
-use Rattle.std.proofs.Common.{◌≡◌, ℕ, List, [], ◌∷◌, ◌++◌, map, codes, option_map, option_and_then, Option, Some, Result, Ok, Err, OnOk, refl, sym, ap, subst, ◌∙◌, append_assoc, append-nil}
+use Rattle.std.proofs.Common.{◌≡◌, ℕ, List, [], ◌∷◌, ◌++◌, map, codes, option_map, option_and_then, Some, Result, Ok, Err, OnOk, refl, sym, ap, subst, ◌∙◌, append_assoc, append-nil}
 use Rattle.json.specs.Token.{Token, key, string, begin_array, end_array, begin_object, end_object}
-use Rattle.json.specs.Tree.{json_tokens, items_tokens, members_tokens}
+use Rattle.json.specs.Tree.{items_tokens, members_tokens}
 use Rattle.serde_json.specs.Data as json
-use Rattle.serde_json.specs.Read.{of_json, of_items, of_members}
-use Rattle.serde_json.specs.Written.{outline, items_outline, members_outline}
+use Rattle.serde_json.specs.Read.{of_members}
+use Rattle.serde_json.specs.Written.{items_outline, members_outline}
 use Rattle.farm_text.specs.Document.{Document, text, object, items_of, members_of, data_of, items_data, members_data}
 use Rattle.farm_text.specs.Written.{ReadsBack, ItemsReadBack, IsWhole, AreWhole, MembersWhole}
 use Rattle.farm_text.proofs.DocLemmas.{tokens_of, AreWhole-item, MembersWhole-member}

@@ -1,5 +1,5 @@
 -- a place that is noted is that of its id alone
-use Rattle.std.proofs.Common.{◌≡◌, Some}
+use Rattle.std.proofs.Common.{Some}
 use Rattle.slug_places.proofs.NoteLemmas.{updates_bytes}
 use Rattle.slug_places.proofs.places.note.Goals as goal
 
