@@ -7,7 +7,7 @@ Run it at the top of the repository. It spreads the checks as the kit's `rt ci` 
 once the crates below are proved, first those with the longest chain of others behind them; edits where no proof waits for memory. What each check takes is
 TIMES, in minutes of a processor of a slow machine; SLOW (1 if left out) is how slow a machine is beside it: 0.53 for the fastest so far. FREE (23.8
 if left out) is the free memory at the start, in GB: so much has a machine of 24 GiB. It proves nothing, and takes a second. What it says is reckoned,
-not measured; the run that was measured took 51 minutes on a machine that was fast at first (0.53) and slow at its end.
+not measured; the runs that were measured took 51 and 63 minutes on machines that were fast at first (0.53) and slow at their end.
 """
 import glob
 import importlib.machinery
