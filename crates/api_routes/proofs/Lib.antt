@@ -5,7 +5,6 @@ pub mod HeadLemmas
 pub mod NameLemmas
 pub mod NumberLemmas
 pub mod PayloadLemmas
-pub mod PhraseLemmas
 pub mod QueryLemmas
 pub mod QueueLemmas
 pub mod SaidLemmas

@@ -1,6 +1,5 @@
 -- The bytes of a reply: a head of HTTP/1.1 (RFC 9112) and a JSON body.
-use Rattle.std.specs.Prelude.{ℕ, List, [], ◌∷◌, ◌++◌, Bool, true, length, codes, decimal, unwrap_or, if◌then◌else◌}
-use Rattle.http.specs.StatusCode.{reason_phrase}
+use Rattle.std.specs.Prelude.{ℕ, List, [], ◌∷◌, ◌++◌, Bool, true, length, codes, decimal, if◌then◌else◌, ◌==◌}
 use Rattle.http_wire.specs.declared.message.Wire.{Wire}
 use Rattle.http_wire.specs.declared.message.Wire.TheVariants.{End, HeadFault, HeadTooLarge, NoLength, BodyTooLarge, EndedInside, ReadFault, NoMemory}
 use Rattle.farm_text.specs.Document.{no_members}
@@ -12,9 +11,22 @@ use Rattle.farm_asks.specs.Replies.{answer_of, error_text}
 abbrev pub line : List ℕ → List ℕ
 line text = text ++ 13 ∷ 10 ∷ []
 
--- the phrase of a status
+-- the phrase of a status (RFC 9110, section 15, but 413 as RFC 7231, section 6.5.11, has it; 431: RFC 6585, section 5; 507: RFC 4918, section 11.5)
 abbrev pub phrase : ℕ → List ℕ
-phrase status = unwrap_or (reason_phrase status) []
+phrase n =
+    if n == 200 then codes "OK" else (
+    if n == 400 then codes "Bad Request" else (
+    if n == 401 then codes "Unauthorized" else (
+    if n == 403 then codes "Forbidden" else (
+    if n == 404 then codes "Not Found" else (
+    if n == 409 then codes "Conflict" else (
+    if n == 411 then codes "Length Required" else (
+    if n == 413 then codes "Payload Too Large" else (
+    if n == 431 then codes "Request Header Fields Too Large" else (
+    if n == 500 then codes "Internal Server Error" else (
+    if n == 503 then codes "Service Unavailable" else (
+    if n == 507 then codes "Insufficient Storage" else (
+    []))))))))))))
 
 -- the head of a reply: its status, whether it closes the connection, and the length of its body
 abbrev pub head_text : ℕ → Bool → ℕ → List ℕ

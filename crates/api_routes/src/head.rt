@@ -4,7 +4,7 @@ ghost use Rattle.farm_asks.specs.Replies.{answer_of};
 ghost use Rattle.api_routes.specs.ReplyText.{line, phrase, head_text};
 
 use farm_asks::reply::Reply;
-use http::StatusCode;
+use farm_asks::status_code::StatusCode;
 use itoa::Buffer;
 use std::marker::Model;
 
@@ -103,10 +103,24 @@ pub fn reply_head(reply: &Reply, closes: bool) -> Head
     head
 }
 
-/// The phrase of a status, which is empty where HTTP has none.
+/// The phrase of a status, which is empty for one that is not answered.
 fn phrase_of(status: StatusCode) -> &'static str
     ensures value { result.now ≡ phrase status }
     ensures short { length result.now ≤ 31 }
 {
-    status.canonical_reason().unwrap_or("")
+    match status.as_u16() {
+        200 => "OK",
+        400 => "Bad Request",
+        401 => "Unauthorized",
+        403 => "Forbidden",
+        404 => "Not Found",
+        409 => "Conflict",
+        411 => "Length Required",
+        413 => "Payload Too Large",
+        431 => "Request Header Fields Too Large",
+        500 => "Internal Server Error",
+        503 => "Service Unavailable",
+        507 => "Insufficient Storage",
+        _ => "",
+    }
 }

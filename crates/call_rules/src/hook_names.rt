@@ -7,7 +7,7 @@ use farm_text::Text;
 use std::marker::Model;
 
 /// The id of a group of hooks: 1 to 1,000 characters of `[A-Za-z0-9_-]`.
-#[derive(Debug, Drop)]
+#[derive(Drop)]
 pub struct HookGroupId {
     text: Text,
 }
@@ -46,7 +46,7 @@ impl HookGroupId {
 }
 
 /// The id of a hook in its group: 1 to 1,000 characters of `[A-Za-z0-9_/-]`.
-#[derive(Debug, Drop)]
+#[derive(Drop)]
 pub struct HookId {
     text: Text,
 }
@@ -85,7 +85,7 @@ impl HookId {
 }
 
 /// A hook by its name: its group, and its id in that.
-#[derive(Debug, Drop)]
+#[derive(Drop)]
 pub struct HookName {
     pub group: HookGroupId,
     pub id: HookId,

@@ -24,7 +24,7 @@ pub type Deadlines = DueRows;
 ///
 /// Contracts see for how many rows room was made, and of each row its moment, if it is held. The first row stands at the top of an array
 /// heap, and of each row the place there is known.
-#[derive(Debug, Drop)]
+#[derive(Drop)]
 pub struct DueRows {
     rows: Vec<Option<Moment>>,
     heap: Vec<Turn>,

@@ -7,7 +7,7 @@ use crate::turns::Turn;
 use task_defs::Priority;
 
 /// A row that waits: the place of its queue, its priority, and the number that it drew.
-#[derive(Clone, Copy, Debug)]
+#[derive(Clone, Copy)]
 pub(crate) struct Entry {
     pub(crate) queue: usize,
     pub(crate) priority: Priority,

@@ -28,7 +28,7 @@ use task_defs::Priority;
 /// Contracts see the queues, each with the number of rows for which room was made in it, and of each row where it waits, if it is held.
 /// Rows may be held up to the number for which room was made. Each queue is found by its name in an ordered map, and has an array heap,
 /// whose best row stands at the top.
-#[derive(Debug, Drop)]
+#[derive(Drop)]
 pub struct Pending {
     queues: Vec<Queue>,
     heaps: Vec<Vec<Turn>>,

@@ -8,7 +8,7 @@ ghost use Rattle.claim_queue.specs.WaitHeaps.{room_at, AreNamedApart};
 use farm_text::Text;
 
 /// A queue, and for how many rows room was made in it.
-#[derive(Debug, Drop)]
+#[derive(Drop)]
 pub(crate) struct Queue {
     pub(crate) name: Text,
     pub(crate) room: usize,

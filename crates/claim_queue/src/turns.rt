@@ -7,7 +7,7 @@ use crate::steps::Steps;
 use std::sync::ledger::Ledger;
 
 /// A row with its turn: it comes by the first number, then by the second, and then by the row.
-#[derive(Clone, Copy, Debug)]
+#[derive(Clone, Copy)]
 pub(crate) struct Turn {
     pub(crate) first: u64,
     pub(crate) second: u64,

@@ -4,7 +4,7 @@ use crate::signing::Signing;
 use farm_text::Text;
 
 /// What the words of a command line ask for.
-#[derive(Debug, Drop)]
+#[derive(Drop)]
 pub enum Command {
     /// Work over a farm, which the file of this name sets up.
     OverFarm { farm: Text, work: Work },
@@ -17,7 +17,7 @@ pub enum Command {
 }
 
 /// What is done over a farm. A disk has a name, and keeps the farm; without one nothing does.
-#[derive(Debug, Drop)]
+#[derive(Drop)]
 pub enum Work {
     /// One connection is served.
     Answer { disk: Option<Text> },

@@ -16,7 +16,7 @@ use farm_text::Text;
 use std::alloc::{AllocError, Global};
 
 /// Why words ask for nothing.
-#[derive(Debug, Drop)]
+#[derive(Drop)]
 pub enum WordsFault {
     /// No command line of the program has these words, or they ask for help: the text for the user, of some lines.
     Usage(Text),

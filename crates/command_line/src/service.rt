@@ -12,7 +12,7 @@ use farm_text::Text;
 use std::alloc::{AllocError, Global};
 
 /// A farm that many connections share.
-#[derive(Debug, Drop)]
+#[derive(Drop)]
 pub struct Service {
     /// The name of the disk that keeps the farm.
     pub disk: Text,

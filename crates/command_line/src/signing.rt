@@ -15,7 +15,7 @@ use farm_text::Text;
 use std::alloc::{AllocError, Global};
 
 /// What a request is signed with, each value of its form (Hawk, scheme 1).
-#[derive(Debug, Drop)]
+#[derive(Drop)]
 pub struct Signing {
     /// The client's id: 1 to 128 of `[A-Za-z0-9!@/:.+|_-]`.
     pub id: Text,

@@ -8,7 +8,7 @@ use crate::tasks::Tasks;
 use std::alloc::AllocError;
 
 /// The rows of the tasks that depend on one task.
-#[derive(Debug, Drop)]
+#[derive(Drop)]
 pub(crate) struct Edges {
     pub(crate) rows: Vec<u32>,
 }

@@ -16,7 +16,7 @@ use std::alloc::{AllocError, Global};
 use std::marker::Model;
 
 /// The tasks of a farm and what they wait for, in the order in which they were added, and the room for one task more.
-#[derive(Debug, Drop)]
+#[derive(Drop)]
 pub struct Graph {
     tasks: Tasks,
     /// The tasks that depend on each.
@@ -28,7 +28,7 @@ pub struct Graph {
 }
 
 /// A task for which there is room, and the list of those that depend on it.
-#[derive(Debug, Drop)]
+#[derive(Drop)]
 pub(crate) struct Addition {
     node: Node,
     edges: Edges,

@@ -9,7 +9,7 @@ use std::marker::Model;
 ///
 /// The places stand in the second half of an array, and before them each pair has the lesser of its two above it: those at 2 n and
 /// 2 n + 1 have it at n. So the least of all is at 1.
-#[derive(Debug, Drop)]
+#[derive(Drop)]
 pub(crate) struct Least {
     nodes: Vec<Option<u32>>,
 }

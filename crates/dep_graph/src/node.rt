@@ -39,7 +39,7 @@ impl Requires {
 }
 
 /// A task, with what it requires of the tasks that it depends on.
-#[derive(Debug, Drop)]
+#[derive(Drop)]
 pub(crate) struct Node {
     row: u32,
     needs: Requires,

@@ -11,7 +11,7 @@ use std::collections::HashMap;
 use std::marker::Model;
 
 /// The tasks of a graph in the order in which they were added, and of each row the place of its task.
-#[derive(Debug, Drop)]
+#[derive(Drop)]
 pub(crate) struct Tasks {
     nodes: Vec<Node>,
     places: HashMap<u32, usize>,

@@ -10,14 +10,14 @@ use crate::tasks::{Tasks, row_serves};
 use std::alloc::{AllocError, Global};
 
 /// Of the task at each place, how many of those that it depends on do not meet what it requires, and its row, where it is ready.
-#[derive(Debug, Drop)]
+#[derive(Drop)]
 pub(crate) struct Waits {
     pub(crate) lacking: Vec<usize>,
     pub(crate) ready: Least,
 }
 
 /// How far a task had come before, and how far it has come now.
-#[derive(Clone, Copy, Debug)]
+#[derive(Clone, Copy)]
 pub(crate) struct Step {
     pub(crate) before: Progress,
     pub(crate) now: Progress,

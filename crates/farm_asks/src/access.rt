@@ -16,7 +16,7 @@ use scope_sets::ScopeSet;
 use std::alloc::{AllocError, Global};
 
 /// What a caller may do.
-#[derive(Debug, Drop)]
+#[derive(Drop)]
 pub enum Access<'a> {
     /// It has these scopes, which are borrowed of what is kept.
     Keeps(&'a ScopeSet),

@@ -8,7 +8,7 @@ use hawk_auth::ClientBook;
 use hook_fire::HookBook;
 
 /// How a farm is set up.
-#[derive(Debug, Drop)]
+#[derive(Drop)]
 pub struct Config {
     /// The host that callers sign their calls for: 1 to 255 bytes of printable ASCII.
     pub host: Text,

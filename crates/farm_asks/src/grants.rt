@@ -9,14 +9,14 @@ use std::alloc::{AllocError, Global};
 use std::marker::Model;
 
 /// What is kept of a start list: all scopes that are derivable from it, or that they are too many.
-#[derive(Debug, Drop)]
+#[derive(Drop)]
 pub(crate) enum Closure {
     Whole(ScopeSet),
     TooMany,
 }
 
 /// A set of roles, and what they grant to whoever gives no credentials. It is made once and borrowed by each ask.
-#[derive(Debug, Drop)]
+#[derive(Drop)]
 pub struct Grants {
     roles: RoleSet,
     anonymous: Closure,

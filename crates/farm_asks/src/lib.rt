@@ -13,4 +13,5 @@ mod expressions;
 pub mod grants;
 pub mod question;
 pub mod reply;
+pub mod status_code;
 pub mod works;

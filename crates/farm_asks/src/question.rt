@@ -46,7 +46,7 @@ impl Parameter {
 }
 
 /// The credentials of a request, and what of it they sign (Hawk, scheme 1).
-#[derive(Debug, Drop)]
+#[derive(Drop)]
 pub struct Credentials {
     /// The value of the first Authorization field.
     pub header: Bytes,
@@ -61,7 +61,7 @@ pub struct Credentials {
 }
 
 /// Who calls, as far as the request tells.
-#[derive(Debug, Drop)]
+#[derive(Drop)]
 pub enum Caller {
     /// No credentials are given.
     Anonymous,
@@ -70,7 +70,7 @@ pub enum Caller {
 }
 
 /// Why a body is none that its call has.
-#[derive(Debug, Drop)]
+#[derive(Drop)]
 pub enum BodyFault {
     /// It is no JSON that nests at most 127 deep.
     NotJson,
@@ -87,7 +87,7 @@ pub enum BodyFault {
 }
 
 /// What a worker asks for: runs of a queue.
-#[derive(Debug, Drop)]
+#[derive(Drop)]
 pub struct WorkRequest {
     pub queue: TaskQueue,
     pub worker_group: Identifier,
@@ -97,7 +97,7 @@ pub struct WorkRequest {
 }
 
 /// Which hook is triggered, and with what.
-#[derive(Debug, Drop)]
+#[derive(Drop)]
 pub struct Trigger {
     pub hook: HookName,
     /// What its template sees as `payload`.
@@ -112,7 +112,7 @@ pub struct PageRequest {
 }
 
 /// What is called.
-#[derive(Debug, Drop)]
+#[derive(Drop)]
 pub enum Call {
     /// No route has the method and the target. The name is the target before `?` where it is printable ASCII, else `-`.
     NoRoute(Text),
@@ -153,7 +153,7 @@ pub enum Call {
 /// One question to the farm: the moment that the clock told, the id that was drawn, who calls, and what.
 ///
 /// Its moment is at most the greatest that a clock tells, and some document says the definition of a task that it makes.
-#[derive(Debug, Drop)]
+#[derive(Drop)]
 pub struct Question {
     moment: Moment,
     drawn: SlugId,

@@ -1,18 +1,18 @@
 //! What a farm answers.
 ghost use Rattle.std.specs.Prelude.{◌≡◌};
 
+use crate::status_code::StatusCode;
 use farm_text::Text;
-use http::StatusCode;
 
 /// What a call is answered: a status of HTTP, and a JSON text.
-#[derive(Debug, Drop)]
+#[derive(Drop)]
 pub struct Answer {
     pub status: StatusCode,
     pub body: Text,
 }
 
 /// The reply to a call: its answer, or what kept the farm from giving one.
-#[derive(Debug, Drop)]
+#[derive(Drop)]
 pub enum Reply {
     Answered(Answer),
     OutOfMemory,
@@ -23,7 +23,7 @@ pub enum Reply {
 }
 
 /// The reply to a call, and whether a tick came before it.
-#[derive(Debug, Drop)]
+#[derive(Drop)]
 pub struct Asked {
     pub reply: Reply,
     pub ticked: bool,

@@ -16,7 +16,7 @@ const LOWER: u64 = 65_536;
 /// A source of numbers: the linear congruence of the C standard's example of `rand` (ISO C, section 7.24.2), modulo 2^31.
 ///
 /// A contract sees it as its number.
-#[derive(Debug, Drop)]
+#[derive(Drop)]
 pub struct Generator {
     number: u64,
 }

@@ -9,7 +9,7 @@ use memchr::memrchr;
 use std::alloc::{AllocError, Global};
 
 /// A run that a worker has.
-#[derive(Debug, Drop)]
+#[derive(Drop)]
 pub struct ClaimedRun {
     /// The slugid of its task.
     pub task: Text,

@@ -14,7 +14,7 @@ const MIDNIGHT: u64 = 1_704_067_200_000;
 /// A clock at which it is always 2024-01-01T00:00:00.000Z.
 ///
 /// A contract sees it as the number of its calls.
-#[derive(Debug, Drop)]
+#[derive(Drop)]
 pub(crate) struct StillClock {
     calls: u64,
 }
@@ -62,7 +62,7 @@ impl Clock for StillClock {
 /// Draws that always give 00000000-0000-4000-8000-000000000000.
 ///
 /// A contract sees them as the number of their calls.
-#[derive(Debug, Drop)]
+#[derive(Drop)]
 pub(crate) struct StillDraws {
     calls: u64,
 }

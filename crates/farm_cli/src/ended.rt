@@ -12,7 +12,7 @@ use std::alloc::{AllocError, Global};
 use std::io::ErrorKind;
 
 /// The status of a run, and in words what more there is to tell of it.
-#[derive(Debug, Drop)]
+#[derive(Drop)]
 pub struct Ended {
     pub status: Status,
     /// They go on after the front of the status's line, and may have any bytes. Of refused words of the command line they are all.

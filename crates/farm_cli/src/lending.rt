@@ -3,7 +3,7 @@ ghost use Rattle.std.specs.Prelude.{◌≡◌};
 use std::mem;
 
 /// An object that a house lends once.
-#[derive(Debug, Drop)]
+#[derive(Drop)]
 pub enum Lending<T> {
     /// It is there.
     Ready(T),

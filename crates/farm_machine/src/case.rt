@@ -56,7 +56,7 @@ impl<'a> Scene<'a> {
 }
 
 /// What a call does where nothing refuses it.
-#[derive(Debug, Drop)]
+#[derive(Drop)]
 pub(crate) enum Done {
     /// It changes nothing, and this is the text of its answer's body.
     Reads(Text),

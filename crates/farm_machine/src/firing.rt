@@ -18,7 +18,7 @@ use scope_sets::{ScopeSet, missing};
 use std::alloc::{AllocError, Global};
 
 /// What comes of a hook that is triggered.
-#[derive(Debug, Drop)]
+#[derive(Drop)]
 pub(crate) enum Firing {
     /// The call is refused with this answer.
     Refuses(Answer),

@@ -6,7 +6,7 @@ use farm_asks::reply::Answer;
 use farm_rows::TaskPlan;
 
 /// A judgement: what a call is answered, and the plan of what it changes.
-#[derive(Debug, Drop)]
+#[derive(Drop)]
 pub(crate) struct Judged {
     pub(crate) answer: Answer,
     pub(crate) change: Option<TaskPlan>,

@@ -8,7 +8,7 @@ use farm_text::Moment;
 use std::marker::Model;
 
 /// A call that is judged and has all its memory: its moment, its judgement, the plan of its change, and that change's record.
-#[derive(Debug, Drop)]
+#[derive(Drop)]
 pub struct Plan {
     pub(crate) moment: Moment,
     pub(crate) judged: Judged,

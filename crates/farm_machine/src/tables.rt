@@ -26,7 +26,7 @@ use std::marker::Model;
 use task_defs::{Identifier, TaskQueue};
 
 /// What a farm keeps: its tasks in the order of their creation, the last moment, and the next number.
-#[derive(Debug, Drop)]
+#[derive(Drop)]
 pub struct Tables {
     tasks: TaskTables,
 }

@@ -5,14 +5,14 @@ use farm_text::{Moment, SlugId};
 use task_defs::{Identifier, TaskDef};
 
 /// A change of the tasks, at its moment.
-#[derive(Debug, Drop)]
+#[derive(Drop)]
 pub struct Change {
     pub at: Moment,
     pub kind: Kind,
 }
 
 /// What changes.
-#[derive(Debug, Drop)]
+#[derive(Drop)]
 pub enum Kind {
     /// All that is due at the moment is resolved.
     Tick,
@@ -33,14 +33,14 @@ pub enum Kind {
 }
 
 /// A task with its definition.
-#[derive(Debug, Drop)]
+#[derive(Drop)]
 pub struct Creation {
     pub id: SlugId,
     pub definition: TaskDef,
 }
 
 /// Runs that one worker takes together, until that moment.
-#[derive(Debug, Drop)]
+#[derive(Drop)]
 pub struct Claim {
     pub taken_until: Moment,
     pub worker_group: Identifier,

@@ -8,7 +8,7 @@ use std::marker::Model;
 const MOST_RUNS: usize = 32;
 
 /// 1 to 32 runs, in the order in which they are taken.
-#[derive(Debug, Drop)]
+#[derive(Drop)]
 pub struct RunNames {
     names: Vec<RunName>,
 }

@@ -3,7 +3,7 @@
 use std::alloc::AllocError;
 
 /// Why nothing was read.
-#[derive(Debug, Drop)]
+#[derive(Drop)]
 pub(crate) enum Unread {
     /// The bytes are no change's record.
     NotARecord,

@@ -18,7 +18,7 @@ use std::marker::Model;
 use task_defs::Requires;
 
 /// Which tasks wait for which, and which of them are ready; and the room for one task more. Each task has its place for its row.
-#[derive(Debug, Drop)]
+#[derive(Drop)]
 pub(crate) struct DependencyGraph {
     graph: Graph,
     /// The task that is to come, for which the graph has room.

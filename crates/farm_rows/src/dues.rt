@@ -14,7 +14,7 @@ use std::marker::Brand;
 use std::sync::ledger::{Blank, Ledger};
 
 /// The deadlines of the tasks that are not resolved, and the ends of the claims.
-#[derive(Debug, Drop)]
+#[derive(Drop)]
 pub(crate) struct Dues {
     deadlines: Deadlines,
     leases: Leases,

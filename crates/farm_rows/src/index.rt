@@ -42,7 +42,7 @@ use std::collections::BTreeMap;
 use task_defs::TaskQueue;
 
 /// What is kept beside the tasks.
-#[derive(Debug, Drop)]
+#[derive(Drop)]
 pub(crate) struct Index {
     /// The place of each task by its id.
     places: Option<Places>,

@@ -9,7 +9,7 @@ use run_states::TaskRow;
 use std::alloc::{AllocError, Global};
 
 /// The places of some tasks of a list, in the order of their creation. A place is counted from 0 in that order among all tasks.
-#[derive(Debug, Drop)]
+#[derive(Drop)]
 pub struct PlacePage<'a> {
     /// The places, which rise.
     pub places: &'a [u32],

@@ -13,7 +13,7 @@ use run_states::TaskRow;
 use std::alloc::{AllocError, Global};
 
 /// A list of tasks, in the order of their creation.
-#[derive(Clone, Copy, Debug)]
+#[derive(Clone, Copy)]
 pub enum TaskList {
     /// The tasks of this group.
     Group(SlugId),
@@ -22,7 +22,7 @@ pub enum TaskList {
 }
 
 /// Some tasks of a list, in the order of their creation.
-#[derive(Debug, Drop)]
+#[derive(Drop)]
 pub struct Page<'a> {
     /// The tasks.
     pub rows: Vec<&'a TaskRow>,

@@ -14,7 +14,7 @@ use std::marker::Model;
 use task_groups::{Groups, ReserveFault};
 
 /// The tasks of each group, by their places; and the room for one task more.
-#[derive(Debug, Drop)]
+#[derive(Drop)]
 pub(crate) struct Members {
     groups: Groups,
     /// The task that is to come, for which its group has room.

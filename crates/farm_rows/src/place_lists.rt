@@ -14,7 +14,7 @@ use std::alloc::Global;
 use std::marker::Model;
 
 /// What is kept with each task, in the order of their creation.
-#[derive(Debug, Drop)]
+#[derive(Drop)]
 pub(crate) struct PlaceLists {
     alloc: Global,
     tasks: Vec<TaskPlaces>,

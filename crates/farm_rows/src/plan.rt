@@ -9,7 +9,7 @@ use std::marker::Model;
 use std::slice;
 
 /// What is changed.
-#[derive(Debug, Drop)]
+#[derive(Drop)]
 pub(crate) enum Deed {
     /// This task is created, as it will be.
     Create(TaskRow),
@@ -22,7 +22,7 @@ pub(crate) enum Deed {
 }
 
 /// A change that may be made of the tasks, with all the memory that it takes.
-#[derive(Debug, Drop)]
+#[derive(Drop)]
 pub struct TaskPlan {
     pub(crate) at: Moment,
     pub(crate) deed: Deed,

@@ -25,7 +25,7 @@ use walks::{are_firsts, firsts};
 /// The tasks that wait for a worker, by their places, each in its queue; and of each task the name of its queue.
 ///
 /// In each queue there is room for all its tasks, so that each can begin to wait without memory.
-#[derive(Debug, Drop)]
+#[derive(Drop)]
 pub(crate) struct Queues {
     pending: Pending,
     names: Vec<Text>,

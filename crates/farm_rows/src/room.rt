@@ -67,7 +67,7 @@ fn make_room<T: Drop>(list: &mut Vec<T>, mut grown: Vec<T>)
 }
 
 /// A list without places that a plan brings, where one is full; else one without room. It is seen as the number for which it has room.
-#[derive(Debug, Drop)]
+#[derive(Drop)]
 pub(crate) struct Spare {
     places: Vec<u32>,
 }

@@ -47,7 +47,7 @@ pub const MOST_TASKS: usize = 1_000_000;
 
 /// The tasks of a farm in the order of their creation, the last moment that was reached, and the number that the next pending run
 /// draws.
-#[derive(Debug, Drop)]
+#[derive(Drop)]
 pub struct TaskTables {
     rows: Vec<TaskRow>,
     last: Moment,

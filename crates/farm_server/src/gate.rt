@@ -21,7 +21,7 @@ pub trait Gate {
 }
 
 /// Does nothing.
-#[derive(Clone, Copy, Debug)]
+#[derive(Clone, Copy)]
 pub struct NoGate;
 
 impl Gate for NoGate {

@@ -27,7 +27,7 @@ pub trait Clock: Sized {
 /// A clock that tells the moments of a list in order, and after them the last one again.
 ///
 /// A contract sees it as its moments and the number of its calls.
-#[derive(Debug, Drop)]
+#[derive(Drop)]
 pub struct ListClock {
     moments: Vec<Moment>,
     calls: u64,

@@ -14,7 +14,7 @@ use std::collections::BTreeMap;
 use std::default::Emptied;
 
 /// A JSON document with whole numbers (RFC 8259). The keys of a map rise by bytes, and each stands once.
-#[derive(Debug, Drop)]
+#[derive(Drop)]
 pub enum Doc {
     Null,
     Bool(bool),

@@ -34,7 +34,7 @@ pub trait Draws: Sized {
 /// Draws that give the ids of a list in order, and after them the last one again.
 ///
 /// A contract sees them as their ids and the number of their calls.
-#[derive(Debug, Drop)]
+#[derive(Drop)]
 pub struct ListDraws {
     ids: Vec<SlugId>,
     calls: u64,

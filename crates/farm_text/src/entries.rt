@@ -7,7 +7,7 @@ use std::alloc::{AllocError, Global};
 use std::collections::BTreeMap;
 
 /// The members of a map that is being made.
-#[derive(Debug, Drop)]
+#[derive(Drop)]
 pub struct Entries {
     map: BTreeMap<String, Doc>,
 }

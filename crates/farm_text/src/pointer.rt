@@ -9,7 +9,7 @@ use itoa::Buffer;
 use std::alloc::{AllocError, Global};
 
 /// One step into a document.
-#[derive(Debug, Drop)]
+#[derive(Drop)]
 pub(crate) enum Part {
     Index(usize),
     Key(String),

@@ -30,7 +30,7 @@ impl From<AllocError> for BookFault {
 }
 
 /// The clients of a farm: each of its form, no id twice. They are seen as the list that they were given as.
-#[derive(Debug, Drop)]
+#[derive(Drop)]
 pub struct ClientBook {
     clients: Vec<Client>,
     places: BTreeMap<String, usize>,

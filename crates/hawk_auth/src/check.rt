@@ -42,7 +42,7 @@ pub struct AuthHead<'a> {
 
 /// Why a caller is refused: the first of these conditions that holds. With scopes that the header asks for, `TooMany` comes before `Oversteps` of the client's
 /// own scopes, and behind it of those that are asked for.
-#[derive(Debug, Drop)]
+#[derive(Drop)]
 pub enum AuthFault {
     /// The `Authorization` field is off its form, or stands more than once.
     BadHeader,

@@ -7,7 +7,7 @@ use farm_text::{Moment, Text};
 use scope_sets::Scope;
 
 /// A client: whoever signs with its token has what its scopes give, until it expires.
-#[derive(Debug, Drop)]
+#[derive(Drop)]
 pub struct Client {
     /// 1 to 128 of `[A-Za-z0-9!@/:.+|_-]`.
     pub id: Text,

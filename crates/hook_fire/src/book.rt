@@ -10,7 +10,7 @@ use std::collections::BTreeMap;
 use std::marker::Model;
 
 /// The hooks of a farm, in the order in which they were put in. They are seen as that list.
-#[derive(Debug, Drop)]
+#[derive(Drop)]
 pub struct HookBook {
     hooks: Vec<Hook>,
     /// For each group the place of the first hook of each id.

@@ -4,7 +4,7 @@ use std::alloc::AllocError;
 use task_defs::DefFault;
 
 /// Why a firing makes no task.
-#[derive(Debug, Drop)]
+#[derive(Drop)]
 pub enum FireFault {
     /// The template has this fault, at this place of it.
     Template(TemplateFault),

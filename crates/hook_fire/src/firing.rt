@@ -13,7 +13,7 @@ use std::alloc::Global;
 use task_defs::{DefError, TaskDef, read_task};
 
 /// A hook: its group, its id in that, and the template of the tasks that it makes.
-#[derive(Debug, Drop)]
+#[derive(Drop)]
 pub struct Hook {
     pub group: Text,
     pub id: Text,

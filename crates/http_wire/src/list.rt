@@ -22,7 +22,7 @@ pub enum ListEnd {
 }
 
 /// The messages of a stream in order, and how their list ends.
-#[derive(Debug, Drop)]
+#[derive(Drop)]
 pub struct MessageList {
     pub messages: Vec<Message>,
     pub end: ListEnd,

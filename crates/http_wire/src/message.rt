@@ -6,7 +6,7 @@ use std::fmt;
 use std::marker::Model;
 
 /// Bytes of a message, which contracts see as a list.
-#[derive(Debug, Drop)]
+#[derive(Drop)]
 pub struct Bytes {
     bytes: Vec<u8>,
 }
@@ -57,7 +57,7 @@ impl From<Vec<u8>> for Bytes {
 
 /// A request with its body. Of several Authorization or Content-Type fields the first value counts; of several Connection fields all do; two
 /// Content-Length fields are refused.
-#[derive(Debug, Drop)]
+#[derive(Drop)]
 pub struct Message {
     pub method: Bytes,
     pub target: Bytes,

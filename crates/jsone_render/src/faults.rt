@@ -4,14 +4,14 @@ use jsone_values::faults::Fault;
 use std::alloc::AllocError;
 
 /// A fault, and the JSON pointer (RFC 6901) of the node of the template whose own it is.
-#[derive(Debug, Drop)]
+#[derive(Drop)]
 pub struct TemplateFault {
     pub rule: Fault,
     pub path: Text,
 }
 
 /// Why a template has no value.
-#[derive(Debug, Drop)]
+#[derive(Drop)]
 pub enum RenderFault {
     Fault(TemplateFault),
     /// More than 1,000,000 would be paid.

@@ -17,7 +17,7 @@ pub(crate) struct RoleKey {
 }
 
 /// The keys of roles in rising order, and for each the last one before it that it begins with.
-#[derive(Debug, Drop)]
+#[derive(Drop)]
 pub(crate) struct RoleIndex {
     keys: Vec<RoleKey>,
     links: Vec<usize>,

@@ -19,7 +19,7 @@ use std::marker::Model;
 ///
 /// There is a parameter edge from a role `p*` to a role `q*` if a scope of the first has `<..>` and, of the text before it and
 /// `assume:q`, one begins with the other: what the first gives may then grant the second, with a longer parameter.
-#[derive(Debug, Drop)]
+#[derive(Drop)]
 pub struct RoleSet {
     roles: Vec<KnownRole>,
     index: RoleIndex,

@@ -6,7 +6,7 @@ ghost use Rattle.role_expand.specs.Roles.{assume, AreFree};
 use scope_sets::{Scope, ScopeSet};
 
 /// A role: its id, and the scopes that it lists.
-#[derive(Debug, Drop)]
+#[derive(Drop)]
 pub struct Role {
     pub id: String,
     pub scopes: Vec<Scope>,
@@ -14,7 +14,7 @@ pub struct Role {
 
 /// A role, with the scope that grants it, and its scopes, each once: `plain` ones, which it gives as written to whomever it is
 /// granted, and `filled` ones, which may depend on the parameter.
-#[derive(Debug, Drop)]
+#[derive(Drop)]
 pub(crate) struct KnownRole {
     pub(crate) role: Role,
     pub(crate) grant: Scope,

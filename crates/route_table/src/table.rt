@@ -33,7 +33,7 @@ impl Model for Table {
 }
 
 /// The route of a method and a path, and the parts of the path that stand for its parameters, as they are written there.
-#[derive(Debug, Drop)]
+#[derive(Drop)]
 pub struct Found<'a> {
     pub route: Route,
     pub parameters: Vec<&'a [u8]>,

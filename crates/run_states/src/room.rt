@@ -10,7 +10,7 @@ use std::marker::Model;
 ///
 /// A task that is run again has the retries of its definition once more, and so may want more room than it was made with. A rerun takes
 /// no memory: it is given this room.
-#[derive(Debug, Drop)]
+#[derive(Drop)]
 pub struct RunRoom {
     runs: Vec<Run>,
 }

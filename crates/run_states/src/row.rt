@@ -23,7 +23,7 @@ pub const MOST_RETRIES: u8 = 49;
 /// Its definition is shared with its copies. The runs and the retries that are left are at most 50. It has room for its runs and for
 /// those retries, and for one run where it has none: so nothing that happens to it takes memory, and a rerun, by which it has retries once
 /// more, is given the room.
-#[derive(Debug, Drop)]
+#[derive(Drop)]
 pub struct TaskRow {
     pub(crate) id: SlugId,
     pub(crate) definition: Arc<TaskDef>,

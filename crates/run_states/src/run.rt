@@ -7,7 +7,7 @@ use farm_text::Moment;
 use task_defs::Identifier;
 
 /// The claim of a worker on a run.
-#[derive(Debug, Drop)]
+#[derive(Drop)]
 pub struct Claim {
     pub worker_group: Identifier,
     pub worker_id: Identifier,
@@ -25,7 +25,7 @@ pub struct Outcome {
 }
 
 /// A run of a task.
-#[derive(Debug, Drop)]
+#[derive(Drop)]
 pub struct Run {
     pub created: ReasonCreated,
     /// The number that it drew when it became pending, by which runs of one priority are ordered. A run that was made as an exception

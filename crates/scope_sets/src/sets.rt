@@ -6,7 +6,7 @@ use crate::scopes::Scope;
 use std::marker::Model;
 
 /// A set of scopes, kept as a list that rises by bytes, each scope once.
-#[derive(Debug, Drop)]
+#[derive(Drop)]
 pub struct ScopeSet {
     scopes: Vec<Scope>,
 }

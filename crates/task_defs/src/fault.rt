@@ -8,7 +8,7 @@ use std::fmt;
 
 /// A rule that a definition breaks, and the first key, in rising order, that shows it. What is no map at all, and what is too long as a
 /// whole, shows the empty text.
-#[derive(Debug, Drop)]
+#[derive(Drop)]
 pub struct DefFault {
     /// The rule's number, 1 to 14.
     pub rule: u8,
@@ -53,7 +53,7 @@ impl fmt::Display for DefFault {
 }
 
 /// Why no definition was read.
-#[derive(Debug, Drop)]
+#[derive(Drop)]
 pub enum DefError {
     /// The least rule that the definition breaks.
     Fault(DefFault),

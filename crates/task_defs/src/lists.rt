@@ -7,7 +7,7 @@ use scope_sets::Scope;
 use std::marker::Model;
 
 /// The tasks that a task waits for, each as its id.
-#[derive(Debug, Drop)]
+#[derive(Drop)]
 pub struct Dependencies {
     ids: Vec<SlugId>,
 }
@@ -44,7 +44,7 @@ impl Dependencies {
 }
 
 /// The routes of a task.
-#[derive(Debug, Drop)]
+#[derive(Drop)]
 pub struct Routes {
     routes: Vec<Route>,
 }
@@ -81,7 +81,7 @@ impl Routes {
 }
 
 /// The scopes that a task has.
-#[derive(Debug, Drop)]
+#[derive(Drop)]
 pub struct Scopes {
     scopes: Vec<Scope>,
 }

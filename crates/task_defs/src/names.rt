@@ -8,7 +8,7 @@ use scope_sets::scopes::is_printable;
 use std::marker::Model;
 
 /// An identifier: 1 to 38 characters of `[A-Za-z0-9_-]`.
-#[derive(Debug, Drop)]
+#[derive(Drop)]
 pub struct Identifier {
     text: Text,
 }
@@ -55,7 +55,7 @@ impl Identifier {
 }
 
 /// The name of a project: 1 to 500 characters of `[A-Za-z0-9._/-]`.
-#[derive(Debug, Drop)]
+#[derive(Drop)]
 pub struct ProjectName {
     text: Text,
 }
@@ -147,7 +147,7 @@ impl PartialEq for Route {
 }
 
 /// A task queue: the tasks for one type of workers of a provisioner, written `<provisioner id>/<worker type>`.
-#[derive(Debug, Drop)]
+#[derive(Drop)]
 pub struct TaskQueue {
     pub provisioner_id: Identifier,
     pub worker_type: Identifier,

@@ -11,7 +11,7 @@ use std::collections::BTreeMap;
 use std::marker::Model;
 
 /// A map of documents, seen as its members, whose keys rise by bytes.
-#[derive(Debug, Drop)]
+#[derive(Drop)]
 pub struct Object {
     value: Doc,
 }
@@ -63,7 +63,7 @@ impl Object {
 }
 
 /// A map of texts, seen as its members, whose keys rise by bytes.
-#[derive(Debug, Drop)]
+#[derive(Drop)]
 pub struct Tags {
     value: Doc,
 }
@@ -137,7 +137,7 @@ fn are_texts(members: &BTreeMap<String, Doc>) -> bool
 }
 
 /// Who made a task and what for, in four texts.
-#[derive(Debug, Drop)]
+#[derive(Drop)]
 pub struct Metadata {
     pub description: Text,
     pub name: Text,

@@ -9,7 +9,7 @@ use farm_text::{Moment, SlugId, same_doc};
 use scope_sets::Scope;
 
 /// A task definition, with each default filled in.
-#[derive(Debug, Drop)]
+#[derive(Drop)]
 pub struct TaskDef {
     pub created: Moment,
     /// The task is not worked on past this moment.

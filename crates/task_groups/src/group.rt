@@ -13,7 +13,7 @@ use slug_places::places::Places;
 use std::alloc::{AllocError, Global};
 
 /// A group: its id, the scheduler of its tasks, and their rows.
-#[derive(Debug, Drop)]
+#[derive(Drop)]
 pub(crate) struct Group {
     pub(crate) id: SlugId,
     pub(crate) scheduler: Text,

@@ -16,7 +16,7 @@ use std::collections::BTreeMap;
 use std::marker::Model;
 
 /// The groups of the tasks of a farm, in the order of their first tasks, and the room for one task that joins one of them.
-#[derive(Debug, Drop)]
+#[derive(Drop)]
 pub struct Groups {
     groups: Vec<Group>,
     /// The place of each group by its id.

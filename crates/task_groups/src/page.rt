@@ -4,7 +4,7 @@ ghost use Rattle.std.specs.List.{AllPairs, last_or};
 ghost use Rattle.task_groups.specs.Pages.{rows_after, page_rows, has_more};
 
 /// Some tasks of a group, in the order of creation.
-#[derive(Debug, Drop)]
+#[derive(Drop)]
 pub struct Page<'a> {
     /// The rows of the tasks.
     pub rows: &'a [u32],

@@ -11,7 +11,7 @@ use std::alloc::{AllocError, Global};
 use std::marker::Model;
 
 /// The place of a task that is to come, and those of the tasks that it depends on.
-#[derive(Debug, Drop)]
+#[derive(Drop)]
 pub(crate) struct Noted {
     place: u32,
     dependencies: Vec<u32>,

@@ -7,7 +7,7 @@ use std::alloc::{AllocError, Global};
 use std::marker::Model;
 
 /// The group and the scheduler of a task that is to come.
-#[derive(Debug, Drop)]
+#[derive(Drop)]
 pub(crate) struct Noted {
     group: SlugId,
     scheduler: Text,

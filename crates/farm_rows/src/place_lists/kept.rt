@@ -8,7 +8,7 @@ use std::alloc::Global;
 use std::marker::Model;
 
 /// The places of the tasks that wait for a task, and of those of its group, where it is the first of that.
-#[derive(Debug, Drop)]
+#[derive(Drop)]
 pub(crate) struct TaskPlaces {
     dependants: Vec<u32>,
     members: Vec<u32>,

@@ -17,7 +17,7 @@ use std::alloc::{AllocError, Global};
 use std::marker::Model;
 
 /// The room that a plan brings for a task that is created.
-#[derive(Debug, Drop)]
+#[derive(Drop)]
 pub(crate) struct Room {
     /// A longer list for the tasks, where the tables are full.
     pub(crate) rows: Vec<TaskRow>,
