@@ -23,8 +23,8 @@ use std::alloc::Global;
 
 /// Serves one connection: takes requests from the link (RFC 9112), asks the desk each of them, and writes the replies in
 /// order, until the stream ends, a request closes it (section 9.6), or a thousand were answered. The link is read only
-/// while a request is not there whole, and once the reply to the one before is written; what is read beyond a request is
-/// less than a piece of 8,192 bytes.
+/// while a request is not there whole, and once the reply to the one before is written; what the clauses say of both is
+/// that less than a piece of 8,192 bytes is read beyond a request.
 ///
 /// For each request the clock is read once, one id is drawn and the desk is asked once, so a desk that has a thousand asks
 /// left is needed. The gate is told of each request in turn, before the desk is asked and after the reply is written, but

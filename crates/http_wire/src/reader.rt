@@ -143,9 +143,10 @@ impl Reader {
 
     /// The next request of the stream, which is the bytes held and then those that the link has left; what comes leaves the rest
     /// of the stream. The link is read only while the bytes held are an unfinished message (RFC 9112, section 8): for a head in
-    /// pieces of 8,192 bytes at most, for a body no further than its end. So less than a piece is held behind the first message,
-    /// and behind each. Only a read that fails gives `ReadFault`, and nothing is written. After an error the reader is not used
-    /// again: inside a body that the end of the input or a failed read cut off, what was read of it is gone.
+    /// pieces of 8,192 bytes at most, for a body what is missing of it. What the clauses say of both is that less than a piece
+    /// is held behind the first message, and behind each. Only a read that fails gives `ReadFault`, and nothing is written. After
+    /// an error the reader is not used again: inside a body that the end of the input or a failed read cut off, what was read of
+    /// it is gone.
     pub fn next_request<L: Link>(&mut self, alloc: Global, link: &mut L) -> Result<Message, Wire>
         ensures message { IfOk result (λ m. TakesOne (prepend_known self.old (L.left link.old)) m (prepend_known self.new (L.left link.new))) }
         ensures stops { IfErr result (Stops (prepend_known self.old (L.left link.old))) }
