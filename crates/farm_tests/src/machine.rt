@@ -20,7 +20,7 @@ use http_wire::Bytes;
 use std::alloc::{AllocError, Global};
 use std::test::Fail;
 
-mod calls;
+pub(crate) mod calls;
 mod hooks;
 mod runs;
 mod work;
@@ -29,7 +29,7 @@ mod work;
 const CREATED: u64 = 1_704_067_200_000;
 
 /// The moment of a row.
-fn moment(after: &str) -> Result<Moment, Fail>
+pub(crate) fn moment(after: &str) -> Result<Moment, Fail>
     ensures { IfOk result (λ moment. moment ≤ last_told) }
 {
     if after.is_empty() {
@@ -168,7 +168,7 @@ fn is_answered(alloc: Global, tables: &mut Tables, farm: &Config, row: &str) -> 
 }
 
 /// The farm that this file sets up.
-fn farm_of(alloc: Global, file: &str) -> Result<Config, Fail> {
+pub(crate) fn farm_of(alloc: Global, file: &str) -> Result<Config, Fail> {
     match read_farm(alloc, file.as_bytes()) {
         Ok(farm) => Ok(farm),
         Err(_) => Err(Fail::from("the file has a fault")),

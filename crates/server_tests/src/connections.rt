@@ -6,7 +6,7 @@ ghost use Rattle.farm_machine.specs.Law.{opened};
 ghost use Rattle.farm_machine.specs.Step.{farm_rules};
 ghost use Rattle.farm_server.specs.declared.served.TheConstants.{REQUESTS};
 
-use crate::configs::without_roles;
+use crate::configs::config_of;
 use farm_asks::question::{Call, Caller, Question};
 use farm_asks::reply::Asked;
 use farm_core::Bare;
@@ -100,7 +100,7 @@ fn serve_over<K: Desk<Question = Question, Answer = Asked, Law = Farm>, G: Gate>
 
 /// Serves the input over an empty farm.
 fn serve(alloc: Global, input: &Input) -> Result<Output, Fail> {
-    let mut desk = Solo::new(Bare::new(alloc, without_roles(alloc)?));
+    let mut desk = Solo::new(Bare::new(alloc, config_of(alloc, "")?));
     let output = serve_over(alloc, input, &mut desk, &mut NoGate);
     drop(desk);
     Ok(output?)
@@ -293,7 +293,7 @@ fn others_may_ask_between(rt: HostRuntime) -> Result<(), Fail> {
         return Err(Fail::from("no slugid"));
     };
     let mut desk = Busy {
-        farm: Bare::new(alloc, without_roles(alloc)?),
+        farm: Bare::new(alloc, config_of(alloc, "")?),
         others,
         left: 1_000,
     };
@@ -327,7 +327,7 @@ impl Gate for Notebook {
 
 /// Serves the input over an empty farm, and tells this gate.
 fn serve_past(alloc: Global, input: &Input, gate: &mut Notebook) -> Result<(), Fail> {
-    let mut desk = Solo::new(Bare::new(alloc, without_roles(alloc)?));
+    let mut desk = Solo::new(Bare::new(alloc, config_of(alloc, "")?));
     let output = serve_over(alloc, input, &mut desk, gate);
     drop(desk);
     drop(output?);

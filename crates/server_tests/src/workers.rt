@@ -4,9 +4,8 @@ ghost use Rattle.farm_server.specs.declared.served.TheConstants.{REQUESTS};
 ghost use Rattle.shared_desk.specs.Standing.{fresh_token};
 ghost use Rattle.farm_machine.specs.State.{State};
 
-use farm_asks::config::Config;
+use crate::configs::config_of;
 use farm_core::{Bare, bare_farms_cross_threads};
-use farm_files::read_farm;
 use farm_server::{Gate, NoGate};
 use farm_serving::{Ended, MemoryListener, Returned, Worker, serve};
 use farm_text::{ListClock, ListDraws};
@@ -67,19 +66,11 @@ fn worker(
     })
 }
 
-/// The configuration of a farm whose file is empty: without roles, clients and hooks.
-fn config(alloc: Global) -> Result<Config, Fail> {
-    match read_farm(alloc, b"") {
-        Ok(config) => Ok(config),
-        Err(_) => Err(Fail::from("the file has a fault")),
-    }
-}
-
 /// A desk of an empty farm.
 fn desk(alloc: Global) -> Result<(Shared<Bare>, Token<Bare>), Fail>
     ensures { IfOk result (λ made. (made.1.desk ≡ made.0.desk) × (made.1.left ≡ 9223372036854775808)) }
 {
-    match Shared::new(alloc, Bare::new(alloc, config(alloc)?)) {
+    match Shared::new(alloc, Bare::new(alloc, config_of(alloc, "")?)) {
         Ok(made) => Ok(made),
         Err(bare) => {
             drop(bare);

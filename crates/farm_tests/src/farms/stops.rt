@@ -45,7 +45,7 @@ fn open_empty(alloc: Global, failing: u64) -> Result<Farm<MemoryDisk>, Fail> {
 /// No call has this number.
 const NONE: u64 = 1_000_000;
 
-/// When is asked, in milliseconds after midnight, and what. The third ask comes when the claim of the second ends.
+/// When is asked, in milliseconds after the task is made, and what. The third ask comes when the claim of the second ends.
 const SCRIPT: &str = "0|create
 10000|claim
 1210000|claim
@@ -77,7 +77,7 @@ fn acknowledged_after(records: u64) -> u64 {
 fn ask<D: Disk>(
     alloc: Global,
     farm: &mut Farm<D>,
-    after: u64,
+    after: &str,
     word: &str,
 ) -> Result<(u16, String), Fail> {
     let asked = farm.ask(question(alloc, after, word)?);
@@ -90,7 +90,6 @@ fn ask<D: Disk>(
 /// The same of a row of the script.
 fn ask_row<D: Disk>(alloc: Global, farm: &mut Farm<D>, row: &str) -> Result<(u16, String), Fail> {
     let (after, word) = row.split_once('|').ok_or("a moment")?;
-    let after = after.parse().ok().ok_or("a number")?;
     ask(alloc, farm, after, word)
 }
 
@@ -112,7 +111,7 @@ fn run_script<D: Disk>(alloc: Global, farm: &mut Farm<D>) -> Result<u64, Fail> {
     Ok(done)
 }
 
-/// How many records a farm was opened with, and the body of the status at midnight, or why it was not opened.
+/// How many records a farm was opened with, and the body of the status as the task is made, or why it was not opened.
 fn reopen<D: Disk + Drop>(
     alloc: Global,
     disk: D,
@@ -122,7 +121,7 @@ fn reopen<D: Disk + Drop>(
         Ok(farm) => {
             let mut farm = farm;
             let counts = farm.counts();
-            let told = ask(alloc, &mut farm, 0, "status");
+            let told = ask(alloc, &mut farm, "0", "status");
             drop(farm);
             let (_, body) = told?;
             Ok((Ok(counts), body))
@@ -224,11 +223,11 @@ fn nothing_acknowledged_is_lost_in_any_call(rt: HostRuntime) -> Result<(), Fail>
 const LOST: &str =
     r#"{"status":{"deadline":"2024-01-02T00:00:00.000Z","expires":"2025-01-01T00:00:00.000Z","projectId":"none","provisionerId":"prov","retriesLeft":4,"runs":[{"reasonCreated":"scheduled","reasonResolved":"claim-expired","resolved":"2024-01-01T00:40:09.999Z","runId":0,"scheduled":"2024-01-01T00:00:00.000Z","started":"2024-01-01T00:00:10.000Z","state":"exception","takenUntil":"2024-01-01T00:40:09.999Z","workerGroup":"g","workerId":"w"},{"reasonCreated":"retry","runId":1,"scheduled":"2024-01-01T00:40:09.999Z","state":"pending"}],"schedulerId":"-","state":"pending","taskGroupId":"AAAAAAAAQACAAAAAAAAAAA","taskId":"AAAAAAAAQACAAAAAAAAAAA","taskQueueId":"prov/wt","workerType":"wt"}}"#;
 
-/// Whether a farm replies to the question of this word, so many milliseconds after midnight, with this status.
+/// Whether a farm replies to the question of this word, so many milliseconds after the task is made, with this status.
 fn replies<D: Disk>(
     alloc: Global,
     farm: &mut Farm<D>,
-    after: u64,
+    after: &str,
     word: &str,
     wanted: u16,
 ) -> Result<bool, Fail> {
@@ -239,10 +238,10 @@ fn replies<D: Disk>(
 /// Whether it replies so up to the report that comes when the claim has ended.
 fn loses<D: Disk>(alloc: Global, farm: &mut Farm<D>) -> Result<bool, Fail> {
     Ok(
-        replies(alloc, farm, 0, "create", 200)?
-            && replies(alloc, farm, 10_000, "claim", 200)?
-            && replies(alloc, farm, 1_209_999, "reclaim 0", 200)?
-            && replies(alloc, farm, 2_409_999, "completed 0", 409)?,
+        replies(alloc, farm, "0", "create", 200)?
+            && replies(alloc, farm, "10000", "claim", 200)?
+            && replies(alloc, farm, "1209999", "reclaim 0", 200)?
+            && replies(alloc, farm, "2409999", "completed 0", 409)?,
     )
 }
 
@@ -300,14 +299,14 @@ const FAULT: &str = r#"{"code":"DiskFault","details":{},"message":"the disk fail
 
 const HALTED: &str = r#"{"code":"Halted","details":{},"message":"the disk failed earlier"}"#;
 
-/// Whether a farm replies to the question of this word, at midnight, with the status 500 and this body.
+/// Whether a farm replies to the question of this word, as the task is made, with the status 500 and this body.
 fn fails<D: Disk>(
     alloc: Global,
     farm: &mut Farm<D>,
     word: &str,
     wanted: &str,
 ) -> Result<bool, Fail> {
-    let (status, body) = ask(alloc, farm, 0, word)?;
+    let (status, body) = ask(alloc, farm, "0", word)?;
     Ok(status == 500 && body.as_str() == wanted)
 }
 

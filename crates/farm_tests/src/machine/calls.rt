@@ -139,7 +139,7 @@ fn other_call(alloc: Global, word: &str) -> Result<Call, Fail>
 
 /// The call of these words, of which the first says what is called: about the task that is written `AAAAAAAAQACAAAAAAAAAAA`, a hook, or
 /// nothing.
-pub(super) fn call_of(alloc: Global, words: &str) -> Result<Call, Fail>
+pub(crate) fn call_of(alloc: Global, words: &str) -> Result<Call, Fail>
     ensures { IfOk result IsSaidCall }
 {
     let id = SlugId::read(b"AAAAAAAAQACAAAAAAAAAAA").ok_or("a slugid")?;

@@ -1,6 +1,6 @@
 //! A diamond and a chain of tasks, over connections in memory. The replies were written by hand after the queue service's reference, and by a model of it.
 use super::rows::{asked, first_other_in, reply_text};
-use super::tasks::{PLAIN, farm};
+use super::tasks::{ALL, PLAIN, farm};
 use super::*;
 
 /// Four tasks of a group: two wait for the first, and the last for both.
@@ -101,7 +101,7 @@ fn chained_at(alloc: Global, desk: &mut Solo<Bare>) -> Result<u64, Fail> {
 
 /// The same of a new farm.
 fn chained_runs(alloc: Global) -> Result<u64, Fail> {
-    let mut desk = farm(alloc, &["*"], 100)?;
+    let mut desk = farm(alloc, ALL, 100)?;
     let runs = chained_at(alloc, &mut desk);
     drop(desk);
     runs

@@ -2,16 +2,7 @@
 //!
 //! A line begins with the client's id, the attributes of the header that may be left out, and the MAC; the rest of it is a row.
 use super::rows::{Row, body_of, cut, replies, row_of};
-use super::tasks::{CREATED, THREE_SCOPES};
 use super::*;
-use crate::configs::{granted, of_parts, scopes};
-use farm_text::Text;
-use hawk_auth::{Client, ClientBook};
-use role_expand::Role;
-use scope_sets::Scope;
-
-/// The token of each client here, so that a MAC is good for any of them.
-const TOKEN: &str = "0123456789012345678901234567";
 
 /// What a client says of itself.
 #[derive(Clone, Copy)]
@@ -40,70 +31,63 @@ fn request_of(alloc: Global, by: &Signature, row: &Row) -> Result<String, AllocE
     )
 }
 
-/// A client with these scopes, that expires at this moment.
-fn client(
-    alloc: Global,
-    id: &str,
-    texts: &[&str],
-    expires: u64,
-    disabled: bool,
-) -> Result<Client, Fail> {
-    let expires = Moment::from_millis(expires).ok_or("a moment")?;
-    Ok(Client {
-        id: Text::from_str(alloc, id)?,
-        token: Text::from_str(alloc, TOKEN)?,
-        scopes: scopes(alloc, texts)?,
-        expires,
-        disabled,
-    })
-}
+/// The file of a farm with clients: one that makes tasks, one with the scope `a` alone, one that is over, one that is disabled, and one whose
+/// role, of which the scopes are missing here, gives too much. All have one token, so that a MAC is good for any of them.
+const CLIENTS: &str = r#"
+[farm]
+host = "Farm.Example"
 
-/// Adds clients: one that makes tasks, one with the scope `a` alone, one that is over, one that is disabled, and one whose role gives too much.
-fn add_clients(alloc: Global, clients: &mut Vec<Client>) -> Result<(), Fail> {
-    clients.push(client(alloc, "maker", &THREE_SCOPES, CREATED + 1, false)?)?;
-    clients.push(client(alloc, "limited", &["a"], CREATED + 901_001, false)?)?;
-    clients.push(client(alloc, "old", &["*"], CREATED, false)?)?;
-    clients.push(client(alloc, "off", &["*"], CREATED + 1, true)?)?;
-    clients.push(client(alloc, "many", &[], CREATED + 1, false)?)?;
-    Ok(())
-}
+[[client]]
+id = "maker"
+token = "0123456789012345678901234567"
+scopes = ["queue:create-task:project:none", "queue:scheduler-id:-", "queue:create-task:lowest:prov/wt"]
+expires = "2024-01-01T00:00:00.001Z"
 
-/// The book of these clients.
-fn clients(alloc: Global) -> Result<ClientBook, Fail> {
-    let mut clients = Vec::new(alloc);
-    match add_clients(alloc, &mut clients) {
-        Ok(()) => Ok(ClientBook::build(alloc, clients).ok().ok_or("clients")?),
-        Err(error) => {
-            drop(clients);
-            Err(error)
-        }
-    }
-}
+[[client]]
+id = "limited"
+token = "0123456789012345678901234567"
+scopes = ["a"]
+expires = "2024-01-01T00:15:01.001Z"
 
-/// The role of the last client, with ten thousand scopes.
-fn role(alloc: Global) -> Result<Role, Fail> {
-    let id = String::from_str(alloc, "client-id:many")?;
-    let mut scopes = Vec::new(alloc);
+[[client]]
+id = "old"
+token = "0123456789012345678901234567"
+scopes = ["*"]
+expires = "2024-01-01T00:00:00Z"
+
+[[client]]
+id = "off"
+token = "0123456789012345678901234567"
+scopes = ["*"]
+expires = "2024-01-01T00:00:00.001Z"
+disabled = true
+
+[[client]]
+id = "many"
+token = "0123456789012345678901234567"
+scopes = []
+expires = "2024-01-01T00:00:00.001Z"
+
+[[role]]
+id = "client-id:many"
+scopes = ["#;
+
+/// The same with the scopes of that role, ten thousand.
+fn file(alloc: Global) -> Result<String, AllocError> {
+    let mut file = String::from_str(alloc, CLIENTS)?;
     for place in 0..10_000u32 {
-        scopes.push(Scope::new(format!(in alloc; "s{place}")?).ok_or("a scope")?)?;
+        let scope = format!(in alloc; "\"s{place}\", ")?;
+        file.push_str(scope.as_str())?;
     }
-    Ok(Role { id, scopes })
+    file.push_str("]")?;
+    Ok(file)
 }
 
-/// A farm with these clients.
+/// A farm of this file.
 fn farm(alloc: Global) -> Result<Solo<Bare>, Fail> {
-    let host = Text::from_str(alloc, "Farm.Example")?;
-    let roles = granted(alloc, role(alloc)?)?;
-    match clients(alloc) {
-        Ok(clients) => {
-            let config = of_parts(alloc, host, 1_000_000, roles, clients);
-            Ok(Solo::new(Bare::new(alloc, config)))
-        }
-        Err(error) => {
-            drop(roles);
-            Err(error)
-        }
-    }
+    let file = file(alloc)?;
+    let config = config_of(alloc, file.as_str())?;
+    Ok(Solo::new(Bare::new(alloc, config)))
 }
 
 /// Whether a desk gives the reply of a line to its call.

@@ -60,15 +60,17 @@ const DENIED: &str =
 0|GET /api/queue/v1/task/AAAAAAAAQACAAAAAAAAAAA||403 Forbidden|{"code":"InsufficientScopes","details":{"missing":"queue:get-task:AAAAAAAAQACAAAAAAAAAAA"},"message":"scopes are missing"}
 0|GET /api/queue/v1/pending/prov%2Fwt||403 Forbidden|{"code":"InsufficientScopes","details":{"missing":"queue:pending-count:prov/wt"},"message":"scopes are missing"}"#;
 
+/// What such a caller has.
+const MAKERS: &str = r#"["queue:create-task:*", "queue:scheduler-id:*"]"#;
+
 #[test]
 fn lists_are_told(rt: HostRuntime) -> Result<(), Fail> {
     let alloc = rt.alloc();
-    let scopes = ["queue:create-task:*", "queue:scheduler-id:*"];
     let told = [
         first_otherwise(alloc, GROUP)?,
         first_otherwise(alloc, DEPENDANTS)?,
         first_otherwise(alloc, PENDING)?,
-        first_other_at(alloc, scopes.as_slice(), 1_000_000, DENIED)?,
+        first_other_at(alloc, MAKERS, 1_000_000, DENIED)?,
     ];
     assert_eq!(rt; told, ["none"; 4]);
     Ok(())

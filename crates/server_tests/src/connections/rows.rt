@@ -3,7 +3,7 @@
 //! A line has the moment at which a request comes, its method and target, its body, and the status and the body of its reply. The moment is told
 //! in milliseconds after the first task's creation, or behind `=` in those since 1970. In the body of a request `~` stands for the smallest
 //! definition without its last brace, and in that of a reply for the first task's status while it is pending.
-use super::tasks::{CREATED, PLAIN, STATUS, farm, written_at};
+use super::tasks::{ALL, CREATED, PLAIN, STATUS, farm, written_at};
 use super::*;
 
 /// A line of a conversation, cut at its bars.
@@ -152,7 +152,7 @@ fn first_other_of_two<'a>(
 /// credentials has these scopes. A desk is owned here and in the next function alone, so that the proofs of the tests are short.
 pub(super) fn first_other_at<'a>(
     alloc: Global,
-    scopes: &[&str],
+    scopes: &str,
     max_tasks: u32,
     talk: &'a str,
 ) -> Result<&'a str, Fail> {
@@ -168,7 +168,7 @@ pub(super) fn first_other_in<'a>(
     first: &'a str,
     second: &'a str,
 ) -> Result<&'a str, Fail> {
-    let mut desk = farm(alloc, &["*"], 1_000_000)?;
+    let mut desk = farm(alloc, ALL, 1_000_000)?;
     let other = first_other_of_two(alloc, &mut desk, first, second);
     drop(desk);
     other
@@ -176,5 +176,5 @@ pub(super) fn first_other_in<'a>(
 
 /// The same of one part.
 pub(super) fn first_otherwise<'a>(alloc: Global, talk: &'a str) -> Result<&'a str, Fail> {
-    first_other_at(alloc, &["*"], 1_000_000, talk)
+    first_other_at(alloc, ALL, 1_000_000, talk)
 }

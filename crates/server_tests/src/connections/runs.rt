@@ -1,6 +1,6 @@
 //! The runs of one task over connections in memory. The replies were written by hand after the queue service's reference, and by a model of it.
 use super::rows::{asked, first_otherwise, reply_text};
-use super::tasks::farm;
+use super::tasks::{ALL, farm};
 use super::*;
 
 /// A worker takes the task, and then it is made again.
@@ -124,7 +124,7 @@ fn fifty_and(alloc: Global, desk: &mut Solo<Bare>, request: &str) -> Result<Vec<
 
 /// The same of a new farm.
 fn after_fifty(alloc: Global, request: &str) -> Result<Vec<u8>, Fail> {
-    let mut desk = farm(alloc, &["*"], 1_000_000)?;
+    let mut desk = farm(alloc, ALL, 1_000_000)?;
     let written = fifty_and(alloc, &mut desk, request);
     drop(desk);
     written

@@ -14,15 +14,15 @@ pub(super) const PLAIN: &str =
 pub(super) const STATUS: &str =
     r#"{"deadline":"2024-01-02T00:00:00.000Z","expires":"2025-01-01T00:00:00.000Z","projectId":"none","provisionerId":"prov","retriesLeft":5,"runs":[{"reasonCreated":"scheduled","runId":0,"scheduled":"2024-01-01T00:00:00.000Z","state":"pending"}],"schedulerId":"-","state":"pending","taskGroupId":"AAAAAAAAQACAAAAAAAAAAA","taskId":"AAAAAAAAQACAAAAAAAAAAA","taskQueueId":"prov/wt","workerType":"wt"}"#;
 
-/// The three scopes that creating the smallest definition asks for.
-pub(super) const THREE_SCOPES: [&str; 3] = [
-    "queue:create-task:project:none",
-    "queue:scheduler-id:-",
-    "queue:create-task:lowest:prov/wt",
-];
+/// The three scopes that creating the smallest definition asks for, as a farm file lists them.
+const THREE_SCOPES: &str =
+    r#"["queue:create-task:project:none", "queue:scheduler-id:-", "queue:create-task:lowest:prov/wt"]"#;
 
-/// A farm that takes so many tasks, where whoever gives no credentials has these scopes.
-pub(super) fn farm(alloc: Global, scopes: &[&str], max_tasks: u32) -> Result<Solo<Bare>, Fail> {
+/// All scopes, as a farm file lists them.
+pub(super) const ALL: &str = r#"["*"]"#;
+
+/// A farm that takes so many tasks, where whoever gives no credentials has these scopes, as a farm file lists them.
+pub(super) fn farm(alloc: Global, scopes: &str, max_tasks: u32) -> Result<Solo<Bare>, Fail> {
     let config = granting(alloc, scopes, max_tasks)?;
     Ok(Solo::new(Bare::new(alloc, config)))
 }
@@ -79,10 +79,10 @@ const BODIES: &str =
 fn tasks_are_made_and_fall_due(rt: HostRuntime) -> Result<(), Fail> {
     let alloc = rt.alloc();
     let told = [
-        first_other_at(alloc, &THREE_SCOPES, 1_000_000, ONCE)?,
-        first_other_at(alloc, &["*"], 1_000_000, DUE)?,
-        first_other_at(alloc, &["*"], 1, FULL)?,
-        first_other_at(alloc, &["*"], 1, BODIES)?,
+        first_other_at(alloc, THREE_SCOPES, 1_000_000, ONCE)?,
+        first_other_at(alloc, ALL, 1_000_000, DUE)?,
+        first_other_at(alloc, ALL, 1, FULL)?,
+        first_other_at(alloc, ALL, 1, BODIES)?,
     ];
     assert_eq!(rt; told, ["none"; 4]);
     Ok(())

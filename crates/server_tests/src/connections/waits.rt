@@ -1,5 +1,6 @@
 //! Tasks that wait for others, over connections in memory. The replies were written by hand after the queue service's reference, and by a model of it.
 use super::rows::{first_other_at, first_other_in, first_otherwise};
+use super::tasks::ALL;
 use super::*;
 
 /// A task waits for two others, of which one is completed and run again.
@@ -72,7 +73,7 @@ fn tasks_wait_for_others(rt: HostRuntime) -> Result<(), Fail> {
     let told = [
         first_other_in(alloc, TWO, BOTH)?,
         first_otherwise(alloc, ITSELF)?,
-        first_other_at(alloc, &["*"], 1, FULL)?,
+        first_other_at(alloc, ALL, 1, FULL)?,
         first_otherwise(alloc, REFUSED)?,
         first_otherwise(alloc, CANCELED)?,
         first_otherwise(alloc, ONE_TICK)?,
