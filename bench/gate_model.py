@@ -16,18 +16,19 @@ import os
 import sys
 
 # `rattle build` of each library and of each crate's tests, in a run from nothing of 82 minutes on 30 November 2026, on a machine of 2.5 GHz (role_expand 6.0) with
-# little else beside it. What the compiler takes is not here. A crate that is not here takes a few seconds.
+# little else beside it; of farm_asks, the five crates above it that give answers, and server_tests, which changed on 1 December, that times what they took then
+# beside what they had taken. What the compiler takes is not here. A crate that is not here takes a few seconds.
 TIMES = {
     "causes": 0.4, "history": 0.3, "scope_sets": 1.3, "jsone_expr": 2.9, "dep_graph": 2.4, "farm_text": 5.8, "role_expand": 6.0, "http_wire": 3.5,
     "disk_base": 2.2, "disk_journal": 1.4, "route_table": 1.2, "shared_desk": 1.6, "task_groups": 1.4, "slug_places": 0.3, "scope_lines": 0.5,
     "plain_text": 0.6, "farm_desk": 0.3, "task_defs": 8.4, "hawk_auth": 4.1, "jsone_values": 4.2, "jsone_eval": 2.8, "command_line": 5.2, "claim_queue": 2.4,
-    "run_states": 2.2, "farm_record": 2.2, "call_rules": 1.6, "task_statuses": 1.1, "jsone_render": 9.1, "hook_fire": 1.4, "farm_rows": 10.5, "farm_asks": 4.0,
-    "farm_machine": 8.5, "api_routes": 3.4, "farm_files": 5.4, "farm_core": 3.0, "farm_server": 2.0, "farm_serving": 2.6, "farm_bulk": 2.9, "farm_cli": 8.4,
+    "run_states": 2.2, "farm_record": 2.2, "call_rules": 1.6, "task_statuses": 1.1, "jsone_render": 9.1, "hook_fire": 1.4, "farm_rows": 10.5, "farm_asks": 2.8,
+    "farm_machine": 7.9, "api_routes": 3.1, "farm_files": 5.4, "farm_core": 2.8, "farm_server": 1.8, "farm_serving": 2.1, "farm_bulk": 2.9, "farm_cli": 8.4,
     "farm": 1.2,
 }
 TESTS = {
     "wire_tests": 3.0, "scope_tests": 1.9, "text_tests": 1.7, "sign_tests": 3.2, "parsing_tests": 1.1, "expression_tests": 3.1, "rendering_tests": 1.9,
-    "queue_tests": 4.0, "task_tests": 7.0, "disk_tests": 1.9, "farm_tests": 7.5, "desk_tests": 1.4, "server_tests": 9.1, "cli_tests": 6.2, "farm_desk": 0.5,
+    "queue_tests": 4.0, "task_tests": 7.0, "disk_tests": 1.9, "farm_tests": 7.5, "desk_tests": 1.4, "server_tests": 8.2, "cli_tests": 6.2, "farm_desk": 0.5,
     "history": 0.4,
 }
 # An edit over what its crate's seed, a proof of the crate, has left.
