@@ -6,7 +6,7 @@ ghost use Rattle.farm_asks.specs.Questions.{IsSaidCall};
 use call_rules::HookName;
 use farm_record::{Creation, Resolution, RunName};
 use farm_text::{Moment, SlugId, Text};
-use http_wire::Bytes;
+use octets::Bytes;
 use std::marker::Model;
 use task_defs::{DefFault, Identifier, Object, TaskQueue};
 

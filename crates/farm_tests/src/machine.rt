@@ -16,7 +16,7 @@ use farm_files::read_farm;
 use farm_machine::step::{apply, plan};
 use farm_machine::tables::{Tables, due, tick};
 use farm_text::{LAST_TOLD_MOMENT, Moment, SlugId};
-use http_wire::Bytes;
+use octets::Bytes;
 use std::alloc::{AllocError, Global};
 use std::test::Fail;
 

@@ -29,6 +29,6 @@ pub use laws::{
 pub use link::{Link, Sink, Source};
 pub use list::{ListEnd, MessageList, read_messages};
 pub use memory::{MemoryLink, MemorySink, MemorySource};
-pub use message::{Bytes, Message, Wire};
+pub use message::{Message, Wire};
 pub use reader::Reader;
 pub use whole::{ReadAllFault, read_all, read_source, write_all, write_sink};

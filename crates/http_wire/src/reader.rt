@@ -14,9 +14,10 @@ ghost use Rattle.http_wire.specs.Whole.{piece_size};
 use crate::body::{fill, take_body};
 use crate::head::{FIELD_LIMIT, Front, HEAD_LIMIT, HeadAt, are_empty_lines, lines_end, look_at};
 use crate::link::Link;
-use crate::message::{Bytes, Message, Wire};
+use crate::message::{Message, Wire};
 use crate::rules::{body_length, message_of};
 use httparse::spans::{EMPTY_HEADER_SPAN, HeaderSpan};
+use octets::Bytes;
 use std::alloc::{AllocError, Global};
 use std::marker::Model;
 

@@ -7,10 +7,11 @@ ghost use Rattle.http_wire.specs.Framing.{body_length, length_of};
 ghost use Rattle.http_wire.specs.Message.{first_of, closes_after, message_of};
 
 use crate::head::BODY_LIMIT;
-use crate::message::{Bytes, Message, Wire};
+use crate::message::{Message, Wire};
 use http1::fields::KnownFields;
 use http1::text::eq_ignore_case;
 use httparse::spans::{HeaderSpan, RequestSpans};
+use octets::Bytes;
 use std::alloc::{AllocError, Global};
 
 /// What the fields with one name say.
