@@ -83,33 +83,29 @@ fn door(alloc: Global) -> Result<MemoryListener, AllocError> {
     }
 }
 
-/// What a claim was answered by these replies, and whether the task runs then.
-fn told(replies: &str) -> &'static str {
-    let (before, status) = replies.rsplit_once("\r\n\r\n").unwrap_or((replies, ""));
-    if !status.contains("\"state\":\"running\"") {
-        "it does not run"
-    } else if before.contains("{\"tasks\":[]}") {
-        "none"
-    } else if before.contains("{\"tasks\":[{\"runId\":0,") {
-        "run 0"
-    } else {
-        "no claim"
+/// Whether these replies answer a claim so, and the task runs then.
+fn tells(replies: &str, claimed: &str) -> bool {
+    match replies.rsplit_once("\r\n\r\n") {
+        Some((before, status)) => {
+            before.contains(claimed) && status.contains("\"state\":\"running\"")
+        }
+        None => false,
     }
 }
 
 /// The same of what was written over a link that came back.
-fn answered(back: &Returned) -> &'static str {
+fn is_answered_so(back: &Returned, claimed: &str) -> bool {
     match str::from_utf8(back.link.sink.written()) {
-        Ok(replies) => told(replies),
-        Err(_) => "no text",
+        Ok(replies) => tells(replies, claimed),
+        Err(_) => false,
     }
 }
 
 /// How many claims over the links of a door were answered so.
-fn answered_so(door: &MemoryListener, word: &str) -> u64 {
+fn answered_so(door: &MemoryListener, claimed: &str) -> u64 {
     let mut count = 0u64;
     for back in door.returned() {
-        if answered(back) == word {
+        if is_answered_so(back, claimed) {
             count = count.saturating_add(1);
         }
     }
@@ -122,8 +118,8 @@ fn given_and_not(alloc: Global, house: &MemoryHouse) -> Result<String, Fail> {
     let mut given = 0u64;
     let mut not = 0u64;
     for door in doors {
-        given = given.saturating_add(answered_so(door, "run 0"));
-        not = not.saturating_add(answered_so(door, "none"));
+        given = given.saturating_add(answered_so(door, r#"{"tasks":[{"runId":0,"#));
+        not = not.saturating_add(answered_so(door, r#"{"tasks":[]}"#));
     }
     Ok(format!(in alloc; "{given} {not}")?)
 }

@@ -127,9 +127,10 @@ fn parts(row: &str) -> Row<'_> {
 
 /// The words of a line.
 pub(crate) fn words_of(alloc: Global, line: &str) -> Result<Vec<&str>, AllocError> {
-    line.split(' ')
-        .filter(|word| !word.is_empty())
-        .collect(alloc)
+    if line.is_empty() {
+        return Ok(Vec::new(alloc));
+    }
+    line.split(' ').collect(alloc)
 }
 
 /// Whether these words, this farm file and this input, of which what the row says fails, come to what it says.

@@ -8,11 +8,11 @@ ghost use Rattle.farm_text.specs.declared.moment.TheConstants.{LAST_TOLD_MOMENT 
 ghost use Rattle.farm_rows.specs.Due.{is_due};
 ghost use Rattle.farm_asks.specs.Questions.{IsSaidCall};
 
+use crate::configs::config_of;
 use crate::machine::calls::call_of;
 use farm_asks::config::Config;
 use farm_asks::question::{Call, Caller, Credentials, Question};
 use farm_asks::reply::Reply;
-use farm_files::read_farm;
 use farm_machine::step::{apply, plan};
 use farm_machine::tables::{Tables, due, tick};
 use farm_text::{LAST_TOLD_MOMENT, Moment, SlugId};
@@ -167,14 +167,6 @@ fn is_answered(alloc: Global, tables: &mut Tables, farm: &Config, row: &str) -> 
     Ok(is_as(reply.as_str(), row.wanted))
 }
 
-/// The farm that this file sets up.
-pub(crate) fn farm_of(alloc: Global, file: &str) -> Result<Config, Fail> {
-    match read_farm(alloc, file.as_bytes()) {
-        Ok(farm) => Ok(farm),
-        Err(_) => Err(Fail::from("the file has a fault")),
-    }
-}
-
 /// The first row that these tables answer otherwise, or `none`.
 fn first_other_in<'a>(
     alloc: Global,
@@ -200,7 +192,7 @@ fn first_other_at<'a>(alloc: Global, farm: &Config, rows: &'a str) -> Result<&'a
 
 /// The same of a farm that begins, and that this file sets up.
 fn first_other<'a>(alloc: Global, file: &str, rows: &'a str) -> Result<&'a str, Fail> {
-    let farm = farm_of(alloc, file)?;
+    let farm = config_of(alloc, file)?;
     let other = first_other_at(alloc, &farm, rows);
     drop(farm);
     other
@@ -304,7 +296,7 @@ fn made_twice_at(alloc: Global, farm: &Config) -> Result<[u64; 4], Fail> {
 
 /// The same of a farm that begins, and that this file sets up.
 fn made_twice(alloc: Global, file: &str) -> Result<[u64; 4], Fail> {
-    let farm = farm_of(alloc, file)?;
+    let farm = config_of(alloc, file)?;
     let counts = made_twice_at(alloc, &farm);
     drop(farm);
     counts

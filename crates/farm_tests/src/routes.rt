@@ -1,9 +1,10 @@
 //! Messages and the calls that they make, by the queue service's reference, and a head by HTTP/1.1.
 use api_routes::{call_of, caller_of, own_reply, reply_head};
 use call_rules::HookName;
-use farm_asks::question::{BodyFault, Call, Caller, PageRequest, Parameter};
+use farm_asks::question::{BodyFault, Call, Caller, PageRequest};
 use farm_asks::reply::Reply;
-use farm_record::{Report, RunName};
+use farm_record::RunName;
+use farm_rows::reason_of;
 use farm_text::SlugId;
 use http_wire::{Message, Wire};
 use octets::Bytes;
@@ -65,34 +66,6 @@ fn fault_of<'a>(fault: &'a BodyFault) -> &'a str {
     }
 }
 
-/// A parameter, as a word.
-fn parameter_word(parameter: Parameter) -> &'static str {
-    match parameter {
-        Parameter::TaskId => "taskId",
-        Parameter::RunId => "runId",
-        Parameter::TaskGroupId => "taskGroupId",
-        Parameter::Queue => "queue",
-        Parameter::HookGroupId => "hookGroupId",
-        Parameter::HookId => "hookId",
-        Parameter::Limit => "limit",
-        Parameter::ContinuationToken => "continuationToken",
-    }
-}
-
-/// How a run ended, as a word.
-fn report_word(report: Report) -> &'static str {
-    match report {
-        Report::Completed => "completed",
-        Report::Failed => "failed",
-        Report::Superseded => "superseded",
-        Report::WorkerShutdown => "worker-shutdown",
-        Report::MalformedPayload => "malformed-payload",
-        Report::ResourceUnavailable => "resource-unavailable",
-        Report::InternalError => "internal-error",
-        Report::IntermittentTask => "intermittent-task",
-    }
-}
-
 /// A call of a task, in words.
 fn task_told(alloc: Global, word: &str, id: SlugId) -> Result<String, AllocError> {
     let name = id.to_text(alloc)?;
@@ -137,7 +110,7 @@ fn hook_told(alloc: Global, hook: &HookName) -> Result<String, AllocError> {
 fn told(alloc: Global, call: &Call) -> Result<String, AllocError> {
     match call {
         Call::NoRoute(name) => format!(in alloc; "no route {}", name.as_str()),
-        Call::BadParameter(parameter) => format!(in alloc; "bad {}", parameter_word(*parameter)),
+        Call::BadParameter(parameter) => format!(in alloc; "bad {}", parameter.name()),
         Call::BadBody(fault) => String::from_str(alloc, fault_of(fault)),
         Call::Ping => String::from_str(alloc, "ping"),
         Call::Task(id) => task_told(alloc, "task", *id),
@@ -148,7 +121,7 @@ fn told(alloc: Global, call: &Call) -> Result<String, AllocError> {
         Call::CreateTask(creation) => task_told(alloc, "create", creation.id),
         Call::ClaimWork(work) => run_told(alloc, work.worker_id.as_str(), work.tasks),
         Call::ReclaimTask(RunName { run, .. }) => run_told(alloc, "reclaim", *run),
-        Call::ReportRun(report) => run_told(alloc, report_word(report.reason), report.run),
+        Call::ReportRun(report) => run_told(alloc, reason_of(report.reason).name(), report.run),
         Call::ScheduleTask(id) => task_told(alloc, "schedule", *id),
         Call::RerunTask(id) => task_told(alloc, "rerun", *id),
         Call::CancelTask(id) => task_told(alloc, "cancel", *id),

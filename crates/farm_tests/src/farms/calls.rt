@@ -1,6 +1,7 @@
 //! Questions about one task, by words, and a farm that is open to all.
+use crate::configs::config_of;
 use crate::machine::calls::call_of;
-use crate::machine::{farm_of, moment};
+use crate::machine::moment;
 use farm_asks::config::Config;
 use farm_asks::question::{Caller, Question};
 use farm_text::SlugId;
@@ -12,7 +13,7 @@ const OPEN: &str = "[[role]]\nid = \"anonymous\"\nscopes = [\"*\"]\n";
 
 /// The configuration of that farm.
 pub(crate) fn config(alloc: Global) -> Result<Config, Fail> {
-    farm_of(alloc, OPEN)
+    config_of(alloc, OPEN)
 }
 
 /// The question of these words, so many milliseconds after the first task is made.

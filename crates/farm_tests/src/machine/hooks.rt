@@ -1,5 +1,6 @@
 //! Hooks that are triggered, with replies worked out by hand.
-use crate::machine::{farm_of, first_other_at, numbered};
+use crate::configs::config_of;
+use crate::machine::{first_other_at, numbered};
 use farm_asks::config::Config;
 use std::alloc::{AllocError, Global};
 use std::test::Fail;
@@ -53,7 +54,7 @@ fn first_other<'a>(
     rows: &'a str,
 ) -> Result<&'a str, Fail> {
     let file = file(alloc, scopes, queue)?;
-    let farm = farm_of(alloc, file.as_str())?;
+    let farm = config_of(alloc, file.as_str())?;
     let other = first_other_of(alloc, &farm, rows);
     drop(farm);
     other

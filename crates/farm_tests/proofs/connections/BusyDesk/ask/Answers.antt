@@ -5,7 +5,7 @@ use Rattle.history.proofs.AsksLemmas.{Leads-ask, HasAsked-leads}
 use Rattle.farm_machine.specs.Entry.{Entry}
 use Rattle.farm_machine.specs.Law.{opened}
 use Rattle.farm_machine.specs.Step.{farm_rules}
-use Rattle.server_tests.proofs.connections.BusyDesk.ask.Goals as goal
+use Rattle.farm_tests.proofs.connections.BusyDesk.ask.Goals as goal
 
 pub returns-clause-asked : goal.returns-clause-asked
 returns-clause-asked c =
