@@ -18,9 +18,12 @@ use http_wire::{Joined, MemoryLink, MemorySink, MemorySource, Wire};
 use std::alloc::{AllocError, Global};
 use std::test::Fail;
 
+mod answers;
 mod chains;
 mod clients;
+mod hooks;
 mod lists;
+mod one_task;
 mod rows;
 mod runs;
 mod tasks;

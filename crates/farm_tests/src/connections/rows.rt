@@ -2,7 +2,8 @@
 //!
 //! A line has the moment at which a request comes, its method and target, its body, and the status and the body of its reply. The moment is told
 //! in milliseconds after the first task's creation, or behind `=` in those since 1970. In the body of a request `~` stands for the smallest
-//! definition without its last brace, and in that of a reply for the first task's status while it is pending.
+//! definition without its last brace, and in that of a reply for the first task's status while it is pending. Behind ` # ` a target has the
+//! value of an Authorization field, and a star at the end of a reply stands for any text.
 use super::tasks::{ALL, CREATED, PLAIN, STATUS, farm, written_at};
 use super::*;
 
@@ -78,7 +79,12 @@ pub(super) fn reply_text(alloc: Global, status: &str, body: &str) -> Result<Stri
 /// The bytes of a request.
 fn bytes_of(alloc: Global, request: &str, body: &str) -> Result<String, AllocError> {
     let length = body.len();
-    format!(in alloc; "{request} HTTP/1.1\r\nContent-Length: {length}\r\n\r\n{body}")
+    match request.split_once(" # ") {
+        Some((line, field)) => format!(in alloc;
+            "{line} HTTP/1.1\r\nAuthorization: {field}\r\nContent-Length: {length}\r\n\r\n{body}"
+        ),
+        None => format!(in alloc; "{request} HTTP/1.1\r\nContent-Length: {length}\r\n\r\n{body}"),
+    }
 }
 
 /// What a desk writes to a request that comes at the first task's creation.
@@ -93,10 +99,30 @@ pub(super) fn asked(
     written_at(alloc, desk, bytes.as_str().as_bytes(), at)
 }
 
+/// Whether these bytes are those of a reply of this status, with its reason, whose body begins so.
+fn begins_so(
+    alloc: Global,
+    status: &str,
+    front: &str,
+    written: &[u8],
+) -> Result<bool, AllocError> {
+    let head = format!(in alloc; "HTTP/1.1 {status}\r\n")?;
+    let body = format!(in alloc; "\r\n\r\n{front}")?;
+    match str::from_utf8(written) {
+        Ok(reply) => Ok(reply.starts_with(head.as_str()) && reply.contains(body.as_str())),
+        Err(_) => Ok(false),
+    }
+}
+
 /// Whether these bytes are those of a row's reply.
 fn is_reply(alloc: Global, row: &Row, written: &[u8]) -> Result<bool, AllocError> {
-    let wanted = wanted(alloc, row)?;
-    Ok(written == wanted.as_str().as_bytes())
+    match row.reply.strip_suffix('*') {
+        Some(front) => begins_so(alloc, row.status, front, written),
+        None => {
+            let wanted = wanted(alloc, row)?;
+            Ok(written == wanted.as_str().as_bytes())
+        }
+    }
 }
 
 /// Whether a desk gives the reply of a row to this request.
@@ -149,7 +175,7 @@ fn first_other_of_two<'a>(
 }
 
 /// The first line of a conversation with a new farm that is answered otherwise, or `none`. The farm takes so many tasks, and whoever gives no
-/// credentials has these scopes. A desk is owned here and in the next function alone, so that the proofs of the tests are short.
+/// credentials has these scopes. A desk is owned here, in the next function and in the last alone, so that the proofs of the tests are short.
 pub(super) fn first_other_at<'a>(
     alloc: Global,
     scopes: &str,
@@ -177,4 +203,16 @@ pub(super) fn first_other_in<'a>(
 /// The same of one part.
 pub(super) fn first_otherwise<'a>(alloc: Global, talk: &'a str) -> Result<&'a str, Fail> {
     first_other_at(alloc, ALL, 1_000_000, talk)
+}
+
+/// The same of a farm that this file sets up.
+pub(super) fn first_other_of<'a>(
+    alloc: Global,
+    file: &str,
+    talk: &'a str,
+) -> Result<&'a str, Fail> {
+    let mut desk = Solo::new(Bare::new(alloc, config_of(alloc, file)?));
+    let other = first_other(alloc, &mut desk, talk);
+    drop(desk);
+    other
 }
