@@ -156,7 +156,8 @@ fn last_moment(alloc: Global) -> Option<u64> {
 }
 
 /// The file of a farm that is open to all, with a client.
-const FILE: &str = "role = [{ id = 'anonymous', scopes = ['*'] }]\nclient = [{ id = 'one', token = '0123456789012345678901', scopes = [], expires = '1970-01-01T00:00:00Z' }]\n";
+const FILE: &str =
+    "role = [{ id = 'anonymous', scopes = ['*'] }]\nclient = [{ id = 'one', token = '0123456789012345678901', scopes = [], expires = '1970-01-01T00:00:00Z' }]\n";
 
 #[test]
 fn a_task_is_made_once_and_the_last_moment_never_falls(rt: HostRuntime) -> Result<(), Fail> {

@@ -56,8 +56,7 @@ const REFUSED: &str =
 0|POST /api/hooks/v1/hooks/g/i/trigger|{}|404 Not Found|{"code":"ResourceNotFound","details":{"kind":"hook","name":"g/i"},"message":"nothing has that name"}"#;
 
 /// It is among them.
-const GRANTED: &str =
-    r#"0|POST /api/hooks/v1/hooks/g/h/trigger|{"x":"one"}|200 OK|{"status":~}"#;
+const GRANTED: &str = r#"0|POST /api/hooks/v1/hooks/g/h/trigger|{"x":"one"}|200 OK|{"status":~}"#;
 
 /// It is among them, and the queue is none.
 const NO_QUEUE: &str =

@@ -60,8 +60,7 @@ fn fifty(alloc: Global) -> Result<String, AllocError> {
 }
 
 /// The task is made, without retries.
-const FIRST: &str =
-    r#"0|PUT /api/queue/v1/task/AAAAAAAAQACAAAAAAAAAAA|~,"retries":0}|200 OK|*"#;
+const FIRST: &str = r#"0|PUT /api/queue/v1/task/AAAAAAAAQACAAAAAAAAAAA|~,"retries":0}|200 OK|*"#;
 
 /// The last round, the rerun that is refused, and the report.
 const LAST: &str = r#"

@@ -100,12 +100,7 @@ pub(super) fn asked(
 }
 
 /// Whether these bytes are those of a reply of this status, with its reason, whose body begins so.
-fn begins_so(
-    alloc: Global,
-    status: &str,
-    front: &str,
-    written: &[u8],
-) -> Result<bool, AllocError> {
+fn begins_so(alloc: Global, status: &str, front: &str, written: &[u8]) -> Result<bool, AllocError> {
     let head = format!(in alloc; "HTTP/1.1 {status}\r\n")?;
     let body = format!(in alloc; "\r\n\r\n{front}")?;
     match str::from_utf8(written) {
