@@ -28,7 +28,7 @@ TIMES = {
 }
 TESTS = {
     "wire_tests": 3.0, "scope_tests": 1.9, "text_tests": 1.7, "sign_tests": 3.2, "parsing_tests": 1.1, "expression_tests": 3.1, "rendering_tests": 1.9,
-    "queue_tests": 4.0, "task_tests": 7.0, "disk_tests": 1.9, "farm_tests": 11.5, "desk_tests": 1.4, "cli_tests": 6.1, "farm_desk": 0.5,
+    "queue_tests": 4.0, "task_tests": 7.0, "disk_tests": 1.9, "file_tests": 2.2, "farm_tests": 10.7, "desk_tests": 1.4, "cli_tests": 6.1, "farm_desk": 0.5,
     "history": 0.4,
 }
 # An edit over what its crate's seed, a proof of the crate, has left.
