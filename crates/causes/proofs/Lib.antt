@@ -1,2 +1,1 @@
 pub mod CausesLemmas
-pub mod LogsLemmas

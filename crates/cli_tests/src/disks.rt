@@ -2,9 +2,9 @@
 
 use crate::houses::{Case, Outcome, house_of, outcome_in};
 use crate::rows::{cut, is_outcome, unescaped, words_of};
+use console_commands::Status;
 use disk_base::MemoryDisk;
 use farm_cli::memory_house::MemoryHouse;
-use farm_cli::status::Status;
 use farm_serving::MemoryListener;
 use std::alloc::{AllocError, Global};
 use std::sync::Wait;

@@ -1,8 +1,8 @@
 //! Houses in memory, and runs over them.
 
+use console_commands::Status;
 use farm_cli::memory_house::MemoryHouse;
 use farm_cli::run;
-use farm_cli::status::Status;
 use farm_text::{ListClock, ListDraws, Moment};
 use http_wire::{Joined, MemoryLink, MemorySink, MemorySource};
 use std::alloc::{AllocError, Global};

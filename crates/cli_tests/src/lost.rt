@@ -2,9 +2,9 @@
 
 use crate::disks::{ANSWER, case, each_is_checked};
 use crate::houses::{Case, Outcome, house_at, outcome_in};
+use console_commands::Status;
 use disk_base::MemoryDisk;
 use farm_cli::memory_house::MemoryHouse;
-use farm_cli::status::Status;
 use farm_text::Moment;
 use std::alloc::{AllocError, Global};
 use std::sync::Wait;

@@ -2,10 +2,9 @@
 #![tactic(auto)]
 
 use causes::{Failed, FaultCount};
-use farm_cli::ended::Ended;
+use console_commands::{Ended, Status};
 use farm_cli::host_house::HostHouse;
 use farm_cli::run::run;
-use farm_cli::status::Status;
 use std::process::ExitCode;
 use std::{env, io};
 

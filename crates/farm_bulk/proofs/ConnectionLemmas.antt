@@ -4,7 +4,7 @@ use Rattle.std.proofs.lemmas.Bool.{lt-ltb}
 use Rattle.std.specs.List.{range_with_len}
 use Rattle.std.specs.declared.alloc.Global.{Global}
 use Rattle.std.specs.Io.KnownBytes.{Appends}
-use Rattle.causes.specs.Logs.{LogGrows}
+use Rattle.farm_text.specs.Logs.{LogGrows}
 use Rattle.history.specs.Histories.{asked_at, reply_at, entries, end_state}
 use Rattle.history.specs.Asks.{IsAsk, AreEntries, LeadsAlone, AsksInTurn}
 use Rattle.history.proofs.HistoriesLemmas.{end_state-append}

@@ -39,8 +39,8 @@ use Rattle.farm_server.specs.declared.served.Served.{Served}
 use Rattle.farm_server.specs.declared.served.Served.TheVariants as served
 use Rattle.farm_server.specs.declared.served.TheConstants.{REQUESTS}
 use Rattle.farm_cli.specs.declared.lending.Lending.TheVariants.{Ready, Back}
-use Rattle.farm_cli.specs.declared.status.Status.{Status}
-use Rattle.farm_cli.specs.declared.status.Status.TheVariants.{Done, Usage, FarmFile, Input, Opening, Disk, Door, Read, Write, NoMemory, Wire, Damaged}
+use Rattle.console_commands.specs.declared.status.Status.{Status}
+use Rattle.console_commands.specs.declared.status.Status.TheVariants.{Done, Usage, FarmFile, Input, Opening, Disk, Door, Read, Write, NoMemory, Wire, Damaged}
 use Rattle.farm_cli.specs.Checking.{CheckedOver, Checks, check_text, disk_text}
 use Rattle.farm_cli.specs.Disks.{BeginsFrom, IsRefusedFor, over_disk, status_of_fault}
 use Rattle.farm_cli.specs.Heard.{IsUnheard, IsHeard, ServedOver}
@@ -51,16 +51,16 @@ use Rattle.farm_serving.specs.Connections.{Station}
 use Rattle.farm_serving.specs.declared.ended.Ended.{Ended}
 use Rattle.farm_cli.proofs.FaultLemmas.{called}
 use Rattle.farm_cli.specs.Complete.{stop_status, status_for, own_text, HasFile, NoFileFault, HasDisk, NoDiskFault, HasSoundDisk, NoConsoleFault, AnswersAll, Answers, ServesSoundly, WritesAll, Finishes, FinishesSigning, Completes, CompletesLoad, CompletesRendering, CompletesSigning, RefusesFile, RefusesDisk, MissesFile, MissesDisk, TellsUsage}
-use Rattle.farm_cli.specs.Expanding.{IsExpansion, IsBadInput, Expands}
+use Rattle.console_commands.specs.Expanding.{IsExpansion, IsBadInput, Expands}
 use Rattle.farm_cli.specs.FarmFile.{SetsUp, HasFault, FileRefused}
 use Rattle.farm_cli.specs.House.{Files, Held, holds, refuses, unopened, back, WasLent, WasOpened, Lendings}
-use Rattle.farm_cli.specs.Inputs.{Tells, Turns}
+use Rattle.console_commands.specs.Inputs.{Tells, Turns}
 use Rattle.farm_cli.specs.Run.{DidOver, Obeyed, RanOverFile, RanOver, RanCommand, Ran}
 use Rattle.farm_cli.specs.Ends.{status_of}
 use Rattle.farm_cli.specs.Serving.{status_over, IsHistoryOf, ConversedOver}
 use Rattle.farm_cli.specs.Loading.{IsLoadLine, Loads}
-use Rattle.farm_cli.specs.Rendering.{IsRendering, IsUnrendered, Renders}
-use Rattle.farm_cli.specs.Signing.{IsSigned, IsTooLong, Signs, SignsAs, signed_line}
+use Rattle.console_commands.specs.Rendering.{IsRendering, IsUnrendered, Renders}
+use Rattle.console_commands.specs.Signing.{IsSigned, IsTooLong, Signs, SignsAs, signed_line}
 use Rattle.farm_cli.specs.Views.{Views, outside_of, talk_of}
 
 -- a reason for which the wire itself replies

@@ -4,8 +4,8 @@ use Rattle.std.specs.List.{All}
 use Rattle.std.specs.Prelude.{IfErr}
 use Rattle.std.proofs.lemmas.List.{length-map}
 use Rattle.causes.specs.Causes.{Rose}
-use Rattle.causes.specs.Logs.{LogGrows}
-use Rattle.causes.proofs.LogsLemmas.{LogGrows-none, LogGrows-then}
+use Rattle.farm_text.specs.Logs.{LogGrows}
+use Rattle.farm_text.proofs.LogsLemmas.{LogGrows-none, LogGrows-then}
 use Rattle.farm_text.specs.Told.{IsNewBeside}
 use Rattle.farm_serving.specs.Connections.{Station}
 use Rattle.farm_cli.specs.Crew.{IsStill, IsBeside, AreCrew, IsWholeCrew, IsKeptCrew, IsDoorFailed}

@@ -16,10 +16,10 @@ use Rattle.farm_serving.specs.Connections.{Connection, Company, outside, InTurn,
 use Rattle.farm_serving.specs.Numbers.{by_read, by_write, by_wire, by_memory}
 use Rattle.farm_serving.specs.Tally.{of_all, IsTally}
 use Rattle.farm_serving.specs.declared.ended.Ended.{Ended}
-use Rattle.farm_cli.specs.declared.status.Status.{Status}
-use Rattle.farm_cli.specs.declared.status.Status.TheVariants.{Done, Usage, FarmFile, Input, Opening, Disk, Door, Read, Write, NoMemory, Wire, Damaged}
+use Rattle.console_commands.specs.declared.status.Status.{Status}
+use Rattle.console_commands.specs.declared.status.Status.TheVariants.{Done, Usage, FarmFile, Input, Opening, Disk, Door, Read, Write, NoMemory, Wire, Damaged}
 use Rattle.farm_cli.specs.Ends.{HasOne, HasConnection, HasRisen, WentWell}
-use Rattle.farm_cli.specs.Inputs.{Tells}
+use Rattle.console_commands.specs.Inputs.{Tells}
 use Rattle.farm_cli.specs.Serves.{CallsFor, IsFirstOf, IsStatusOf}
 use Rattle.farm_cli.specs.Ends.{EndsWith, status_of}
 

@@ -8,8 +8,8 @@ use Rattle.command_line.specs.declared.service.Service.{Service}
 use Rattle.farm_asks.specs.declared.config.Config.{Config}
 use Rattle.farm_cli.specs.declared.lending.Lending.{Lending}
 use Rattle.farm_cli.specs.declared.lending.Lending.TheVariants.{Ready, Out, Back, Untold}
-use Rattle.farm_cli.specs.declared.status.Status.{Status}
-use Rattle.farm_cli.specs.declared.status.Status.TheVariants.{Done, Usage, FarmFile, Input, Opening, Disk, Door, Read, Write, NoMemory, Wire, Damaged}
+use Rattle.console_commands.specs.declared.status.Status.{Status}
+use Rattle.console_commands.specs.declared.status.Status.TheVariants.{Done, Usage, FarmFile, Input, Opening, Disk, Door, Read, Write, NoMemory, Wire, Damaged}
 use Rattle.farm_cli.specs.Checking.{CheckedOver}
 use Rattle.farm_cli.specs.Serving.{ConversedOver}
 use Rattle.farm_cli.specs.Heard.{IsUnheard, IsHeard, ServedOver}

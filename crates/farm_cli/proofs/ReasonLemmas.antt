@@ -24,13 +24,13 @@ use Rattle.farm_server.specs.Served.{messages_of, EndsAs, IsCaused}
 use Rattle.farm_server.specs.declared.served.TheConstants.{REQUESTS}
 use Rattle.farm_server.specs.declared.served.Served.{Served}
 use Rattle.farm_server.specs.declared.served.Served.TheVariants as served
-use Rattle.farm_cli.specs.declared.status.Status.{Status}
-use Rattle.farm_cli.specs.declared.status.Status.TheVariants.{Done, Usage, FarmFile, Input, Opening, Disk, Door, Read, Write, NoMemory, Wire, Damaged}
+use Rattle.console_commands.specs.declared.status.Status.{Status}
+use Rattle.console_commands.specs.declared.status.Status.TheVariants.{Done, Usage, FarmFile, Input, Opening, Disk, Door, Read, Write, NoMemory, Wire, Damaged}
 use Rattle.farm_cli.specs.Checking.{CheckedOver, check_text, disk_text}
 use Rattle.farm_cli.specs.Disks.{IsMissing, IsRefusedFor, WasUnopened, over_disk, status_of_fault}
 use Rattle.farm_cli.specs.Heard.{IsUnheard, IsHeard, ServedOver}
-use Rattle.farm_cli.specs.Inputs.{Tells, longest_input}
-use Rattle.farm_cli.specs.Expanding.{IsExpansion, Expands}
+use Rattle.console_commands.specs.Inputs.{Tells, longest_input}
+use Rattle.console_commands.specs.Expanding.{IsExpansion, Expands}
 use Rattle.farm_cli.specs.FarmFile.{SetsUp, FileRefused}
 use Rattle.farm_cli.specs.House.{WasLent, WasOpened, Lendings}
 use Rattle.farm_cli.specs.Reasons.{DiskMet, FileLent, FileTaken, KeepsDisk, SigningTaken, LoadTaken, RenderingTaken, ConsoleFailed, IsDone, IsRefused, IsCut, IsUnread, IsUnwritten, IsUnheld, IsSigningDone, IsSigningRefused, IsSigningUnread, HasReason}
@@ -38,8 +38,8 @@ use Rattle.farm_cli.specs.Run.{DidOver, Obeyed, RanOverFile, RanCommand, Ran}
 use Rattle.farm_cli.specs.Ends.{EndsWith, status_of}
 use Rattle.farm_cli.specs.Serving.{status_over, Conversed, ConversedOver}
 use Rattle.farm_cli.specs.Loading.{Loads}
-use Rattle.farm_cli.specs.Rendering.{IsRendering, Renders}
-use Rattle.farm_cli.specs.Signing.{IsSigned, Signs, SignsAs}
+use Rattle.console_commands.specs.Rendering.{IsRendering, Renders}
+use Rattle.console_commands.specs.Signing.{IsSigned, Signs, SignsAs}
 use Rattle.farm_cli.specs.Views.{Views, outside_of, talk_of}
 use Rattle.farm_cli.proofs.FaultLemmas.{ends_with}
 use Rattle.farm_cli.proofs.HeardLemmas.{ReasonOf, ReasonOf-heard}

@@ -31,7 +31,7 @@ use Rattle.farm_server.specs.Served.{Ask, questions_of, Spoke}
 use Rattle.farm_server.specs.declared.served.Served.{Served}
 use Rattle.farm_serving.specs.Connections.{Station}
 use Rattle.farm_cli.specs.Checking.{CheckedOver, counts_disk_text}
-use Rattle.farm_cli.specs.Inputs.{Tells}
+use Rattle.console_commands.specs.Inputs.{Tells}
 use Rattle.farm_asks.specs.Config.{counts_of}
 use Rattle.farm_asks.specs.declared.config.ConfigCounts.{ConfigCounts}
 use Rattle.farm_cli.specs.Disks.{BeginsFrom, DiskHolds, HasFarm, IsMissing, IsRefusedFor, LedOver, WasUnopened}
@@ -44,8 +44,8 @@ use Rattle.farm_cli.specs.Ends.{status_of}
 use Rattle.farm_cli.specs.Serving.{IsHistoryOf, Conversed, ConversedOver, status_over}
 use Rattle.http_wire.specs.Calls.{LinkState}
 use Rattle.farm_cli.specs.Views.{Views, outside_of, talk_of}
-use Rattle.farm_cli.specs.declared.status.Status.{Status}
-use Rattle.farm_cli.specs.declared.status.Status.TheVariants.{Disk}
+use Rattle.console_commands.specs.declared.status.Status.{Status}
+use Rattle.console_commands.specs.declared.status.Status.TheVariants.{Disk}
 use Rattle.std.specs.Prelude.{Ok}
 
 -- records one for one are as many

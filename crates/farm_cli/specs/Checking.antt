@@ -3,12 +3,12 @@ use Rattle.std.specs.Prelude.{◌≡◌, ℕ, List, [], ◌++◌, length, codes,
 use Rattle.farm_asks.specs.declared.config.Config.{Config}
 use Rattle.farm_asks.specs.declared.config.ConfigCounts.{ConfigCounts}
 use Rattle.farm_asks.specs.Config.{counts_of}
-use Rattle.farm_cli.specs.declared.status.Status.{Status}
+use Rattle.console_commands.specs.declared.status.Status.{Status}
 use Rattle.http_wire.specs.Calls.{LinkState}
 use Rattle.farm_machine.specs.Law.{Opening}
 use Rattle.farm_cli.specs.Disks.{BeginsFrom, DiskHolds}
 use Rattle.farm_cli.specs.House.{WasLent, WasOpened, Lendings}
-use Rattle.farm_cli.specs.Inputs.{Tells}
+use Rattle.console_commands.specs.Inputs.{Tells}
 use Rattle.farm_cli.specs.Views.{Views, talk_of}
 
 -- the line of a farm file that breaks no rule and has these rows

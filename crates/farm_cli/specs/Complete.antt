@@ -23,17 +23,17 @@ use Rattle.farm_core.specs.Diskless.{HaveNoDisk}
 use Rattle.farm_server.specs.Served.{Ask, messages_of, reply_texts}
 use Rattle.farm_server.specs.declared.served.TheConstants.{REQUESTS}
 use Rattle.farm_cli.specs.declared.lending.Lending.TheVariants.{Ready, Back}
-use Rattle.farm_cli.specs.declared.status.Status.{Status}
-use Rattle.farm_cli.specs.declared.status.Status.TheVariants.{Done, Usage, FarmFile, Input, Opening, Disk, NoMemory, Wire, Damaged}
+use Rattle.console_commands.specs.declared.status.Status.{Status}
+use Rattle.console_commands.specs.declared.status.Status.TheVariants.{Done, Usage, FarmFile, Input, Opening, Disk, NoMemory, Wire, Damaged}
 use Rattle.farm_cli.specs.Checking.{check_text, disk_text}
 use Rattle.farm_cli.specs.Disks.{BeginsFrom}
-use Rattle.farm_cli.specs.Expanding.{IsExpansion, IsBadInput}
+use Rattle.console_commands.specs.Expanding.{IsExpansion, IsBadInput}
 use Rattle.farm_cli.specs.FarmFile.{SetsUp, HasFault}
 use Rattle.farm_cli.specs.House.{Held, holds, refuses, unopened, back, Lendings}
 use Rattle.farm_cli.specs.Loading.{IsLoadLine}
-use Rattle.farm_cli.specs.Rendering.{IsRendering, IsUnrendered}
+use Rattle.console_commands.specs.Rendering.{IsRendering, IsUnrendered}
 use Rattle.farm_cli.specs.Serving.{IsHistoryOf}
-use Rattle.farm_cli.specs.Signing.{signed_line, IsSigned, IsTooLong}
+use Rattle.console_commands.specs.Signing.{signed_line, IsSigned, IsTooLong}
 use Rattle.farm_cli.specs.Views.{Views}
 
 -- the status that a reason to stop calls for: an input that ends where a message would begin is read to its end

@@ -1,7 +1,7 @@
 -- Workers that stand ready: at the door that a house lent, and at its twins.
 use Rattle.std.specs.Prelude.{◌≡◌, ℕ, ◌≤◌, List, [], ◌∷◌, length, All, None}
 use Rattle.causes.specs.Causes.{Rose}
-use Rattle.causes.specs.Logs.{LogGrows}
+use Rattle.farm_text.specs.Logs.{LogGrows}
 use Rattle.farm_text.specs.Told.{IsNewBeside}
 use Rattle.farm_text.specs.declared.clock.Clock as clocks
 use Rattle.farm_text.specs.declared.draws.Draws as draws
@@ -11,8 +11,8 @@ use Rattle.farm_serving.specs.declared.door.Listener as doors
 use Rattle.farm_serving.specs.declared.worker.Worker.{Worker}
 use Rattle.farm_cli.specs.declared.crew.Lack.{Lack}
 use Rattle.farm_cli.specs.declared.crew.Lack.TheVariants as lacks
-use Rattle.farm_cli.specs.declared.status.Status.{Status}
-use Rattle.farm_cli.specs.declared.status.Status.TheVariants.{Door, NoMemory}
+use Rattle.console_commands.specs.declared.status.Status.{Status}
+use Rattle.console_commands.specs.declared.status.Status.TheVariants.{Door, NoMemory}
 
 -- the status that a lack of workers calls for
 abbrev pub status_of_lack : Lack → Status

@@ -17,8 +17,8 @@ use Rattle.disk_journal.specs.Records.{Opens}
 use Rattle.farm_machine.specs.State.{State}
 use Rattle.farm_machine.specs.Step.{farm_rules}
 use Rattle.history.specs.Histories.{end_state}
-use Rattle.farm_cli.specs.declared.status.Status.{Status}
-use Rattle.farm_cli.specs.declared.status.Status.TheVariants.{Disk, NoMemory, Damaged}
+use Rattle.console_commands.specs.declared.status.Status.{Status}
+use Rattle.console_commands.specs.declared.status.Status.TheVariants.{Disk, NoMemory, Damaged}
 use Rattle.farm_cli.specs.House.{CanOpenAmong, WasOpened, after_opened, Lendings}
 use Rattle.farm_cli.specs.Used.{LeavesConsole}
 use Rattle.farm_cli.specs.Views.{Views}

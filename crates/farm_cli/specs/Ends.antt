@@ -6,8 +6,8 @@ use Rattle.farm_server.specs.declared.served.TheConstants.{REQUESTS}
 use Rattle.farm_server.specs.declared.served.Served.{Served}
 use Rattle.farm_server.specs.declared.served.Served.TheVariants as served
 use Rattle.farm_serving.specs.Connections.{Connection, Part}
-use Rattle.farm_cli.specs.declared.status.Status.{Status}
-use Rattle.farm_cli.specs.declared.status.Status.TheVariants.{Done, Read, Write, NoMemory, Wire}
+use Rattle.console_commands.specs.declared.status.Status.{Status}
+use Rattle.console_commands.specs.declared.status.Status.TheVariants.{Done, Read, Write, NoMemory, Wire}
 
 -- the status that a connection ends a run with
 abbrev pub status_of : Served → Status

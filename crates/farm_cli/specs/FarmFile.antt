@@ -6,8 +6,8 @@ use Rattle.farm_files.specs.Farms.{Says}
 use Rattle.farm_files.specs.Files.{Breaks}
 use Rattle.farm_files.specs.declared.fault.Fault.{Fault}
 use Rattle.farm_files.specs.declared.reading.TheConstants.{LONGEST_FILE}
-use Rattle.farm_cli.specs.declared.status.Status.{Status}
-use Rattle.farm_cli.specs.declared.status.Status.TheVariants.{FarmFile, Read, NoMemory}
+use Rattle.console_commands.specs.declared.status.Status.{Status}
+use Rattle.console_commands.specs.declared.status.Status.TheVariants.{FarmFile, Read, NoMemory}
 
 -- the file breaks no rule, and sets a farm up so
 abbrev pub SetsUp : List ℕ → Config → Type 0

@@ -5,7 +5,7 @@ use Rattle.command_line.specs.declared.service.Service.{Service}
 use Rattle.farm_server.specs.declared.gate.NoGate.{NoGate}
 use Rattle.farm_serving.specs.Connections.{Part, Worked}
 use Rattle.farm_serving.specs.declared.worker.Worker.{Worker}
-use Rattle.farm_cli.specs.declared.status.Status.TheVariants.{Wire}
+use Rattle.console_commands.specs.declared.status.Status.TheVariants.{Wire}
 use Rattle.farm_cli.specs.Ends.{EndsWith, HasOne, HasConnection, HasRisen, WentWell}
 use Rattle.farm_cli.specs.Crew.{IsWholeCrew}
 use Rattle.farm_cli.specs.Heard.{workers_of, station_with, station_of}

@@ -13,8 +13,8 @@ use Rattle.farm_machine.specs.Step.{farm_rules}
 use Rattle.farm_server.specs.declared.gate.NoGate.{NoGate}
 use Rattle.farm_serving.specs.Connections.{Station, station}
 use Rattle.farm_serving.specs.declared.worker.Worker.{Worker}
-use Rattle.farm_cli.specs.declared.status.Status.{Status}
-use Rattle.farm_cli.specs.declared.status.Status.TheVariants.{Disk, Door, NoMemory}
+use Rattle.console_commands.specs.declared.status.Status.{Status}
+use Rattle.console_commands.specs.declared.status.Status.TheVariants.{Disk, Door, NoMemory}
 use Rattle.farm_cli.specs.Disks.{LedOver, over_disk}
 use Rattle.farm_cli.specs.House.{WasLent, Doors, CanListen, after_listened, all_left, Lendings}
 use Rattle.farm_cli.specs.Serves.{ServesFarm, NeverServed, IsLed}

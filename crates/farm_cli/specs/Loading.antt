@@ -4,10 +4,10 @@ use Rattle.command_line.specs.declared.load.Load.{Load}
 use Rattle.farm_rows.specs.declared.summary.Summary.{Summary}
 use Rattle.farm_bulk.specs.Bulk.{IsBulk, summary_text}
 use Rattle.http_wire.specs.Calls.{LinkState}
-use Rattle.farm_cli.specs.declared.status.Status.{Status}
-use Rattle.farm_cli.specs.declared.status.Status.TheVariants.{NoMemory}
-use Rattle.farm_cli.specs.Inputs.{Tells}
-use Rattle.farm_cli.specs.Writing.{SameReads, SameWrites}
+use Rattle.console_commands.specs.declared.status.Status.{Status}
+use Rattle.console_commands.specs.declared.status.Status.TheVariants.{NoMemory}
+use Rattle.console_commands.specs.Inputs.{Tells}
+use Rattle.console_commands.specs.Writing.{SameReads, SameWrites}
 
 -- the line of a load: the summary of its run
 abbrev pub IsLoadLine : Load → List ℕ → Type 0

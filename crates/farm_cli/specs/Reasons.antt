@@ -10,16 +10,16 @@ use Rattle.command_line.specs.declared.signing.Signing.{Signing}
 use Rattle.command_line.specs.Words.{disk_of}
 use Rattle.farm_core.specs.Opened.{IsFarmDamaged}
 use Rattle.farm_asks.specs.declared.config.Config.{Config}
-use Rattle.farm_cli.specs.declared.status.Status.{Status}
-use Rattle.farm_cli.specs.declared.status.Status.TheVariants.{Done, Usage, FarmFile, Input, Opening, Disk, Door, Read, Write, NoMemory, Wire, Damaged}
+use Rattle.console_commands.specs.declared.status.Status.{Status}
+use Rattle.console_commands.specs.declared.status.Status.TheVariants.{Done, Usage, FarmFile, Input, Opening, Disk, Door, Read, Write, NoMemory, Wire, Damaged}
 use Rattle.farm_cli.specs.Ends.{EndsWith}
-use Rattle.farm_cli.specs.Expanding.{IsExpansion, IsBadInput}
+use Rattle.console_commands.specs.Expanding.{IsExpansion, IsBadInput}
 use Rattle.farm_cli.specs.FarmFile.{SetsUp, HasFault}
 use Rattle.farm_cli.specs.Faults.{IsServed, IsDoorBroken, IsLinkUnread, IsLinkUnwritten, IsLinkCut}
 use Rattle.farm_cli.specs.House.{WasLent, WasOpened, Lendings}
-use Rattle.farm_cli.specs.Inputs.{longest_input}
-use Rattle.farm_cli.specs.Rendering.{IsRendering, IsUnrendered}
-use Rattle.farm_cli.specs.Signing.{IsTooLong}
+use Rattle.console_commands.specs.Inputs.{longest_input}
+use Rattle.console_commands.specs.Rendering.{IsRendering, IsUnrendered}
+use Rattle.console_commands.specs.Signing.{IsTooLong}
 use Rattle.farm_cli.specs.Views.{Views}
 
 -- the farm file that the words name was opened and came back

@@ -10,18 +10,18 @@ use Rattle.command_line.specs.declared.signing.Signing.{Signing}
 use Rattle.farm_files.specs.declared.reading.TheConstants.{LONGEST_FILE}
 use Rattle.farm_asks.specs.declared.config.Config.{Config}
 use Rattle.http_wire.specs.Whole.{piece_size, LosesWithin}
-use Rattle.farm_cli.specs.declared.status.Status.{Status}
-use Rattle.farm_cli.specs.declared.status.Status.TheVariants.{Usage, Opening, NoMemory}
+use Rattle.console_commands.specs.declared.status.Status.{Status}
+use Rattle.console_commands.specs.declared.status.Status.TheVariants.{Usage, Opening, NoMemory}
 use Rattle.farm_cli.specs.Checking.{Checks, CheckedOver}
 use Rattle.farm_cli.specs.Disks.{IsMissing, WasUnopened}
-use Rattle.farm_cli.specs.Expanding.{Expands}
+use Rattle.console_commands.specs.Expanding.{Expands}
 use Rattle.farm_cli.specs.FarmFile.{SetsUp, FileRefused}
 use Rattle.farm_cli.specs.Heard.{ServedOver}
 use Rattle.farm_cli.specs.House.{CanOpenAmong, WasOpened, Lendings}
 use Rattle.farm_cli.specs.Loading.{Loads}
-use Rattle.farm_cli.specs.Rendering.{Renders}
+use Rattle.console_commands.specs.Rendering.{Renders}
 use Rattle.farm_cli.specs.Serving.{Conversed, ConversedOver}
-use Rattle.farm_cli.specs.Signing.{Signs}
+use Rattle.console_commands.specs.Signing.{Signs}
 use Rattle.farm_cli.specs.Used.{LeavesConsole, UsedConsole}
 use Rattle.farm_cli.specs.Views.{Views}
 

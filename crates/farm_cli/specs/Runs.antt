@@ -1,7 +1,7 @@
 -- All that is said of a run.
 use Rattle.std.specs.Prelude.{ℕ, Option}
 use Rattle.command_line.specs.declared.command.Command.{Command}
-use Rattle.farm_cli.specs.declared.status.Status.{Status}
+use Rattle.console_commands.specs.declared.status.Status.{Status}
 use Rattle.farm_cli.specs.Complete.{Completes, CompletesLoad, CompletesRendering, CompletesSigning, RefusesFile, RefusesDisk, MissesFile, MissesDisk, TellsUsage}
 use Rattle.farm_cli.specs.House.{Lendings}
 use Rattle.farm_cli.specs.Reasons.{HasReason}

@@ -11,11 +11,11 @@ use Rattle.farm_machine.specs.Step.{farm_rules}
 use Rattle.farm_serving.specs.Connections.{Station}
 use Rattle.farm_serving.specs.Serving.{Serves}
 use Rattle.farm_serving.specs.declared.ended.Ended.{Ended}
-use Rattle.farm_cli.specs.declared.status.Status.{Status}
-use Rattle.farm_cli.specs.declared.status.Status.TheVariants.{Done, Door, Read, Write, NoMemory, Wire}
+use Rattle.console_commands.specs.declared.status.Status.{Status}
+use Rattle.console_commands.specs.declared.status.Status.TheVariants.{Done, Door, Read, Write, NoMemory, Wire}
 use Rattle.farm_cli.specs.Crew.{IsWholeCrew, IsKeptCrew, IsDoorFailed}
-use Rattle.farm_cli.specs.Inputs.{Tells}
-use Rattle.farm_cli.specs.Writing.{SameReads, SameWrites, WritesText}
+use Rattle.console_commands.specs.Inputs.{Tells}
+use Rattle.console_commands.specs.Writing.{SameReads, SameWrites, WritesText}
 
 -- the line that is written before workers serve
 abbrev pub ready_text : List ℕ

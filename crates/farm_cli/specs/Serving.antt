@@ -13,7 +13,7 @@ use Rattle.farm_asks.specs.declared.reply.Reply.{Reply}
 use Rattle.farm_core.specs.Diskless.{HaveNoDisk}
 use Rattle.farm_server.specs.Served.{Ask, questions_of, Spoke}
 use Rattle.farm_server.specs.declared.served.Served.{Served}
-use Rattle.farm_cli.specs.declared.status.Status.{Status}
+use Rattle.console_commands.specs.declared.status.Status.{Status}
 use Rattle.farm_cli.specs.Disks.{LedOver, over_disk}
 use Rattle.farm_cli.specs.Ends.{status_of}
 use Rattle.farm_cli.specs.House.{WasLent, Lendings}

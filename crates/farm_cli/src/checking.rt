@@ -1,11 +1,9 @@
 //! What a farm file has, counted.
 ghost use Rattle.std.specs.Prelude.{◌≡◌, string_bytes, IfOk};
 ghost use Rattle.farm_cli.specs.Checking.{counts_text, counts_disk_text, Checks};
-ghost use Rattle.farm_cli.specs.Inputs.{Tells};
+ghost use Rattle.console_commands.specs.Inputs.{Tells};
 
-use crate::ended::Ended;
-use crate::status::Status;
-use crate::writing::write_text;
+use console_commands::{Ended, Status, write_text};
 use farm_asks::config::{Config, ConfigCounts};
 use farm_core::Counts;
 use http_wire::Link;

@@ -1,25 +1,23 @@
 //! The commands, over what a house lends.
 ghost use Rattle.std.specs.Prelude.{◌≡◌, ◌≤◌};
 ghost use Rattle.farm_cli.specs.Checking.{Checks};
-ghost use Rattle.farm_cli.specs.Expanding.{Expands};
+ghost use Rattle.console_commands.specs.Expanding.{Expands};
 ghost use Rattle.farm_cli.specs.Loading.{Loads};
-ghost use Rattle.farm_cli.specs.Rendering.{Renders};
+ghost use Rattle.console_commands.specs.Rendering.{Renders};
 ghost use Rattle.farm_cli.specs.Run.{Obeyed};
 ghost use Rattle.farm_cli.specs.Used.{UsedConsole};
 ghost use Rattle.farm_cli.specs.Serving.{Conversed};
-ghost use Rattle.farm_cli.specs.Signing.{Signs};
+ghost use Rattle.console_commands.specs.Signing.{Signs};
 ghost use Rattle.farm_cli.specs.Views.{views_of};
 
 use crate::checking::check;
 use crate::disks::{check_disk, converse_over};
-use crate::ended::Ended;
-use crate::expanding::expand;
+use crate::ends::after_serving;
 use crate::house::House;
 use crate::loading::run_load;
-use crate::rendering::render;
 use crate::serve::serve_over;
-use crate::signing::sign;
 use command_line::{Load, Signing, Work};
+use console_commands::{Ended, expand, render, sign};
 use farm_asks::config::Config;
 use farm_core::Bare;
 use farm_desk::Solo;
@@ -88,7 +86,7 @@ fn converse<H: House>(alloc: Global, config: Config, house: &mut H) -> Ended
     house.back_draws(draws);
     let bare = desk.into_object();
     drop(bare);
-    Ended::after_serving(alloc, served)
+    after_serving(alloc, served)
 }
 
 /// Expands the console's scopes over the roles of a farm.

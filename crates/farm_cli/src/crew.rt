@@ -4,8 +4,8 @@ ghost use Rattle.causes.specs.Causes.{Rose};
 ghost use Rattle.farm_cli.specs.Crew.{station_by, status_of_lack, IsStill, IsBeside, AreCrew, IsWholeCrew, IsKeptCrew, IsDoorFailed};
 ghost use Rattle.farm_cli.specs.declared.crew.Lack.TheVariants.{Door, Memory};
 
-use crate::status::Status;
 use causes::Failed;
+use console_commands::Status;
 use farm_server::NoGate;
 use farm_serving::{Listener, Worker};
 use farm_text::{Clock, Draws};

@@ -7,10 +7,9 @@ ghost use Rattle.farm_cli.specs.Serving.{ConversedOver};
 ghost use Rattle.farm_cli.specs.Views.{views_of};
 
 use crate::checking::tell_counts;
-use crate::ended::Ended;
 use crate::house::House;
-use crate::status::Status;
 use causes::Failed;
+use console_commands::{Ended, Status};
 use disk_journal::OpenFault;
 use farm_asks::config::Config;
 use farm_core::Farm;
@@ -134,7 +133,7 @@ pub(crate) fn converse_over<H: House>(
     if halted {
         return on_disk(alloc, name);
     }
-    Ended::after_serving(alloc, served)
+    after_serving(alloc, served)
 }
 
 /// Counts what a farm and the disk of this name have, on the console, and gives the disk back.

@@ -4,8 +4,7 @@ ghost use Rattle.farm_files.specs.declared.reading.TheConstants.{LONGEST_FILE};
 ghost use Rattle.http_wire.specs.Whole.{piece_size, LosesWithin};
 ghost use Rattle.farm_cli.specs.FarmFile.{SetsUp, BytesRefused, FileRefused};
 
-use crate::ended::Ended;
-use crate::status::Status;
+use console_commands::{Ended, Status};
 use farm_asks::config::Config;
 use farm_files::{Fault, FileFault, LONGEST_FILE, Rule, Table, read_farm_with, tell_fault};
 use http_wire::{ReadAllFault, Source, read_source};

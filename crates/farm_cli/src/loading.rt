@@ -3,10 +3,8 @@ ghost use Rattle.std.specs.Prelude.{string_bytes, IfOk};
 ghost use Rattle.http_wire.specs.Calls.{state_of};
 ghost use Rattle.farm_cli.specs.Loading.{IsLoadLine, Loads};
 
-use crate::ended::Ended;
-use crate::status::Status;
-use crate::writing::write_text;
 use command_line::Load;
+use console_commands::{Ended, Status, write_text};
 use farm_bulk::{bulk, summary_line};
 use http_wire::Link;
 use std::alloc::{AllocError, Global};

@@ -12,13 +12,11 @@ ghost use Rattle.farm_cli.specs.Runs.{Runs};
 ghost use Rattle.farm_cli.specs.Views.{views_of};
 
 use crate::commands::{load_over, obey, render_over, sign_over};
-use crate::ended::Ended;
 use crate::farm_file::{read_config, unopened};
 use crate::house::House;
-use crate::status::Status;
-use crate::writing::write_line;
 use causes::Failed;
 use command_line::{Command, WordsFault, Work, read_words};
+use console_commands::{Ended, Status, write_line};
 use farm_record::a_record_is_of_one_change;
 use farm_serving::Listener;
 use std::alloc::Global;
@@ -32,7 +30,7 @@ use std::thread::Threads;
 /// `bulk` runs a generated load over a farm in memory and writes how its tasks stand then, and `render` writes the value of the template that
 /// the console gives with its context. All that was asked for is given back, and the notes are told a line where the status is not `Done`.
 ///
-/// The history that `answer` and `serve` lead through is legal, so the laws of `farm_machine::law` hold of it: a call is denied exactly where its
+/// The history that `answer` and `serve` lead through is legal, so the laws of `farm_laws::machine` hold of it: a call is denied exactly where its
 /// caller's scopes do not hold what it asks (`a_denial_is_of_scopes_that_are_missing`), a task is created once
 /// (`a_task_is_created_once`), and an equal createTask after it is answered with the task's status (`an_equal_call_acts_once`).
 pub fn run<R: Threads + Wait + Sync, H: House>(

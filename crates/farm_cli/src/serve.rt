@@ -7,13 +7,12 @@ ghost use Rattle.farm_cli.specs.Serves.{ServesAll};
 ghost use Rattle.farm_cli.specs.Views.{views_of};
 
 use crate::disks::{on_disk, open_farm};
-use crate::ended::Ended;
 use crate::giving_back::{HandOf, dismiss};
 use crate::house::House;
 use crate::serving::{Left, Shifts, serve_object};
-use crate::status::Status;
 use causes::Failed;
 use command_line::Service;
+use console_commands::{Ended, Status};
 use farm_asks::config::Config;
 use farm_core::Farm;
 use farm_desk::Object;

@@ -4,13 +4,12 @@ ghost use Rattle.farm_server.specs.declared.served.TheConstants.{REQUESTS};
 ghost use Rattle.http_wire.specs.Calls.{state_of};
 ghost use Rattle.farm_serving.specs.Connections.{Station};
 ghost use Rattle.farm_cli.specs.Crew.{station_by, IsWholeCrew};
-ghost use Rattle.farm_cli.specs.Inputs.{Tells};
+ghost use Rattle.console_commands.specs.Inputs.{Tells};
 ghost use Rattle.farm_cli.specs.Serves.{ready_text, served_text, IsStatusOf, ServesReady, IsUnready, ServesAll};
-ghost use Rattle.farm_cli.specs.Writing.{WritesText};
+ghost use Rattle.console_commands.specs.Writing.{WritesText};
 
 use crate::crew::{Hand, gather};
-use crate::status::Status;
-use crate::writing::write_text;
+use console_commands::{Status, write_text};
 use farm_asks::question::Question;
 use farm_asks::reply::Asked;
 use farm_desk::Object;

@@ -1,13 +1,11 @@
 //! The forms and ranges of values, in words.
-ghost use Rattle.std.specs.Prelude.{◌↔◌, IsNone, All};
-ghost use Rattle.scope_sets.specs.Scopes.{IsPrintable, HasHandedInForm};
-ghost use Rattle.scope_sets.specs.declared.scopes.TheConstants.{LONGEST_SCOPE};
 
 use crate::fault::Table;
 use crate::settings::has_host_form;
 use call_rules::{is_hook_group_id, is_hook_id};
 use farm_text::read_moment;
 use hawk_auth::{is_client_id, is_token};
+use scope_lines::scope_fault;
 use scope_sets::LONGEST_SCOPE;
 use scope_sets::scopes::is_printable;
 
@@ -62,22 +60,6 @@ pub(crate) fn scope_words(text: &str, takes_parameter: bool) -> Option<&'static 
         None if takes_parameter => hole_words(text),
         None => None,
     }
-}
-
-/// The rule that keeps a text from being a scope which may be handed in, in words; `None` exactly where the text is such a scope.
-pub fn scope_fault(text: &[u8]) -> Option<&'static str>
-    ensures { IsNone result ↔ (All IsPrintable text.now × HasHandedInForm LONGEST_SCOPE text.now) }
-{
-    if !is_printable(text) {
-        return Some("a scope is printable ASCII");
-    }
-    if text.len() > LONGEST_SCOPE {
-        return Some("a scope has at most 4096 bytes");
-    }
-    if matches!(text, [.., b'*', b'*']) {
-        return Some("a scope does not end with **");
-    }
-    None
 }
 
 /// The rule on `<..>` that a scope of a role with a parameter breaks.

@@ -47,7 +47,6 @@ mod values;
 mod words;
 
 pub use fault::{Fault, FileFault, Rule, Table};
-pub use forms::scope_fault;
 pub use reading::{LONGEST_FILE, read_farm, read_farm_with};
 pub use rows::MOST_ROWS;
 pub use settings::LONGEST_HOST;

@@ -18,7 +18,8 @@ use Rattle.farm_record.specs.declared.change.Creation.{Creation}
 use Rattle.farm_record.specs.declared.unread.Unread.TheVariants.{NotARecord}
 use Rattle.farm_record.specs.Records.{IsDefinitionText}
 use Rattle.farm_record.specs.Reading.{Reads, Refuses}
-use Rattle.farm_record.specs.Writing.{IsFullOf, IsWrittenText}
+use Rattle.task_defs.specs.Writing.{IsFullOf}
+use Rattle.farm_record.specs.Writing.{IsWrittenText}
 
 -- ---- a full form that a document says nests no deeper than that document may
 

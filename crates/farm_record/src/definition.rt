@@ -1,27 +1,16 @@
 //! The definition of a task that is made, as a text.
-ghost use Rattle.std.specs.Prelude.{◌≡◌, ◌↔◌, IsTrue, IfOk};
+ghost use Rattle.std.specs.Prelude.{◌≡◌, ◌↔◌, IsTrue};
 ghost use Rattle.farm_text.specs.Slug.{IsUuid4};
 ghost use Rattle.farm_record.specs.Records.{IsDefinitionText};
 ghost use Rattle.farm_record.specs.Reading.{Reads};
-ghost use Rattle.farm_record.specs.Writing.{IsFullOf};
 
 use crate::unread::Unread;
-use farm_text::{Doc, ReadFault, SlugId, Text, a_text_is_of_one_document};
-use json::Writer;
+use farm_text::{Doc, ReadFault, SlugId, a_text_is_of_one_document};
 use std::alloc::{AllocError, Global};
 use task_defs::{
     DefError, TaskDef, a_full_form_says_its_definition, read_task, the_fault_is_one,
     the_full_form_is_one,
 };
-
-/// The text of a definition: its full form as JSON without spaces.
-pub(crate) fn full_text(alloc: Global, def: &TaskDef) -> Result<Text, AllocError>
-    ensures { IfOk result (IsFullOf def.now) }
-{
-    let mut out = Writer::new(Vec::with_capacity(alloc, 512)?);
-    def.write_to(alloc, &mut out)?;
-    Ok(Text::from_writer(out))
-}
 
 /// The definition whose text this is, for the task of this id.
 pub(crate) fn definition(alloc: Global, id: SlugId, text: &[u8]) -> Result<TaskDef, Unread>
@@ -50,7 +39,7 @@ pub(crate) fn definition(alloc: Global, id: SlugId, text: &[u8]) -> Result<TaskD
         }
     };
     drop(doc);
-    match full_text(alloc, &def) {
+    match def.full_text(alloc) {
         Ok(full) => {
             if is_same(full.as_bytes(), text) {
                 Ok(def)

@@ -9,7 +9,6 @@ ghost use Rattle.farm_record.specs.Writing.{IsWrittenText};
 ghost use Rattle.farm_text.specs.Slug.{IsUuid4};
 
 use crate::change::{Change, Claim, Creation, Kind, Reclaim, Report, Resolution, RunName};
-use crate::definition::full_text;
 use crate::run_names::RunNames;
 use farm_text::{Moment, SlugId};
 use std::alloc::{AllocError, Global};
@@ -115,7 +114,7 @@ fn put_creation(alloc: Global, out: &mut Vec<u8>, creation: &Creation) -> Result
     ensures { OnOk result ((fields : List ℕ) × HasFields IsWrittenText (kinds.Create creation.now) fields × (out.new.items ≡ out.old.items ++ fields)) }
 {
     a_full_form_says_its_definition();
-    let text = full_text(alloc, &creation.definition)?;
+    let text = creation.definition.full_text(alloc)?;
     put_id(out, creation.id)?;
     put_sized(out, text.as_bytes())?;
     Ok(())

@@ -32,13 +32,7 @@ mod walks;
 mod work;
 
 pub use counts::RowCounts;
-pub use laws::{
-    a_change_comes_before_the_ends_of_claims, a_task_is_created_once, a_task_is_scheduled_once,
-    a_task_waits_well, advances_go_together, an_advance_goes_turn_by_turn, no_task_is_ready,
-    nothing_is_due_after_an_advance, one_name_is_one_queue, pages_are_the_whole_list,
-    settling_goes_one_by_one, settling_takes_nothing_away, tables_cross_threads,
-    tasks_and_runs_stay, what_is_served_stays,
-};
+pub use laws::{one_name_is_one_queue, tables_cross_threads};
 pub use listing::PlacePage;
 pub use lists::{Page, TaskList};
 pub use moves::reason_of;

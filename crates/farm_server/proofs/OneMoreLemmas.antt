@@ -1,7 +1,7 @@
 -- One more message in front of what a connection did.
 use Rattle.std.proofs.Common.{◌≡◌, ℕ, suc, ◌-◌, ◌<◌, ◌⊎◌, inl, inr, Bool, true, false, ◌||◌, eqb, List, [], ◌∷◌, ◌++◌, length, map, Option, Some, None, IfSome, refl, sym, ◌∙◌, ap, subst, append_assoc, arith}
 use Rattle.std.proofs.KnownBytes.{Appends-trans}
-use Rattle.causes.proofs.LogsLemmas.{LogGrows-then}
+use Rattle.farm_text.proofs.LogsLemmas.{LogGrows-then}
 use Rattle.history.proofs.AsksLemmas.{AsksInTurn-then}
 use Rattle.http_wire.specs.declared.message.Message.{Message}
 use Rattle.http_wire.specs.declared.message.Wire.{Wire}

@@ -3,7 +3,7 @@ use Rattle.std.proofs.Common.{◌≡◌, Err, ◌≢◌, ℕ, ◌-◌, ◌<◌, 
 use Rattle.std.proofs.lemmas.Bool.{ne_eqb}
 use Rattle.std.specs.Io.KnownBytes.{Appends, IsAtEnd}
 use Rattle.std.proofs.KnownBytes.{Appends-nil}
-use Rattle.causes.proofs.LogsLemmas.{LogGrows-none}
+use Rattle.farm_text.proofs.LogsLemmas.{LogGrows-none}
 use Rattle.history.specs.Asks.{AsksInTurn}
 use Rattle.history.proofs.AsksLemmas.{AsksInTurn-none}
 use Rattle.http_wire.specs.declared.message.Message.{Message}

@@ -1,5 +1,5 @@
 ghost use Rattle.std.specs.Prelude.{List, [], ◌∷◌, Option, None};
-ghost use Rattle.causes.specs.Logs.{LogGrows};
+ghost use Rattle.farm_text.specs.Logs.{LogGrows};
 ghost use Rattle.farm_server.specs.declared.gate.When.{When};
 
 /// Where a connection stands with the n-th of its requests, from 0.

@@ -6,8 +6,8 @@ use Rattle.std.proofs.lemmas.List.Concat.{flat_map-append}
 use Rattle.std.proofs.lemmas.List.Elements.{All-nil, All-cons}
 use Rattle.std.proofs.lemmas.List.Sums.{sum_by-cons}
 use Rattle.causes.specs.Causes.{Rose}
-use Rattle.causes.specs.Logs.{LogGrows}
-use Rattle.causes.proofs.LogsLemmas.{LogGrows-none, LogGrows-then}
+use Rattle.farm_text.specs.Logs.{LogGrows}
+use Rattle.farm_text.proofs.LogsLemmas.{LogGrows-none, LogGrows-then}
 use Rattle.history.specs.Asks.{AsksInTurn}
 use Rattle.history.proofs.AsksLemmas.{AsksInTurn-none, AsksInTurn-then}
 use Rattle.http_wire.specs.Calls.{LinkState}

@@ -1,6 +1,6 @@
 -- What one worker did: its connections, one after the other.
 use Rattle.std.specs.Prelude.{◌≡◌, ℕ, ◌+◌, ◌-◌, ◌^◌, ◌≤◌, ◌⊎◌, List, [], ◌∷◌, length, map, flat_map, Option}
-use Rattle.causes.specs.Logs.{LogGrows}
+use Rattle.farm_text.specs.Logs.{LogGrows}
 use Rattle.history.specs.Asks.{AsksInTurn}
 use Rattle.http_wire.specs.Calls.{LinkState}
 use Rattle.farm_asks.specs.declared.reply.Reply.{Reply}

@@ -1,7 +1,7 @@
 //! What links come from.
 ghost use Rattle.std.specs.Prelude.{◌≡◌, ℕ, ◌+◌, ◌<◌, List, [], ◌∷◌, Option, MatchResult, IfOk};
 ghost use Rattle.causes.specs.Causes.{HasCause};
-ghost use Rattle.causes.specs.Logs.{LogGrows};
+ghost use Rattle.farm_text.specs.Logs.{LogGrows};
 ghost use Rattle.http_wire.specs.Calls.{LinkState, state_of};
 ghost use Rattle.farm_serving.specs.Doors.{IsMore, IsNewDoor};
 

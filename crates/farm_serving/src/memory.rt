@@ -1,6 +1,6 @@
 //! A door in memory, which tells its links.
 ghost use Rattle.std.specs.Prelude.{◌≡◌, ◌+◌, ◌-◌, ◌^◌, ◌<◌, [], ◌∷◌, Some, length, vec_capacity, IfOk};
-ghost use Rattle.causes.specs.Logs.{LogGrows};
+ghost use Rattle.farm_text.specs.Logs.{LogGrows};
 ghost use Rattle.farm_serving.specs.Memory.{memory_state, links_given, links_taken, links_out, accepts_made, accept_faults};
 
 use crate::coming::{Coming, MemoryListener, Returned};

@@ -1,8 +1,8 @@
+pub mod LogsLemmas
 pub mod DocLemmas
 pub mod ToldLemmas
 pub mod MomentLemmas
 pub mod SlugLemmas
-pub mod DrawLemmas
 mod PointerLemmas
 mod ReadingLemmas
 mod DateTimeLemmas

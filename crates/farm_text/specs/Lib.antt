@@ -1,9 +1,9 @@
-pub mod Document
+pub mod DateTime
 pub mod Digits
 pub mod Doc
-pub mod DateTime
-pub mod Draws
+pub mod Document
 pub mod Entries
+pub mod Logs
 pub mod Moment
 pub mod Pointer
 pub mod Reading

@@ -1,5 +1,5 @@
 ghost use Rattle.std.specs.Prelude.{◌≡◌, ℕ, ◌+◌, ◌-◌, ◌^◌, ◌≤◌, List, [], ◌∷◌, min, Option, Some, None, IfOk};
-ghost use Rattle.causes.specs.Logs.{LogGrows};
+ghost use Rattle.farm_text.specs.Logs.{LogGrows};
 ghost use Rattle.farm_text.specs.Told.{told_by, listed_moment, IsNewBeside};
 ghost use Rattle.farm_text.specs.declared.moment.TheConstants.{LAST_TOLD_MOMENT};
 

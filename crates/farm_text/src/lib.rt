@@ -16,7 +16,7 @@ mod text;
 pub use clock::{Clock, HostClock, ListClock};
 pub use date_time::{a_text_has_one_moment, read_moment, written_moments_are_read_back};
 pub use doc::Doc;
-pub use draws::{Draws, HostDraws, ListDraws};
+pub use draws::{Draws, ListDraws};
 pub use entries::Entries;
 pub use moment::{
     LAST_MOMENT, LAST_TOLD_MOMENT, Moment, moment_texts_are_one, the_last_moments, write_moment,

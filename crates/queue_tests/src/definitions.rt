@@ -242,17 +242,9 @@ fn what_is_said_of_faults(rt: HostRuntime) {
     assert!(rt; has_words(rt.alloc(), "[]", whole));
 }
 
-/// The full form of a definition, as text.
-fn full_text(alloc: Global, def: &TaskDef) -> Result<String, AllocError> {
-    let doc = def.doc(alloc)?;
-    let text = doc.write(alloc);
-    drop(doc);
-    Ok(text?.into_string())
-}
-
 /// Whether the full form of a definition has this text in it.
 fn has_part(alloc: Global, def: &TaskDef, part: &str) -> bool {
-    match full_text(alloc, def) {
+    match def.full_text(alloc) {
         Ok(text) => text.as_str().contains(part),
         Err(_) => false,
     }

@@ -44,16 +44,9 @@ fn hook_of(alloc: Global, template: &str) -> Option<Hook> {
     }
 }
 
-/// The full form of a definition.
-fn full_text(alloc: Global, def: &TaskDef) -> Result<Text, AllocError> {
-    let doc = def.doc(alloc)?;
-    let text = doc.write(alloc);
-    drop(doc);
-    text
-}
-
+/// Whether the full form of a definition has this text in it.
 fn has_part(alloc: Global, def: &TaskDef, part: &str) -> bool {
-    match full_text(alloc, def) {
+    match def.full_text(alloc) {
         Ok(text) => text.as_str().contains(part),
         Err(_) => false,
     }

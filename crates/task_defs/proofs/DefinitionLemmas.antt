@@ -1,5 +1,5 @@
 -- A document says one definition at most, and a definition has one full form.
-use Rattle.std.proofs.Common.{◌≡◌, ℕ, ◌<◌, ◌↔◌, Bool, true, false, IsTrue, MatchBool, Result, Ok, Err, IfOk, List, [], codes, length, Option, Some, None, refl, sym, ap, ◌∙◌, subst, inl, inr}
+use Rattle.std.proofs.Common.{◌≡◌, ℕ, ◌<◌, ◌↔◌, Bool, true, false, IsTrue, MatchBool, List, [], codes, length, Option, Some, None, refl, sym, ap, ◌∙◌, subst, inl, inr}
 use Rattle.std.proofs.lemmas.Bool.{false≢true}
 use Rattle.farm_text.specs.Document.{Document, text, get, document_text}
 use Rattle.farm_text.proofs.MomentLemmas.{IsMomentText-one}
@@ -104,10 +104,6 @@ full_form_one def a b x y =
 pub form_long : (def : TaskDef) (full : Document) (long : Bool) → IsFullForm def full → (IsTrue long ↔ (8388608 < length (document_text full))) → MatchBool long (IsLongForm def) (¬ IsLongForm def)
 form_long def full true form is = record { full = full; form = form; long = is.0 refl }
 form_long def full false form is = λ h. false≢true (is.1 (subst (λ (x : Document). 8388608 < length (document_text x)) (full_form_one def h.full full h.form form) h.long))
-
-pub form_long_ok : {E : Type 0} (def : TaskDef) (made : Document) (r : Result Bool E) → IsFullForm def made → IfOk r (λ long. IsTrue long ↔ (8388608 < length (document_text made))) → IfOk r (λ long. MatchBool long (IsLongForm def) (¬ IsLongForm def))
-form_long_ok def made (Ok long) form is = form_long def made long form is
-form_long_ok def made (Err e) form is = is
 
 -- what is not too long is said
 pub says : (d : Document) (id : List ℕ) (def : TaskDef) → IsOnlyDefinition d id def → (¬ IsLongForm def) → Says d id def

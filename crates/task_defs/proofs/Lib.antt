@@ -4,7 +4,6 @@ pub mod KeyLemmas
 pub mod FaultLemmas
 pub mod QueueLemmas
 pub mod TimeLemmas
-pub mod FormLemmas
 pub mod DefinitionLemmas
 pub mod OneLemmas
 pub mod IdLemmas

@@ -1,17 +1,14 @@
 -- What the parts of the reader tell one another: all of it follows from the rules of a definition.
-use Rattle.std.specs.Prelude.{◌≡◌, ℕ, ◌+◌, ◌<◌, min, pos, List, map, codes, length, Option, Some, None}
+use Rattle.std.specs.Prelude.{◌≡◌, ℕ, ◌+◌, ◌<◌, min, List, codes, length, Option, Some, None}
 use Rattle.std.specs.List.{filter_map}
-use Rattle.farm_text.specs.Slug.{slug_of, slug_text}
-use Rattle.farm_text.specs.Moment.{IsMomentText}
+use Rattle.farm_text.specs.Slug.{slug_of}
 use Rattle.farm_text.specs.DateTime.{IsDateTime}
-use Rattle.task_defs.specs.Forms.{queue_name}
-use Rattle.task_defs.specs.Choices.{priority_name, requires_name}
 use Rattle.task_defs.specs.Faults.{Holds}
 use Rattle.task_defs.specs.Keys.{KeyBreaks}
 use Rattle.task_defs.specs.Rules.{metadata_doc, QueueBreaks, NameBreaks, GroupBreaks, DependenciesBreak, RequiresBreaks, RoutesBreak, PriorityBreaks, RetriesBreak, MomentBreaks, DeadlineBreaks, ExpiresBreaks, ScopesBreak, MetadataBreaks}
-use Rattle.task_defs.specs.Definitions.{text_list, IsDefinition, IsFullForm, IsQueueOf}
+use Rattle.task_defs.specs.Definitions.{IsDefinition, IsFullForm, IsQueueOf}
 use Rattle.task_defs.specs.declared.task_def.TaskDef.{TaskDef}
-use Rattle.farm_text.specs.Document.{Document, text, whole, object, Members, no_members, get, put, document_text}
+use Rattle.farm_text.specs.Document.{Document, text, get, document_text}
 use Rattle.task_defs.specs.Values.{text_or, texts_in, slug_or, requires_in, priority_in, retries_in, members_or_none}
 use Rattle.task_defs.specs.declared.reading.Head.{Head}
 use Rattle.task_defs.specs.declared.reading.Terms.{Terms}
@@ -41,48 +38,6 @@ IsOnlyAt value m = (v : Document) × (value ≡ Some v) × IsOnlyMoment v m
 abbrev pub expires_by : ℕ → Option ℕ → ℕ
 expires_by deadline (Some m) = m
 expires_by deadline None = min (deadline + 31_536_000_000) 253_370_764_799_999
-
--- ---- the full form, put together
-
--- with the moments' texts
-abbrev pub with_times : List ℕ → List ℕ → List ℕ → Members
-with_times created deadline expires = put (codes "expires") (text expires) (put (codes "deadline") (text deadline) (put (codes "created") (text created) no_members))
-
--- the three moments of a definition, by their texts
-pub record HasTimes (def : TaskDef) (ms : Members) : Type 0 where
-  pub created : List ℕ
-  pub deadline : List ℕ
-  pub expires : List ℕ
-  pub created_text : IsMomentText def.created created
-  pub deadline_text : IsMomentText def.deadline deadline
-  pub expires_text : IsMomentText def.expires expires
-  pub is : ms ≡ with_times created deadline expires
-
--- and with the names
-abbrev pub with_names : TaskDef → Members → Members
-with_names def ms =
-    put (codes "taskGroupId") (text (slug_text def.task_group_id)) (put (codes "schedulerId") (text def.scheduler_id) (put (codes "projectId") (text def.project_id) ms))
-
--- and with the queue
-abbrev pub with_queue : TaskDef → Members → Members
-with_queue def ms =
-    put (codes "workerType") (text def.queue.worker_type)
-    (put (codes "taskQueueId") (text (queue_name def.queue.provisioner_id def.queue.worker_type)) (put (codes "provisionerId") (text def.queue.provisioner_id) ms))
-
--- and with the lists
-abbrev pub with_lists : TaskDef → Members → Members
-with_lists def ms =
-    put (codes "scopes") (text_list def.scopes) (put (codes "routes") (text_list def.routes) (put (codes "dependencies") (text_list (map slug_text def.dependencies)) ms))
-
--- and with the terms
-abbrev pub with_terms : TaskDef → Members → Members
-with_terms def ms =
-    put (codes "retries") (whole (pos def.retries)) (put (codes "requires") (text (requires_name def.requires_)) (put (codes "priority") (text (priority_name def.priority)) ms))
-
--- and with the maps
-abbrev pub with_maps : TaskDef → Members → Members
-with_maps def ms =
-    put (codes "tags") (object def.tags) (put (codes "payload") (object def.payload) (put (codes "metadata") (metadata_doc def.metadata) (put (codes "extra") (object def.extra) ms)))
 
 -- ---- the rules, part by part
 

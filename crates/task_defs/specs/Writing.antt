@@ -1,16 +1,18 @@
 -- What is written of a document, and of a full form member by member.
-use Rattle.std.specs.Prelude.{◌≡◌, ℕ, pos, List, [], ◌∷◌, ◌++◌, map, codes}
+use Rattle.std.specs.Prelude.{◌≡◌, ◌≤◌, ℕ, pos, List, [], ◌∷◌, ◌++◌, map, codes}
 use Rattle.json.specs.Token.{Token, key}
 use Rattle.json.specs.Tree.{json_tokens}
+use Rattle.serde_json.specs.Data.{depth}
 use Rattle.serde_json.specs.Written.{outline}
 use Rattle.farm_text.specs.Slug.{slug_text}
 use Rattle.farm_text.specs.Moment.{IsMomentText}
-use Rattle.farm_text.specs.Document.{Document, text, whole, object, data_of}
+use Rattle.farm_text.specs.Document.{Document, text, whole, object, data_of, document_text}
+use Rattle.farm_text.specs.Reading.{IsJson, unwhole}
 use Rattle.farm_text.specs.Written.{ReadsBack, IsWhole}
 use Rattle.task_defs.specs.Forms.{queue_name}
 use Rattle.task_defs.specs.Choices.{priority_name, requires_name}
 use Rattle.task_defs.specs.Rules.{metadata_doc}
-use Rattle.task_defs.specs.Definitions.{text_list}
+use Rattle.task_defs.specs.Definitions.{text_list, IsFullForm}
 use Rattle.task_defs.specs.declared.task_def.TaskDef.{TaskDef}
 
 -- the tokens of the document stand behind the old ones, they are read as it, and each number in it is whole
@@ -18,6 +20,14 @@ pub record IsWritten (d : Document) (old new : List Token) : Type 0 where
   pub tokens : new ≡ old ++ json_tokens (outline (data_of d))
   pub reads_back : ReadsBack d
   pub whole : IsWhole d
+
+-- a text of the full form, which is read as it where it does not nest too deep
+pub record IsFullOf (def : TaskDef) (text : List ℕ) : Type 0 where
+  pub full : Document
+  pub form : IsFullForm def full
+  pub spelled : text ≡ document_text full
+  pub json : depth (data_of full) ≤ 127 → IsJson text (data_of full)
+  pub whole : unwhole (data_of full) ≡ []
 
 -- ---- for private clauses: members of a map
 

@@ -1,21 +1,30 @@
 //! The full form of a definition, written as JSON member by member.
-ghost use Rattle.std.specs.Prelude.{◌≡◌, pos, [], ◌∷◌, map, codes, OnOk};
+ghost use Rattle.std.specs.Prelude.{◌≡◌, pos, [], ◌∷◌, map, codes, IfOk, OnOk};
 ghost use Rattle.farm_text.specs.Slug.{slug_text};
 ghost use Rattle.farm_text.specs.Doc.{document};
 ghost use Rattle.farm_text.specs.Document.{Document, whole, text as plain_text};
 ghost use Rattle.task_defs.specs.Rules.{metadata_doc};
 ghost use Rattle.task_defs.specs.Definitions.{text_list, IsFullForm};
-ghost use Rattle.task_defs.specs.Writing.{IsWritten, AreWritten, MomentIsWritten, FirstAreWritten, work_members, owner_members, right_members, place_members};
+ghost use Rattle.task_defs.specs.Writing.{IsWritten, IsFullOf, AreWritten, MomentIsWritten, FirstAreWritten, work_members, owner_members, right_members, place_members};
 
 use crate::names::Route;
 use crate::objects::Metadata;
 use crate::task_def::TaskDef;
-use farm_text::{Doc, Moment, SlugId};
+use farm_text::{Doc, Moment, SlugId, Text};
 use json::Writer;
 use scope_sets::Scope;
 use std::alloc::{AllocError, Global};
 
 impl TaskDef {
+    /// The text of the full form: each key, with each moment in 24 bytes, as JSON without spaces.
+    pub fn full_text(&self, alloc: Global) -> Result<Text, AllocError>
+        ensures { IfOk result (IsFullOf self.now) }
+    {
+        let mut out = Writer::new(Vec::with_capacity(alloc, 512)?);
+        self.write_to(alloc, &mut out)?;
+        Ok(Text::from_writer(out))
+    }
+
     /// Writes the full form of the definition as JSON without spaces, behind what the writer has.
     pub fn write_to(&self, alloc: Global, out: &mut Writer) -> Result<(), AllocError>
         ensures form { OnOk result ((full : Document) × IsFullForm self.now full

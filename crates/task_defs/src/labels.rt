@@ -15,7 +15,7 @@ use crate::keys::value;
 use crate::names::{Identifier, ProjectName};
 use crate::objects::{Metadata, Tags};
 use crate::values;
-use farm_text::{Doc, Entries, Text};
+use farm_text::{Doc, Text};
 use std::alloc::{AllocError, Global};
 use std::collections::BTreeMap;
 
@@ -43,26 +43,6 @@ pub(crate) fn read_owners(alloc: Global, doc: &Doc) -> Result<Owners, DefError>
             scheduler_id,
         }),
         None => Err(DefError::at(alloc, 3, "schedulerId")),
-    }
-}
-
-impl Metadata {
-    /// The four texts as a map.
-    pub fn to_doc(&self, alloc: Global) -> Result<Doc, AllocError>
-        ensures { IfOk result (λ d. document d ≡ metadata_doc self.now) }
-    {
-        Ok(
-            Entries::new(alloc)
-                .with(
-                    alloc,
-                    "description",
-                    Doc::text(alloc, self.description.as_str())?,
-                )?
-                .with(alloc, "name", Doc::text(alloc, self.name.as_str())?)?
-                .with(alloc, "owner", Doc::text(alloc, self.owner.as_str())?)?
-                .with(alloc, "source", Doc::text(alloc, self.source.as_str())?)?
-                .into_doc(),
-        )
     }
 }
 

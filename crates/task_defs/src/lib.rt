@@ -4,7 +4,6 @@
 mod choices;
 mod documents;
 mod fault;
-mod full_form;
 mod full_length;
 mod full_text;
 mod keys;

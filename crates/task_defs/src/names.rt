@@ -1,10 +1,11 @@
 //! The texts of a definition that have a form of their own.
-ghost use Rattle.std.specs.Prelude.{◌≡◌, ◌↔◌, IsTrue, IsSome, IfSome, All};
+ghost use Rattle.std.specs.Prelude.{◌≡◌, ◌↔◌, IsTrue, IsSome, IfSome, IfOk, All};
 ghost use Rattle.scope_sets.specs.Scopes.{IsPrintable};
-ghost use Rattle.task_defs.specs.Forms.{IsIdentifierByte, IsProjectByte, IsIdentifier, IsProject, IsRoute};
+ghost use Rattle.task_defs.specs.Forms.{IsIdentifierByte, IsProjectByte, IsIdentifier, IsProject, IsRoute, queue_name};
 
 use farm_text::Text;
 use scope_sets::scopes::is_printable;
+use std::alloc::{AllocError, Global};
 use std::marker::Model;
 
 /// An identifier: 1 to 38 characters of `[A-Za-z0-9_-]`.
@@ -151,6 +152,20 @@ impl PartialEq for Route {
 pub struct TaskQueue {
     pub provisioner_id: Identifier,
     pub worker_type: Identifier,
+}
+
+impl TaskQueue {
+    /// The name of the queue, `<provisioner id>/<worker type>`.
+    pub fn name(&self, alloc: Global) -> Result<Text, AllocError>
+        ensures { IfOk result (λ t. t ≡ queue_name self.now.provisioner_id self.now.worker_type) }
+    {
+        let name = format!(in alloc;
+            "{}/{}",
+            self.provisioner_id.as_str(),
+            self.worker_type.as_str()
+        )?;
+        Ok(Text::from_string(name))
+    }
 }
 
 /// Whether a text is an identifier.

@@ -1,6 +1,6 @@
 //! A definition from its document.
 ghost use Rattle.std.specs.Prelude.{◌≡◌, ℕ, ◌<◌, ◌↔◌, IsTrue, codes, length, IfOk, MatchBool, MatchResult};
-ghost use Rattle.farm_text.specs.Document.{get, document_text};
+ghost use Rattle.farm_text.specs.Document.{get};
 ghost use Rattle.farm_text.specs.Doc.{document};
 ghost use Rattle.task_defs.specs.Faults.{Refuses};
 ghost use Rattle.task_defs.specs.Parts.{HeadHolds, TermsHold, SpanHolds, IsHead, AreTerms, IsOnlyAt, IsRest, AreMaps, IsOnlyDefinition, IsLongForm};
@@ -74,19 +74,19 @@ fn is_too_long(alloc: Global, def: &TaskDef) -> Result<bool, AllocError>
     }
 }
 
-/// The same, by the full form itself.
+/// The same, by the text of the full form itself.
 fn is_form_long(alloc: Global, def: &TaskDef) -> Result<bool, AllocError>
     ensures { IfOk result (λ long. MatchBool long (IsLongForm def.now) (¬ IsLongForm def.now)) }
 {
-    let full = def.doc(alloc)?;
-    is_long(alloc, &full)
+    let full = def.full_text(alloc)?;
+    Ok(is_long(full.as_str()))
 }
 
-/// Whether the text of a document has more bytes than a definition may have.
-fn is_long(alloc: Global, doc: &Doc) -> Result<bool, AllocError>
-    ensures { IfOk result (λ long. IsTrue long ↔ (LONGEST_DEFINITION < length (document_text (document doc.now)))) }
+/// Whether a text has more bytes than a definition may have.
+fn is_long(text: &str) -> bool
+    ensures { IsTrue result ↔ (LONGEST_DEFINITION < length text.now) }
 {
-    Ok(doc.write(alloc)?.len() > LONGEST_DEFINITION)
+    text.len() > LONGEST_DEFINITION
 }
 
 /// What the task waits for, where it is told, and how it is run.

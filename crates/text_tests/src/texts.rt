@@ -1,9 +1,10 @@
 //! Texts, slugids, moments, clocks and draws.
 use causes::FaultCount;
 use farm_text::{
-    Clock, Draws, HostClock, HostDraws, LAST_MOMENT, LAST_TOLD_MOMENT, ListClock, ListDraws,
-    Moment, SlugId, Text, read_moment, write_moment,
+    Clock, Draws, HostClock, LAST_MOMENT, LAST_TOLD_MOMENT, ListClock, ListDraws, Moment, SlugId,
+    Text, read_moment, write_moment,
 };
+use random_ids::HostDraws;
 use std::alloc::{AllocError, Global};
 use std::test::Fail;
 

@@ -55,8 +55,9 @@ const REFUSED: &str =
 0|POST /api/hooks/v1/hooks/g/h/trigger|[]|400 Bad Request|{"code":"InputError","details":{"rule":25},"message":"the request breaks a rule"}
 0|POST /api/hooks/v1/hooks/g/i/trigger|{}|404 Not Found|{"code":"ResourceNotFound","details":{"kind":"hook","name":"g/i"},"message":"nothing has that name"}"#;
 
-/// It is among them.
-const GRANTED: &str = r#"0|POST /api/hooks/v1/hooks/g/h/trigger|{"x":"one"}|200 OK|{"status":~}"#;
+/// It is among them, and the task has the id that is drawn.
+const GRANTED: &str =
+    r#"0|POST /api/hooks/v1/hooks/g/h/trigger|{"x":"one"}|200 OK|{"status":{"deadline":"2024-01-02T00:00:00.000Z","expires":"2025-01-01T00:00:00.000Z","projectId":"none","provisionerId":"prov","retriesLeft":5,"runs":[{"reasonCreated":"scheduled","runId":0,"scheduled":"2024-01-01T00:00:00.000Z","state":"pending"}],"schedulerId":"-","state":"pending","taskGroupId":"AAAAAAAAQACAAAAAAAAAAg","taskId":"AAAAAAAAQACAAAAAAAAAAg","taskQueueId":"prov/wt","workerType":"wt"}}"#;
 
 /// It is among them, and the queue is none.
 const NO_QUEUE: &str =

@@ -27,7 +27,10 @@ pub(super) fn farm(alloc: Global, scopes: &str, max_tasks: u32) -> Result<Solo<B
     Ok(Solo::new(Bare::new(alloc, config)))
 }
 
-/// What a desk writes where these bytes come at this moment.
+/// The id that is drawn for the task of a hook.
+const DRAWN: &[u8] = b"AAAAAAAAQACAAAAAAAAAAg";
+
+/// What a desk writes where these bytes come at this moment. A task of a hook has the id `DRAWN`.
 pub(super) fn written_at(
     alloc: Global,
     desk: &mut Solo<Bare>,
@@ -38,9 +41,10 @@ pub(super) fn written_at(
         return Err(Fail::from("no asks are left"));
     }
     let moments = vec![in alloc; at]?;
+    let ids = vec![in alloc; SlugId::read(DRAWN).ok_or("an id")?]?;
     let mut link = link_of(alloc, &Input::of(bytes))?;
     let mut clock = ListClock::new(moments);
-    let mut draws = ListDraws::new(Vec::new(alloc));
+    let mut draws = ListDraws::new(ids);
     let _ = serve_connection(alloc, &mut link, desk, &mut clock, &mut draws, &mut NoGate);
     drop(draws);
     drop(clock);

@@ -1,6 +1,6 @@
 -- What one connection did, and its link's return to the door.
 use Rattle.std.proofs.Common.{◌≡◌, ℕ, ◌-◌, [], ◌∷◌, length, subst, arith}
-use Rattle.causes.specs.Logs.{LogGrows}
+use Rattle.farm_text.specs.Logs.{LogGrows}
 use Rattle.http_wire.specs.Calls.{LinkState}
 use Rattle.farm_serving.specs.Numbers.{of_connection}
 use Rattle.farm_serving.proofs.worker.Worker.serve_peer.Goals as goal

@@ -1,0 +1,4 @@
+pub mod ExpansionLemmas
+pub mod InputLemmas
+mod NoteLemmas
+mod RenderingLemmas

@@ -1,9 +1,0 @@
-use Rattle.farm_machine.proofs.ClaimLawLemmas.{claimed-once}
-use Rattle.farm_machine.proofs.RecordedClaimLemmas.{recorded-once}
-use Rattle.farm_machine.proofs.law.a_run_is_claimed_once.Goals as goal
-
-pub returns-clause-since : goal.returns-clause-since
-returns-clause-since c = claimed-once
-
-pub returns-clause-recorded : goal.returns-clause-recorded
-returns-clause-recorded c = recorded-once

@@ -1,5 +1,0 @@
-use Rattle.farm_rows.proofs.EndLemmas.{before-end}
-use Rattle.farm_rows.proofs.laws.a_change_comes_before_the_ends_of_claims.Goals as goal
-
-pub returns : goal.returns
-returns c = before-end

@@ -1,5 +1,0 @@
-use Rattle.farm_rows.proofs.WaitLemmas.{waits-well}
-use Rattle.farm_rows.proofs.laws.a_task_waits_well.Goals as goal
-
-pub returns : goal.returns
-returns c = waits-well

@@ -1,5 +1,0 @@
-use Rattle.farm_rows.proofs.AdvanceLemmas.{advance-together}
-use Rattle.farm_rows.proofs.laws.advances_go_together.Goals as goal
-
-pub returns : goal.returns
-returns c = advance-together

@@ -1,9 +1,0 @@
-use Rattle.farm_rows.proofs.AdvanceLemmas.{advance-ready}
-use Rattle.farm_rows.proofs.IdLemmas.{applied-none}
-use Rattle.farm_rows.proofs.laws.no_task_is_ready.Goals as goal
-
-pub returns-clause-advanced : goal.returns-clause-advanced
-returns-clause-advanced c = advance-ready
-
-pub returns-clause-applied : goal.returns-clause-applied
-returns-clause-applied c = applied-none

@@ -1,5 +1,0 @@
-use Rattle.farm_rows.proofs.AdvanceLemmas.{advance-none}
-use Rattle.farm_rows.proofs.laws.nothing_is_due_after_an_advance.Goals as goal
-
-pub returns : goal.returns
-returns c = advance-none
