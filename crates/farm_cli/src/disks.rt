@@ -7,6 +7,7 @@ ghost use Rattle.farm_cli.specs.Serving.{ConversedOver};
 ghost use Rattle.farm_cli.specs.Views.{views_of};
 
 use crate::checking::tell_counts;
+use crate::ends::after_serving;
 use crate::house::House;
 use causes::Failed;
 use console_commands::{Ended, Status};

@@ -2,8 +2,7 @@
 ghost use Rattle.std.specs.Prelude.{◌≡◌};
 ghost use Rattle.farm_cli.specs.Ends.{status_of};
 
-use console_commands::ended::Ended;
-use console_commands::status::Status;
+use console_commands::{Ended, Status};
 use farm_server::Served;
 use http_wire::Wire;
 use std::alloc::Global;
