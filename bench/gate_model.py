@@ -24,12 +24,12 @@ TIMES = {
     "http_wire": 3.5, "disk_base": 2.2, "disk_journal": 1.4, "route_table": 1.2, "shared_desk": 1.6, "task_groups": 1.4, "slug_places": 0.3, "scope_lines": 0.5,
     "plain_text": 0.6, "farm_desk": 0.3, "task_defs": 7.3, "hawk_auth": 4.1, "jsone_values": 4.2, "jsone_eval": 2.8, "command_line": 5.2, "claim_queue": 2.4,
     "run_states": 2.2, "farm_record": 2.2, "call_rules": 1.6, "task_statuses": 1.1, "jsone_render": 9.1, "hook_fire": 1.4, "farm_rows": 10.3, "farm_asks": 2.8,
-    "farm_machine": 6.8, "farm_laws": 1.0, "api_routes": 3.1, "farm_files": 5.4, "farm_core": 2.8, "farm_server": 1.8, "farm_serving": 2.1, "farm_bulk": 2.9,
-    "console_commands": 1.8, "farm_cli": 6.6, "farm": 1.2,
+    "farm_machine": 6.8, "farm_laws": 1.0, "api_routes": 3.1, "farm_files": 5.4, "farm_core": 2.8, "farm_server": 1.8, "farm_serving": 1.7, "farm_bulk": 2.2,
+    "console_commands": 1.8, "farm_cli": 4.7, "farm": 2.0, "listeners": 1.0, "houses": 0.9, "load_requests": 0.7,
 }
 TESTS = {
     "wire_tests": 3.0, "scope_tests": 1.9, "text_tests": 1.7, "sign_tests": 3.2, "parsing_tests": 1.1, "expression_tests": 3.1, "rendering_tests": 1.9,
-    "queue_tests": 4.0, "task_tests": 7.0, "disk_tests": 1.9, "file_tests": 2.2, "farm_tests": 10.7, "desk_tests": 1.4, "cli_tests": 6.1, "farm_desk": 0.5,
+    "queue_tests": 4.0, "task_tests": 7.0, "disk_tests": 1.9, "file_tests": 2.2, "farm_tests": 4.6, "connection_tests": 8.6, "desk_tests": 1.4, "cli_tests": 6.1, "farm_desk": 0.5,
     "history": 0.4,
 }
 # An edit over what its crate's seed, a proof of the crate, has left.

@@ -1,11 +1,11 @@
 //! Two workers of a service claim at once, where one task waits: one is given its run, and then it runs whoever asks.
 
 use crate::disks::{ANSWER, CREATION, NONE, case, house_behind, house_with};
-use crate::houses::{Case, link, outcome_in};
+use crate::outcomes::{Case, link, outcome_in};
 use crate::rows::house_comes_to;
-use farm_cli::memory_house::MemoryHouse;
-use farm_serving::{MemoryListener, Returned};
+use houses::MemoryHouse;
 use http_wire::MemoryLink;
+use listeners::{MemoryListener, Returned};
 use std::alloc::{AllocError, Global};
 use std::sync::Wait;
 use std::test::Fail;

@@ -1,11 +1,11 @@
 //! Runs over houses in memory with a disk.
 
-use crate::houses::{Case, Outcome, house_of, outcome_in};
+use crate::outcomes::{Case, Outcome, house_of, outcome_in};
 use crate::rows::{cut, is_outcome, unescaped, words_of};
 use console_commands::Status;
 use disk_base::MemoryDisk;
-use farm_cli::memory_house::MemoryHouse;
-use farm_serving::MemoryListener;
+use houses::MemoryHouse;
+use listeners::MemoryListener;
 use std::alloc::{AllocError, Global};
 use std::sync::Wait;
 use std::test::Fail;

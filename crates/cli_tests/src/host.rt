@@ -1,8 +1,7 @@
 //! The house of the system, over files of this machine.
 use causes::{Failed, FaultCount};
-use farm_cli::host_house::HostHouse;
-use farm_cli::house::House;
 use farm_text::Draws;
+use houses::{HostHouse, House};
 use http_wire::Source;
 use std::io::ErrorKind;
 use std::test::Fail;

@@ -1,4 +1,5 @@
-//! Tests of the top call, over houses in memory, and of generated loads: of `farm_cli`, `farm_bulk`.
+//! Tests of the top call, over houses in memory, with its commands over the console, and of generated loads: of `farm_cli`, `houses`,
+//! `console_commands`, `farm_bulk` and `load_requests`.
 //!
 //! They stand in a crate of their own since the gate proves a crate's tests together with the crate: here it proves the tests alone.
 #![tactic(auto)]
@@ -10,13 +11,13 @@ mod disks;
 #[cfg(test)]
 mod host;
 #[cfg(test)]
-mod houses;
-#[cfg(test)]
 mod limits;
 #[cfg(test)]
 mod loads;
 #[cfg(test)]
 mod lost;
+#[cfg(test)]
+mod outcomes;
 #[cfg(test)]
 mod renderings;
 #[cfg(test)]

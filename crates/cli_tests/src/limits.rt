@@ -1,6 +1,6 @@
 //! Runs over houses in memory at the limits of their inputs.
 
-use crate::houses::{Case, PING, outcome_of};
+use crate::outcomes::{Case, PING, outcome_of};
 use crate::rows::{comes_to, cut, words_of};
 use std::alloc::{AllocError, Global};
 use std::sync::Wait;

@@ -1,6 +1,7 @@
 //! Loads, with the summaries that `bench/bulk_model.py` prints: a model of the rules that was written apart from this program.
-use farm_bulk::{ClaimedRun, Generator, bulk, creation, report, summary_line};
+use farm_bulk::{bulk, summary_line};
 use farm_text::Text;
+use load_requests::{ClaimedRun, Generator, creation, report};
 use std::alloc::Global;
 use std::test::Fail;
 

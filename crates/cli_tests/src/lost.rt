@@ -1,11 +1,11 @@
 //! A task whose run is lost, over a disk: what `check` counts of each image.
 
 use crate::disks::{ANSWER, case, each_is_checked};
-use crate::houses::{Case, Outcome, house_at, outcome_in};
+use crate::outcomes::{Case, Outcome, house_at, outcome_in};
 use console_commands::Status;
 use disk_base::MemoryDisk;
-use farm_cli::memory_house::MemoryHouse;
 use farm_text::Moment;
+use houses::MemoryHouse;
 use std::alloc::{AllocError, Global};
 use std::sync::Wait;
 use std::test::Fail;

@@ -1,7 +1,7 @@
 //! Rows of tables: a run, and what comes of it.
 
-use crate::houses::{Case, Outcome, outcome_in, outcome_of};
-use farm_cli::memory_house::MemoryHouse;
+use crate::outcomes::{Case, Outcome, outcome_in, outcome_of};
+use houses::MemoryHouse;
 use std::alloc::{AllocError, Global};
 use std::sync::Wait;
 use std::test::Fail;

@@ -1,11 +1,11 @@
 //! Runs of `serve` over houses in memory, at a door and its twins.
 
 use crate::disks::{CREATION, ONE, case, disk_of, each_is_checked, house_behind};
-use crate::houses::{Case, PING, link};
+use crate::outcomes::{Case, PING, link};
 use crate::rows::{cut, failing, house_comes_to, unescaped};
-use farm_cli::memory_house::MemoryHouse;
-use farm_serving::{MemoryListener, Returned};
+use houses::MemoryHouse;
 use http_wire::MemoryLink;
+use listeners::{MemoryListener, Returned};
 use std::alloc::{AllocError, Global};
 use std::sync::Wait;
 use std::test::Fail;

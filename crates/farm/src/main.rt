@@ -3,8 +3,8 @@
 
 use causes::{Failed, FaultCount};
 use console_commands::{Ended, Status};
-use farm_cli::host_house::HostHouse;
 use farm_cli::run::run;
+use houses::HostHouse;
 use std::process::ExitCode;
 use std::{env, io};
 

@@ -28,7 +28,7 @@ use Rattle.farm_server.specs.declared.served.Served.TheVariants.{Closed, Full}
 use Rattle.farm_server.specs.declared.served.TheConstants.{REQUESTS}
 use Rattle.farm_bulk.specs.Complete.{out_of_memory, IsComplete}
 use Rattle.farm_bulk.specs.Connections.{AreAtMidnight, AreAnswered, Converses}
-use Rattle.farm_bulk.specs.Still.{midnight}
+use Rattle.load_requests.specs.Still.{midnight}
 use Rattle.farm_bulk.proofs.OccursLemmas.{OccursAt-front, OccursAt-later, OccursAt-earlier, never_found}
 use Rattle.farm_bulk.proofs.TurnLemmas.{asked_at-calls, reply_at-calls}
 

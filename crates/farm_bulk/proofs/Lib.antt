@@ -7,5 +7,4 @@ mod LoadLemmas
 mod OccursLemmas
 mod OneLemmas
 mod ReplyLemmas
-mod TextLemmas
 mod TurnLemmas

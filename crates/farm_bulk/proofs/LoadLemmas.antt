@@ -4,10 +4,10 @@ use Rattle.std.proofs.Math.Nat.{div-add-mod, div-mul-le_self}
 use Rattle.farm_machine.specs.State.{State}
 use Rattle.farm_bulk.specs.Bulk.{creations, after_draws, parts_of, AreCreated, Works, ends, goes_on}
 use Rattle.farm_bulk.specs.Connections.{Converses}
-use Rattle.farm_bulk.specs.Generator.{next, drawn}
+use Rattle.load_requests.specs.Generator.{next, drawn}
 use Rattle.farm_bulk.specs.Replies.{IsTold}
-use Rattle.farm_bulk.specs.Requests.{creation_text, claim_text, report_text}
-use Rattle.farm_bulk.specs.declared.replies.ClaimedRun.{ClaimedRun}
+use Rattle.load_requests.specs.Requests.{creation_text, claim_text, report_text}
+use Rattle.load_requests.specs.declared.requests.ClaimedRun.{ClaimedRun}
 
 -- ---- creations over one connection
 

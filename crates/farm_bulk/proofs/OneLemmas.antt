@@ -28,10 +28,10 @@ use Rattle.farm_server.specs.declared.served.TheConstants.{REQUESTS}
 use Rattle.farm_bulk.specs.Bulk.{creations, after_draws, parts_of, AreCreated, Works, ends, goes_on, IsBulk}
 use Rattle.farm_bulk.specs.Connections.{AreAtMidnight, AreAnswered, Converses}
 use Rattle.farm_bulk.specs.Farm.{open_farm}
-use Rattle.farm_bulk.specs.Generator.{begun, next, drawn}
+use Rattle.load_requests.specs.Generator.{begun, next, drawn}
 use Rattle.farm_bulk.specs.Replies.{first_item, Tells, IsTold}
-use Rattle.farm_bulk.specs.Requests.{claim_text, report_text}
-use Rattle.farm_bulk.specs.declared.replies.ClaimedRun.{ClaimedRun}
+use Rattle.load_requests.specs.Requests.{claim_text, report_text}
+use Rattle.load_requests.specs.declared.requests.ClaimedRun.{ClaimedRun}
 use Rattle.farm_bulk.proofs.CallLemmas.{OneDocument, call_one}
 use Rattle.farm_bulk.proofs.LineLemmas.{IsLastLine-one}
 

@@ -6,7 +6,7 @@ use Rattle.std.proofs.Math.Seq.{drop-cons}
 use Rattle.std.proofs.lemmas.List.{get_or_default}
 use Rattle.farm_text.specs.Document.{Document, data_of}
 use Rattle.farm_text.specs.Reading.{IsJson}
-use Rattle.farm_bulk.specs.declared.replies.ClaimedRun.{ClaimedRun}
+use Rattle.load_requests.specs.declared.requests.ClaimedRun.{ClaimedRun}
 use Rattle.memchr.specs.Find.{NoneAfter, Passes, IsLastByte, is_byte}
 use Rattle.farm_bulk.specs.Replies.{IsLastLine, Tells, IsTold}
 

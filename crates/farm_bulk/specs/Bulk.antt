@@ -6,10 +6,10 @@ use Rattle.farm_rows.specs.declared.summary.Summary.{Summary}
 use Rattle.farm_machine.specs.State.{State, empty_state}
 use Rattle.farm_bulk.specs.Connections.{Converses}
 use Rattle.farm_bulk.specs.Farm.{open_farm}
-use Rattle.farm_bulk.specs.Generator.{begun, next, drawn}
+use Rattle.load_requests.specs.Generator.{begun, next, drawn}
 use Rattle.farm_bulk.specs.Replies.{IsTold}
-use Rattle.farm_bulk.specs.Requests.{creation_text, claim_text, report_text}
-use Rattle.farm_bulk.specs.declared.replies.ClaimedRun.{ClaimedRun}
+use Rattle.load_requests.specs.Requests.{creation_text, claim_text, report_text}
+use Rattle.load_requests.specs.declared.requests.ClaimedRun.{ClaimedRun}
 
 -- the creations of so many tasks, from this one on and after this number of the generator, as they are sent
 abbrev pub creations : ℕ → ℕ → ℕ → List ℕ

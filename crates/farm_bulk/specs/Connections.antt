@@ -12,7 +12,7 @@ use Rattle.farm_core.specs.Diskless.{HasNoDisk}
 use Rattle.farm_server.specs.Served.{Ask, messages_of, questions_of, AreRouted, reply_texts, EndsAs}
 use Rattle.farm_server.specs.declared.served.Served.TheVariants.{Closed, Full}
 use Rattle.farm_server.specs.declared.served.TheConstants.{REQUESTS}
-use Rattle.farm_bulk.specs.Still.{midnight}
+use Rattle.load_requests.specs.Still.{midnight}
 
 -- each ask was made at that moment, and one id was drawn for all
 abbrev pub AreAtMidnight : List Ask → Type 0

@@ -2,7 +2,7 @@
 use Rattle.std.specs.Prelude.{◌≡◌, ℕ, pos, codes, List, ◌∷◌, ◌++◌, Contains, Option, Some, None, option_and_then}
 use Rattle.farm_text.specs.Document.{Document, null, boolean, whole, text, array, object, no_items, item, get, data_of}
 use Rattle.farm_text.specs.Reading.{IsJson}
-use Rattle.farm_bulk.specs.declared.replies.ClaimedRun.{ClaimedRun}
+use Rattle.load_requests.specs.declared.requests.ClaimedRun.{ClaimedRun}
 
 -- what stands behind the last line feed. Behind the heads of replies that is the body of the last one, for JSON that is written compactly has no line feed.
 pub record IsLastLine (text line : List ℕ) : Type 0 where

@@ -5,11 +5,11 @@ ghost use Rattle.farm_server.specs.declared.served.TheConstants.{REQUESTS};
 ghost use Rattle.farm_bulk.specs.Complete.{HasMemory, IsComplete};
 ghost use Rattle.farm_bulk.specs.Connections.{Converses};
 
-use crate::still::{StillClock, StillDraws};
 use farm_core::Bare;
 use farm_desk::Solo;
 use farm_server::{NoGate, REQUESTS, Served, serve_routed};
 use http_wire::{Joined, MemoryLink, MemorySink, MemorySource};
+use load_requests::{StillClock, StillDraws};
 use memchr::memmem;
 use route_table::Table;
 use std::alloc::{AllocError, Global};

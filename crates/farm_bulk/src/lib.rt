@@ -6,18 +6,12 @@
 
 mod connections;
 mod farm;
-mod generator;
 mod laws;
 mod load;
 mod replies;
-mod requests;
-mod still;
 
-pub use generator::Generator;
 pub use laws::{
     a_body_is_the_last_line, a_connection_has_one_outcome, a_load_has_one_summary,
     a_message_makes_one_call,
 };
 pub use load::{bulk, summary_line};
-pub use replies::ClaimedRun;
-pub use requests::{creation, report};

@@ -4,16 +4,15 @@ ghost use Rattle.farm_server.specs.declared.served.TheConstants.{REQUESTS};
 ghost use Rattle.farm_bulk.specs.Bulk.{creations, after_draws, parts_of, AreCreated, Works, IsBulk, outcomes_text, summary_text};
 ghost use Rattle.farm_bulk.specs.Connections.{Converses};
 ghost use Rattle.farm_bulk.specs.Replies.{IsTold};
-ghost use Rattle.farm_bulk.specs.Requests.{claim_text};
+ghost use Rattle.load_requests.specs.Requests.{claim_text};
 
 use crate::connections::converse;
 use crate::farm::new_farm;
-use crate::generator::Generator;
-use crate::replies::{ClaimedRun, read_claim};
-use crate::requests::{claim, creation, report};
+use crate::replies::read_claim;
 use farm_core::Bare;
 use farm_desk::Solo;
 use farm_rows::Summary;
+use load_requests::{ClaimedRun, Generator, claim, creation, report};
 use route_table::Table;
 use std::alloc::{AllocError, Global};
 

@@ -5,17 +5,9 @@ ghost use Rattle.farm_text.specs.Document.{get, whole, text as plain_text, array
 ghost use Rattle.farm_bulk.specs.Replies.{first_item, IsLastLine, TellsRun, Tells, IsTold};
 
 use farm_text::{Doc, Text};
+use load_requests::ClaimedRun;
 use memchr::memrchr;
 use std::alloc::{AllocError, Global};
-
-/// A run that a worker has.
-#[derive(Drop)]
-pub struct ClaimedRun {
-    /// The slugid of its task.
-    pub task: Text,
-    /// Its number, from 0.
-    pub number: u64,
-}
 
 /// What stands behind the last line feed, if there is one.
 fn last_line(text: &[u8]) -> Option<&[u8]>

@@ -38,7 +38,7 @@ use Rattle.farm_server.specs.Served.{Outside, Ask, Spoke, messages_of, reply_tex
 use Rattle.farm_server.specs.declared.served.Served.{Served}
 use Rattle.farm_server.specs.declared.served.Served.TheVariants as served
 use Rattle.farm_server.specs.declared.served.TheConstants.{REQUESTS}
-use Rattle.farm_cli.specs.declared.lending.Lending.TheVariants.{Ready, Back}
+use Rattle.houses.specs.declared.lending.Lending.TheVariants.{Ready, Back}
 use Rattle.console_commands.specs.declared.status.Status.{Status}
 use Rattle.console_commands.specs.declared.status.Status.TheVariants.{Done, Usage, FarmFile, Input, Opening, Disk, Door, Read, Write, NoMemory, Wire, Damaged}
 use Rattle.farm_cli.specs.Checking.{CheckedOver, Checks, check_text, disk_text}
@@ -53,7 +53,7 @@ use Rattle.farm_cli.proofs.FaultLemmas.{called}
 use Rattle.farm_cli.specs.Complete.{stop_status, status_for, own_text, HasFile, NoFileFault, HasDisk, NoDiskFault, HasSoundDisk, NoConsoleFault, AnswersAll, Answers, ServesSoundly, WritesAll, Finishes, FinishesSigning, Completes, CompletesLoad, CompletesRendering, CompletesSigning, RefusesFile, RefusesDisk, MissesFile, MissesDisk, TellsUsage}
 use Rattle.console_commands.specs.Expanding.{IsExpansion, IsBadInput, Expands}
 use Rattle.farm_cli.specs.FarmFile.{SetsUp, HasFault, FileRefused}
-use Rattle.farm_cli.specs.House.{Files, Held, holds, refuses, unopened, back, WasLent, WasOpened, Lendings}
+use Rattle.houses.specs.House.{Files, Held, holds, refuses, unopened, back, WasLent, WasOpened, Lendings}
 use Rattle.console_commands.specs.Inputs.{Tells, Turns}
 use Rattle.farm_cli.specs.Run.{DidOver, Obeyed, RanOverFile, RanOver, RanCommand, Ran}
 use Rattle.farm_cli.specs.Ends.{status_of}

@@ -15,7 +15,7 @@ use Rattle.console_commands.specs.declared.status.Status.TheVariants.{Done, Usag
 use Rattle.farm_cli.specs.Crew.{IsWholeCrew, IsDoorFailed}
 use Rattle.farm_cli.specs.Faults.{WasServed, IsServed, TwinFailed, IsDoorBroken, IsLinkUnread, IsLinkUnwritten, IsLinkCut}
 use Rattle.farm_cli.specs.Heard.{workers_of, station_with, station_of, IsHeard}
-use Rattle.farm_cli.specs.House.{Lendings}
+use Rattle.houses.specs.House.{Lendings}
 use Rattle.console_commands.specs.Inputs.{Tells}
 use Rattle.farm_cli.specs.Reasons.{ConsoleFailed}
 use Rattle.farm_cli.specs.Serves.{ready_text, ServesReady, ServesFarm, NeverServed}

@@ -6,15 +6,15 @@ use Rattle.command_line.specs.declared.command.Work.{Work}
 use Rattle.command_line.specs.declared.command.Work.TheVariants.{Answer, Expand, Check, Serve}
 use Rattle.command_line.specs.declared.service.Service.{Service}
 use Rattle.farm_asks.specs.declared.config.Config.{Config}
-use Rattle.farm_cli.specs.declared.lending.Lending.{Lending}
-use Rattle.farm_cli.specs.declared.lending.Lending.TheVariants.{Ready, Out, Back, Untold}
+use Rattle.houses.specs.declared.lending.Lending.{Lending}
+use Rattle.houses.specs.declared.lending.Lending.TheVariants.{Ready, Out, Back, Untold}
 use Rattle.console_commands.specs.declared.status.Status.{Status}
 use Rattle.console_commands.specs.declared.status.Status.TheVariants.{Done, Usage, FarmFile, Input, Opening, Disk, Door, Read, Write, NoMemory, Wire, Damaged}
 use Rattle.farm_cli.specs.Checking.{CheckedOver}
 use Rattle.farm_cli.specs.Serving.{ConversedOver}
 use Rattle.farm_cli.specs.Heard.{IsUnheard, IsHeard, ServedOver}
 use Rattle.farm_cli.specs.Home.{IsHome, AreHome, DoorsAreHome, AllHome}
-use Rattle.farm_cli.specs.House.{after_giving, after_return, WasLent, Files, unopened, out, back, untold, after_opened, after_closing, WasOpened, Doors, shut, ajar, silent, CanListen, after_listened, after_leaving, all_left, Lendings}
+use Rattle.houses.specs.House.{after_giving, after_return, WasLent, Files, unopened, out, back, untold, after_opened, after_closing, WasOpened, Doors, shut, ajar, silent, CanListen, after_listened, after_leaving, all_left, Lendings}
 use Rattle.farm_cli.specs.Notes.{TellsLine, TellsStatus}
 use Rattle.farm_cli.specs.Used.{LeavesConsole, UsedConsole}
 use Rattle.farm_cli.specs.Run.{DidOver, Obeyed, RanOverFile, RanCommand, Ran}

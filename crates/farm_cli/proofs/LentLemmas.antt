@@ -17,12 +17,12 @@ use Rattle.farm_machine.specs.Step.{farm_rules}
 use Rattle.farm_server.specs.declared.gate.NoGate.{NoGate}
 use Rattle.farm_serving.specs.Connections.{Station}
 use Rattle.farm_serving.specs.declared.worker.Worker.{Worker}
-use Rattle.farm_cli.specs.declared.lending.Lending.{Lending}
+use Rattle.houses.specs.declared.lending.Lending.{Lending}
 use Rattle.console_commands.specs.declared.status.Status.{Status}
 use Rattle.console_commands.specs.declared.status.Status.TheVariants.{Disk, Door, NoMemory}
 use Rattle.farm_cli.specs.Disks.{DiskHolds, HasFarm, LedOver, over_disk}
 use Rattle.farm_cli.specs.Heard.{workers_of, station_with, station_of, ServesLent, KeepsTheRest, IsUnheard, IsHeard, ServesDoor, ServedOver}
-use Rattle.farm_cli.specs.House.{CanGive, after_giving, after_return, after_opened, after_closing, Doors, CanListen, after_listened, after_leaving, all_left, Lendings}
+use Rattle.houses.specs.House.{CanGive, after_giving, after_return, after_opened, after_closing, Doors, CanListen, after_listened, after_leaving, all_left, Lendings}
 use Rattle.farm_cli.specs.Serves.{IsLed, ServesAll}
 use Rattle.farm_cli.specs.Views.{Views, talk_of}
 use Rattle.farm_cli.proofs.RunLemmas.{SameLent, did_same, has_opening, has_begun, has_held}

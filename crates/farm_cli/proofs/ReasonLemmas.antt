@@ -32,7 +32,7 @@ use Rattle.farm_cli.specs.Heard.{IsUnheard, IsHeard, ServedOver}
 use Rattle.console_commands.specs.Inputs.{Tells, longest_input}
 use Rattle.console_commands.specs.Expanding.{IsExpansion, Expands}
 use Rattle.farm_cli.specs.FarmFile.{SetsUp, FileRefused}
-use Rattle.farm_cli.specs.House.{WasLent, WasOpened, Lendings}
+use Rattle.houses.specs.House.{WasLent, WasOpened, Lendings}
 use Rattle.farm_cli.specs.Reasons.{DiskMet, FileLent, FileTaken, KeepsDisk, SigningTaken, LoadTaken, RenderingTaken, ConsoleFailed, IsDone, IsRefused, IsCut, IsUnread, IsUnwritten, IsUnheld, IsSigningDone, IsSigningRefused, IsSigningUnread, HasReason}
 use Rattle.farm_cli.specs.Run.{DidOver, Obeyed, RanOverFile, RanCommand, Ran}
 use Rattle.farm_cli.specs.Ends.{EndsWith, status_of}

@@ -37,7 +37,7 @@ use Rattle.farm_asks.specs.declared.config.ConfigCounts.{ConfigCounts}
 use Rattle.farm_cli.specs.Disks.{BeginsFrom, DiskHolds, HasFarm, IsMissing, IsRefusedFor, LedOver, WasUnopened}
 use Rattle.farm_cli.specs.Heard.{workers_of, ServesLent, IsUnheard, IsHeard, ServedOver}
 use Rattle.farm_cli.specs.Serves.{ServesFarm, NeverServed}
-use Rattle.farm_cli.specs.House.{CanGive, after_giving, after_return, WasLent, after_opened, after_closing, CanOpenAmong, WasOpened, Doors, after_listened, Lendings}
+use Rattle.houses.specs.House.{CanGive, after_giving, after_return, WasLent, after_opened, after_closing, CanOpenAmong, WasOpened, Doors, after_listened, Lendings}
 use Rattle.farm_cli.specs.Used.{LeavesConsole, UsedConsole}
 use Rattle.farm_cli.specs.Run.{DidOver, Obeyed, RanOverFile, RanLoad, RanRendering, RanSigning, RanCommand, Ran}
 use Rattle.farm_cli.specs.Ends.{status_of}

@@ -3,7 +3,7 @@ use Rattle.std.proofs.Common.{ℕ, Option}
 use Rattle.command_line.specs.declared.command.Command.{Command}
 use Rattle.farm_core.proofs.OpenLemmas.{OneChange}
 use Rattle.console_commands.specs.declared.status.Status.{Status}
-use Rattle.farm_cli.specs.House.{Lendings}
+use Rattle.houses.specs.House.{Lendings}
 use Rattle.farm_cli.specs.Run.{Ran}
 use Rattle.farm_cli.specs.Runs.{Runs}
 use Rattle.farm_cli.specs.Views.{Views}

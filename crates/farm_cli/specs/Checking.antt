@@ -7,7 +7,7 @@ use Rattle.console_commands.specs.declared.status.Status.{Status}
 use Rattle.http_wire.specs.Calls.{LinkState}
 use Rattle.farm_machine.specs.Law.{Opening}
 use Rattle.farm_cli.specs.Disks.{BeginsFrom, DiskHolds}
-use Rattle.farm_cli.specs.House.{WasLent, WasOpened, Lendings}
+use Rattle.houses.specs.House.{WasLent, WasOpened, Lendings}
 use Rattle.console_commands.specs.Inputs.{Tells}
 use Rattle.farm_cli.specs.Views.{Views, talk_of}
 

@@ -22,14 +22,14 @@ use Rattle.api_routes.specs.ReplyText.{wire_text}
 use Rattle.farm_core.specs.Diskless.{HaveNoDisk}
 use Rattle.farm_server.specs.Served.{Ask, messages_of, reply_texts}
 use Rattle.farm_server.specs.declared.served.TheConstants.{REQUESTS}
-use Rattle.farm_cli.specs.declared.lending.Lending.TheVariants.{Ready, Back}
+use Rattle.houses.specs.declared.lending.Lending.TheVariants.{Ready, Back}
 use Rattle.console_commands.specs.declared.status.Status.{Status}
 use Rattle.console_commands.specs.declared.status.Status.TheVariants.{Done, Usage, FarmFile, Input, Opening, Disk, NoMemory, Wire, Damaged}
 use Rattle.farm_cli.specs.Checking.{check_text, disk_text}
 use Rattle.farm_cli.specs.Disks.{BeginsFrom}
 use Rattle.console_commands.specs.Expanding.{IsExpansion, IsBadInput}
 use Rattle.farm_cli.specs.FarmFile.{SetsUp, HasFault}
-use Rattle.farm_cli.specs.House.{Held, holds, refuses, unopened, back, Lendings}
+use Rattle.houses.specs.House.{Held, holds, refuses, unopened, back, Lendings}
 use Rattle.farm_cli.specs.Loading.{IsLoadLine}
 use Rattle.console_commands.specs.Rendering.{IsRendering, IsUnrendered}
 use Rattle.farm_cli.specs.Serving.{IsHistoryOf}

@@ -7,7 +7,7 @@ use Rattle.farm_text.specs.declared.clock.Clock as clocks
 use Rattle.farm_text.specs.declared.draws.Draws as draws
 use Rattle.farm_server.specs.declared.gate.NoGate.{NoGate}
 use Rattle.farm_serving.specs.Connections.{Station, station}
-use Rattle.farm_serving.specs.declared.door.Listener as doors
+use Rattle.listeners.specs.declared.door.Listener as doors
 use Rattle.farm_serving.specs.declared.worker.Worker.{Worker}
 use Rattle.farm_cli.specs.declared.crew.Lack.{Lack}
 use Rattle.farm_cli.specs.declared.crew.Lack.TheVariants as lacks

@@ -19,7 +19,7 @@ use Rattle.farm_machine.specs.Step.{farm_rules}
 use Rattle.history.specs.Histories.{end_state}
 use Rattle.console_commands.specs.declared.status.Status.{Status}
 use Rattle.console_commands.specs.declared.status.Status.TheVariants.{Disk, NoMemory, Damaged}
-use Rattle.farm_cli.specs.House.{CanOpenAmong, WasOpened, after_opened, Lendings}
+use Rattle.houses.specs.House.{CanOpenAmong, WasOpened, after_opened, Lendings}
 use Rattle.farm_cli.specs.Used.{LeavesConsole}
 use Rattle.farm_cli.specs.Views.{Views}
 

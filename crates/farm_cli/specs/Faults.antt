@@ -9,7 +9,7 @@ use Rattle.console_commands.specs.declared.status.Status.TheVariants.{Wire}
 use Rattle.farm_cli.specs.Ends.{EndsWith, HasOne, HasConnection, HasRisen, WentWell}
 use Rattle.farm_cli.specs.Crew.{IsWholeCrew}
 use Rattle.farm_cli.specs.Heard.{workers_of, station_with, station_of}
-use Rattle.farm_cli.specs.House.{WasLent, CanListen, after_listened, all_left, Lendings}
+use Rattle.houses.specs.House.{WasLent, CanListen, after_listened, all_left, Lendings}
 use Rattle.farm_cli.specs.Views.{Views}
 
 -- The console was lent and came back. At the door that the house opened, and at its twins, as many workers as were asked for served, each its part; the doors came back, and

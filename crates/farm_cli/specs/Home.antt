@@ -1,8 +1,8 @@
 -- What is there at the end of a run: all that was there, or came back.
 use Rattle.std.specs.Prelude.{◌≡◌, ℕ, ◌⊎◌, List, [], ◌∷◌}
-use Rattle.farm_cli.specs.declared.lending.Lending.{Lending}
-use Rattle.farm_cli.specs.declared.lending.Lending.TheVariants.{Ready, Out, Back}
-use Rattle.farm_cli.specs.House.{Held, Files, unopened, out, back, Doors, shut, ajar, all_left, Lendings}
+use Rattle.houses.specs.declared.lending.Lending.{Lending}
+use Rattle.houses.specs.declared.lending.Lending.TheVariants.{Ready, Out, Back}
+use Rattle.houses.specs.House.{Held, Files, unopened, out, back, Doors, shut, ajar, all_left, Lendings}
 
 -- an object that was there is there, or came back; one that is out was out
 pub record IsHome {T : Type 0} (old new : Lending T) : Type 0 where

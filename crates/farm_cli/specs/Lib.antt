@@ -7,8 +7,6 @@ pub mod FarmFile
 pub mod Faults
 pub mod Heard
 pub mod Home
-pub mod House
-pub mod MemoryHouse
 pub mod Loading
 pub mod Notes
 pub mod Reasons

@@ -2,8 +2,8 @@
 use Rattle.std.specs.Prelude.{◌≡◌, ℕ, List, Option}
 use Rattle.console_commands.specs.declared.status.Status.{Status}
 use Rattle.console_commands.specs.declared.status.Status.TheVariants.{Done}
-use Rattle.farm_cli.specs.declared.lending.Lending.{Lending}
-use Rattle.farm_cli.specs.House.{WasLent}
+use Rattle.houses.specs.declared.lending.Lending.{Lending}
+use Rattle.houses.specs.House.{WasLent}
 use Rattle.console_commands.specs.Notes.{IsLineOf}
 use Rattle.console_commands.specs.Writing.{WritesFront}
 

@@ -16,7 +16,7 @@ use Rattle.farm_cli.specs.Ends.{EndsWith}
 use Rattle.console_commands.specs.Expanding.{IsExpansion, IsBadInput}
 use Rattle.farm_cli.specs.FarmFile.{SetsUp, HasFault}
 use Rattle.farm_cli.specs.Faults.{IsServed, IsDoorBroken, IsLinkUnread, IsLinkUnwritten, IsLinkCut}
-use Rattle.farm_cli.specs.House.{WasLent, WasOpened, Lendings}
+use Rattle.houses.specs.House.{WasLent, WasOpened, Lendings}
 use Rattle.console_commands.specs.Inputs.{longest_input}
 use Rattle.console_commands.specs.Rendering.{IsRendering, IsUnrendered}
 use Rattle.console_commands.specs.Signing.{IsTooLong}

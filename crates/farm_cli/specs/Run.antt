@@ -17,7 +17,7 @@ use Rattle.farm_cli.specs.Disks.{IsMissing, WasUnopened}
 use Rattle.console_commands.specs.Expanding.{Expands}
 use Rattle.farm_cli.specs.FarmFile.{SetsUp, FileRefused}
 use Rattle.farm_cli.specs.Heard.{ServedOver}
-use Rattle.farm_cli.specs.House.{CanOpenAmong, WasOpened, Lendings}
+use Rattle.houses.specs.House.{CanOpenAmong, WasOpened, Lendings}
 use Rattle.farm_cli.specs.Loading.{Loads}
 use Rattle.console_commands.specs.Rendering.{Renders}
 use Rattle.farm_cli.specs.Serving.{Conversed, ConversedOver}

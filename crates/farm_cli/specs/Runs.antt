@@ -3,7 +3,7 @@ use Rattle.std.specs.Prelude.{ℕ, Option}
 use Rattle.command_line.specs.declared.command.Command.{Command}
 use Rattle.console_commands.specs.declared.status.Status.{Status}
 use Rattle.farm_cli.specs.Complete.{Completes, CompletesLoad, CompletesRendering, CompletesSigning, RefusesFile, RefusesDisk, MissesFile, MissesDisk, TellsUsage}
-use Rattle.farm_cli.specs.House.{Lendings}
+use Rattle.houses.specs.House.{Lendings}
 use Rattle.farm_cli.specs.Reasons.{HasReason}
 use Rattle.farm_cli.specs.Run.{Ran}
 use Rattle.farm_cli.specs.Views.{Views}

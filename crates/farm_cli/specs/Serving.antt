@@ -16,7 +16,7 @@ use Rattle.farm_server.specs.declared.served.Served.{Served}
 use Rattle.console_commands.specs.declared.status.Status.{Status}
 use Rattle.farm_cli.specs.Disks.{LedOver, over_disk}
 use Rattle.farm_cli.specs.Ends.{status_of}
-use Rattle.farm_cli.specs.House.{WasLent, Lendings}
+use Rattle.houses.specs.House.{WasLent, Lendings}
 use Rattle.farm_cli.specs.Views.{Views, outside_of}
 
 -- One history from this state: it is legal, it has the entries of asks in turn and no others, its calls are these asks in order, and these are their replies.

@@ -1,7 +1,7 @@
 -- What a command asks its house for.
 use Rattle.std.specs.Prelude.{◌≡◌}
 use Rattle.http_wire.specs.Calls.{LinkState}
-use Rattle.farm_cli.specs.House.{WasLent, Lendings}
+use Rattle.houses.specs.House.{WasLent, Lendings}
 use Rattle.farm_cli.specs.Views.{Views, talk_of}
 
 -- the console, the clock and the draws were not asked for, nor a disk or a door

@@ -8,7 +8,7 @@ use Rattle.http_wire.specs.declared.link.Link as links
 use Rattle.http_wire.specs.declared.link.Sink as sinks
 use Rattle.farm_text.specs.declared.clock.Clock as clocks
 use Rattle.farm_text.specs.declared.draws.Draws as draws
-use Rattle.farm_serving.specs.declared.door.Listener as doors
+use Rattle.listeners.specs.declared.door.Listener as doors
 use Rattle.farm_server.specs.Served.{Outside}
 
 -- what is left of the farm file, and how many of its reads failed; whether the disk tells what it holds, what it holds, and how many of its

@@ -7,8 +7,9 @@ ghost use Rattle.farm_cli.specs.declared.crew.Lack.TheVariants.{Door, Memory};
 use causes::Failed;
 use console_commands::Status;
 use farm_server::NoGate;
-use farm_serving::{Listener, Worker};
+use farm_serving::Worker;
 use farm_text::{Clock, Draws};
+use listeners::Listener;
 
 /// Why not every worker stands ready.
 #[derive(Clone, Copy, Debug, PartialEq, Eq)]

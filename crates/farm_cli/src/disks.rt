@@ -8,7 +8,6 @@ ghost use Rattle.farm_cli.specs.Views.{views_of};
 
 use crate::checking::tell_counts;
 use crate::ends::after_serving;
-use crate::house::House;
 use causes::Failed;
 use console_commands::{Ended, Status};
 use disk_journal::OpenFault;
@@ -16,6 +15,7 @@ use farm_asks::config::Config;
 use farm_core::Farm;
 use farm_desk::Solo;
 use farm_server::{NoGate, serve_connection};
+use houses::House;
 use std::alloc::Global;
 use std::io::ErrorKind;
 

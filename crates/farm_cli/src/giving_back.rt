@@ -1,11 +1,11 @@
 //! What the house lent to workers goes back.
 ghost use Rattle.std.specs.Prelude.{◌≡◌, ◌<◌, List, ◌∷◌, map, vec_len};
-ghost use Rattle.farm_cli.specs.House.{after_return, all_left};
+ghost use Rattle.houses.specs.House.{after_return, all_left};
 
 use crate::crew::Hand;
-use crate::house::House;
 use farm_server::NoGate;
 use farm_serving::Worker;
+use houses::House;
 
 /// The workers of a house.
 pub(crate) type HandOf<H> = Hand<<H as House>::Door, <H as House>::Time, <H as House>::Ids>;

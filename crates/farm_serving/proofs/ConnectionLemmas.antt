@@ -17,7 +17,7 @@ use Rattle.farm_server.specs.Served.{Standing, questions_of, IsCount}
 use Rattle.farm_server.specs.declared.served.Served.{Served}
 use Rattle.farm_server.specs.declared.served.Served.TheVariants.{Closed, EndedInside, WireFault, ReadFault, WriteFault, Full, NoMemory}
 use Rattle.farm_serving.specs.Connections.{Connection, Company, InTurn, Station, Part, HasCounted, Worked, ServesLink, questions_in, replies_in}
-use Rattle.farm_serving.specs.Doors.{IsMore}
+use Rattle.listeners.specs.Doors.{IsMore}
 use Rattle.farm_serving.specs.Numbers.{of_nothing, of_refusal, of_connection, FitTogether, both}
 use Rattle.farm_serving.specs.Serving.{Works}
 use Rattle.farm_serving.specs.Tally.{IsTally}

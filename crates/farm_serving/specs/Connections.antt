@@ -10,7 +10,7 @@ use Rattle.farm_machine.specs.Step.{farm_rules}
 use Rattle.farm_server.specs.Served.{Outside, Ask, questions_of, Spoke, Standing}
 use Rattle.farm_server.specs.declared.gate.When.{When}
 use Rattle.farm_server.specs.declared.served.Served.{Served}
-use Rattle.farm_serving.specs.Doors.{IsMore}
+use Rattle.listeners.specs.Doors.{IsMore}
 use Rattle.farm_serving.specs.Numbers.{of_connection}
 use Rattle.farm_serving.specs.declared.ended.Ended.{Ended}
 

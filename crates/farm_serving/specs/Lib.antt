@@ -1,5 +1,3 @@
-pub mod Doors
-pub mod Memory
 pub mod Numbers
 pub mod Connections
 pub mod Tally

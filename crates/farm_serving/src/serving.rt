@@ -4,7 +4,6 @@ ghost use Rattle.farm_server.specs.declared.served.TheConstants.{REQUESTS};
 ghost use Rattle.farm_serving.specs.Connections.{station};
 ghost use Rattle.farm_serving.specs.Serving.{Serves};
 
-use crate::door::Listener;
 use crate::ended::Ended;
 use crate::halves::serve_row;
 use crate::worker::Worker;
@@ -14,6 +13,7 @@ use farm_desk::Object;
 use farm_machine::law::Farm;
 use farm_server::Gate;
 use farm_text::{Clock, Draws};
+use listeners::Listener;
 use shared_desk::{Shared, Token};
 use std::alloc::Global;
 use std::sync::Wait;

@@ -9,7 +9,6 @@ ghost use Rattle.farm_server.specs.declared.served.TheConstants.{REQUESTS};
 ghost use Rattle.farm_serving.specs.Connections.{Station, station as station_of};
 ghost use Rattle.farm_serving.specs.Serving.{ServesLegal};
 
-use crate::door::Listener;
 use crate::ended::Ended;
 use crate::worker::Worker;
 use farm_asks::question::Question;
@@ -18,6 +17,7 @@ use farm_desk::{Object, Spare};
 use farm_machine::law::Farm;
 use farm_server::Gate;
 use farm_text::{Clock, Draws};
+use listeners::Listener;
 use shared_desk::Pass;
 use std::alloc::Global;
 use std::sync::Wait;

@@ -6,7 +6,6 @@ ghost use Rattle.farm_server.specs.declared.served.TheConstants.{REQUESTS};
 ghost use Rattle.farm_serving.specs.Connections.{station, ServesLink};
 ghost use Rattle.farm_serving.specs.Serving.{Works};
 
-use crate::door::Listener;
 use crate::ended::Ended;
 use causes::Failed;
 use farm_asks::question::Question;
@@ -16,6 +15,7 @@ use farm_machine::law::Farm;
 use farm_server::{Gate, Served, serve_connection, serve_routed};
 use farm_text::{Clock, Draws};
 use http_wire::Link;
+use listeners::Listener;
 use route_table::Table;
 use std::alloc::Global;
 

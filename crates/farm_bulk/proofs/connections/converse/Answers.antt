@@ -2,7 +2,7 @@ use Rattle.std.proofs.Common.{refl, sym, ap}
 use Rattle.history.proofs.AsksLemmas.{LeadsAlone-none}
 use Rattle.farm_text.specs.Told.{told_by, first_uuid}
 use Rattle.farm_machine.specs.Step.{farm_rules}
-use Rattle.farm_bulk.specs.Still.{midnight}
+use Rattle.load_requests.specs.Still.{midnight}
 use Rattle.farm_bulk.proofs.ConnectionLemmas.{Converses-of, IfOk-written}
 use Rattle.farm_bulk.proofs.connections.converse.Goals as goal
 

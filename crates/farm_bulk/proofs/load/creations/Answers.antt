@@ -1,6 +1,6 @@
 use Rattle.std.proofs.Common.{◌≡◌, ◌+◌, ◌++◌, string_bytes, sym, ap, ◌∙◌}
-use Rattle.farm_bulk.specs.Generator.{next, drawn}
-use Rattle.farm_bulk.specs.Requests.{creation_text}
+use Rattle.load_requests.specs.Generator.{next, drawn}
+use Rattle.load_requests.specs.Requests.{creation_text}
 use Rattle.farm_bulk.proofs.LoadLemmas.{creations-start, creations-next, creations-end, after_draws-start, after_draws-next, after_draws-end}
 use Rattle.farm_bulk.proofs.load.creations.Goals as goal
 

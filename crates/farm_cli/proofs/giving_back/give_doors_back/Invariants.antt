@@ -1,5 +1,5 @@
 use Rattle.std.proofs.Common.{◌≡◌, ◌+◌, map, length}
-use Rattle.farm_cli.specs.House.{all_left}
+use Rattle.houses.specs.House.{all_left}
 use Rattle.farm_cli.proofs.giving_back.give_doors_back.Given as goal
 
 -- so many doors are back, and the others are in the row

@@ -1,0 +1,3 @@
+pub mod Generator
+pub mod Requests
+pub mod Still
