@@ -17,13 +17,14 @@ import sys
 
 # `rattle build` of each library and of each crate's tests, in a run from nothing of 82 minutes on 30 November 2026, on a machine of 2.5 GHz (role_expand 6.0) with
 # little else beside it; of farm_asks, the five crates above it that give answers, and farm_tests, which changed on 1 December, that times what they took then
-# beside what they had taken; and so of farm_text, task_defs, farm_rows, farm_machine, farm_cli, farm_laws, console_commands and random_ids, as they are since that
-# evening. What the compiler takes is not here. A crate that is not here takes a few seconds.
+# beside what they had taken; and so of farm_text, task_defs, farm_rows, farm_machine, farm_laws, console_commands and random_ids, as they are since that
+# evening, and of farm_serving, farm_bulk, farm_cli, farm and their parts (listeners, houses, load_requests, hook_book, connection_tests), as they are since its
+# night. What the compiler takes is not here. A crate that is not here takes a few seconds.
 TIMES = {
     "causes": 0.4, "history": 0.3, "scope_sets": 1.3, "jsone_expr": 2.9, "dep_graph": 2.4, "farm_text": 5.6, "random_ids": 0.4, "role_expand": 6.0,
     "http_wire": 3.5, "disk_base": 2.2, "disk_journal": 1.4, "route_table": 1.2, "shared_desk": 1.6, "task_groups": 1.4, "slug_places": 0.3, "scope_lines": 0.5,
     "plain_text": 0.6, "farm_desk": 0.3, "task_defs": 7.3, "hawk_auth": 4.1, "jsone_values": 4.2, "jsone_eval": 2.8, "command_line": 5.2, "claim_queue": 2.4,
-    "run_states": 2.2, "farm_record": 2.2, "call_rules": 1.6, "task_statuses": 1.1, "jsone_render": 9.1, "hook_fire": 1.4, "farm_rows": 10.3, "farm_asks": 2.8,
+    "run_states": 2.2, "farm_record": 2.2, "call_rules": 1.6, "task_statuses": 1.1, "jsone_render": 9.1, "hook_book": 0.7, "hook_fire": 1.2, "farm_rows": 10.3, "farm_asks": 2.8,
     "farm_machine": 6.8, "farm_laws": 1.0, "api_routes": 3.1, "farm_files": 5.4, "farm_core": 2.8, "farm_server": 1.8, "farm_serving": 1.7, "farm_bulk": 2.2,
     "console_commands": 1.8, "farm_cli": 4.7, "farm": 2.0, "listeners": 1.0, "houses": 0.9, "load_requests": 0.7,
 }

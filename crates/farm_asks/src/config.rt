@@ -5,7 +5,7 @@ ghost use Rattle.farm_asks.specs.Config.{counts_of};
 use crate::grants::Grants;
 use farm_text::Text;
 use hawk_auth::ClientBook;
-use hook_fire::HookBook;
+use hook_book::HookBook;
 
 /// How a farm is set up.
 #[derive(Drop)]

@@ -164,7 +164,7 @@ pub struct Question {
 impl Model for Question {
     ghost use Rattle.std.specs.Coded.{codes};
     ghost use Rattle.task_defs.specs.Codes.{members_code};
-    ghost use Rattle.hook_fire.specs.Codes.{document_code};
+    ghost use Rattle.hook_book.specs.Codes.{document_code};
     ghost use Rattle.std.specs.Prelude.{◌≤◌};
     ghost use Rattle.farm_text.specs.declared.moment.TheConstants.{LAST_TOLD_MOMENT};
     ghost use Rattle.farm_asks.specs.Questions.{Asking};

@@ -9,7 +9,7 @@ use farm_asks::grants::Grants;
 use farm_core::Bare;
 use farm_text::Text;
 use hawk_auth::ClientBook;
-use hook_fire::HookBook;
+use hook_book::HookBook;
 use role_expand::{Role, RoleSet};
 use scope_sets::Scope;
 use std::alloc::{AllocError, Global};

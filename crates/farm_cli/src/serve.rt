@@ -18,7 +18,7 @@ use farm_desk::Object;
 use farm_machine::tables::farms_tables_cross_threads;
 use farm_server::NoGate;
 use farm_serving::Worker;
-use hook_fire::hooks_cross_threads;
+use hook_book::hooks_cross_threads;
 use houses::House;
 use listeners::Listener;
 use std::alloc::Global;

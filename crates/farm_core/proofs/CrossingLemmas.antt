@@ -5,7 +5,7 @@ use denote.Param.SendFields.{declared_send}
 use Rattle.std.proofs.Crossing.{crosses}
 use Rattle.std.proofs.MapsCrossing as maps
 use Rattle.disk_base.specs.declared.disk.Disk as disks
-use Rattle.hook_fire.specs.contracts.book.HookBook as hooks
+use Rattle.hook_book.specs.contracts.book.HookBook as hooks
 use Rattle.farm_asks.specs.contracts.config.Config as config
 use Rattle.farm_machine.specs.contracts.tables.Tables as tables
 use Rattle.farm_core.specs.contracts.bare.Bare as bare

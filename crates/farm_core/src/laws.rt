@@ -19,7 +19,7 @@ ghost use Rattle.farm_core.specs.Opened.{HasOpened, Replays, IsFarmDamaged, IsSo
 use disk_base::Disk;
 use farm_machine::tables::farms_tables_cross_threads;
 use farm_record::a_record_is_of_one_change;
-use hook_fire::hooks_cross_threads;
+use hook_book::hooks_cross_threads;
 
 /// A file is never damaged that a stop leaves within records that may be replayed.
 pub fn what_replays_is_never_damaged()

@@ -3,7 +3,7 @@ use Rattle.std.proofs.Common.{ℕ, zero, suc, ◌<◌, ◌≤◌, inl, inr, List
 use Rattle.std.specs.Prelude.{codes}
 use Rattle.farm_text.specs.DateTime.{IsDateTime}
 use Rattle.hawk_auth.specs.Clients.{ClientData}
-use Rattle.hook_fire.specs.Hooks.{HookData}
+use Rattle.hook_book.specs.Hooks.{HookData}
 use Rattle.toml.specs.Data.{Data, get_member}
 use Rattle.farm_files.specs.Clients.{ClientText, AreClients, client_rows, clients_in}
 use Rattle.farm_files.specs.Hooks.{HookText, AreHooks, HasTemplate, hook_rows, hooks_in}

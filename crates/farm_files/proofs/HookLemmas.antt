@@ -5,8 +5,8 @@ use Rattle.std.specs.Prelude.{slice_get, MatchResult}
 use Rattle.farm_text.specs.Document.{Document, data_of}
 use Rattle.farm_text.specs.Reading.{IsJson, unwhole}
 use Rattle.hawk_auth.proofs.DataLemmas.{IsJson-one}
-use Rattle.hook_fire.specs.declared.firing.Hook.{Hook}
-use Rattle.hook_fire.specs.Hooks.{HookData, hook_data}
+use Rattle.hook_book.specs.declared.hook.Hook.{Hook}
+use Rattle.hook_book.specs.Hooks.{HookData, hook_data}
 use Rattle.toml.specs.Data.{Data, Members, as_table}
 use Rattle.farm_files.specs.declared.fault.Rule.TheVariants.{NotToml, UnknownKey, MissingKey, WrongKind, OutOfForm, RepeatedId, ParameterCycle, NotJson, TooLong}
 use Rattle.farm_files.specs.declared.fault.RowFault.{RowFault}

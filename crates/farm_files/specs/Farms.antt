@@ -8,7 +8,7 @@ use Rattle.farm_files.specs.declared.fault.FileFault.TheVariants as faults
 use Rattle.farm_files.specs.Faults.{IsFirst}
 use Rattle.farm_files.specs.Values.{natural}
 use Rattle.hawk_auth.specs.Clients.{ClientData}
-use Rattle.hook_fire.specs.Hooks.{HookData}
+use Rattle.hook_book.specs.Hooks.{HookData}
 use Rattle.farm_files.specs.Clients.{AreClients, clients_in}
 use Rattle.farm_files.specs.Hooks.{AreHooks, hooks_in}
 use Rattle.farm_files.specs.Roles.{roles_in}

@@ -3,7 +3,7 @@ use Rattle.std.specs.Prelude.{◌≡◌, ℕ, true, List, [], ◌∷◌, Option,
 use Rattle.farm_text.specs.Document.{Document, data_of}
 use Rattle.farm_text.specs.Reading.{IsJson, unwhole}
 use Rattle.call_rules.specs.HookNames.{hook_name, IsHookGroupId, IsHookId}
-use Rattle.hook_fire.specs.Hooks.{HookData}
+use Rattle.hook_book.specs.Hooks.{HookData}
 use Rattle.toml.specs.Data.{Data, Members, get_member}
 use Rattle.farm_files.specs.Rows.{Kind, said_in}
 use Rattle.farm_files.specs.Values.{has_all, is_text, passes, text_or}

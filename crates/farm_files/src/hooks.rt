@@ -1,7 +1,7 @@
 //! The hooks of `[[hook]]`.
 ghost use Rattle.std.specs.Prelude.{◌≡◌, ◌↔◌, ℕ, ◌+◌, ◌++◌, ◌∷◌, [], map, IfOk, IsTrue, MatchResult, codes, string_bytes, vec_len};
 ghost use Rattle.farm_text.specs.Doc.{document};
-ghost use Rattle.hook_fire.specs.Hooks.{hook_data, hooks_data};
+ghost use Rattle.hook_book.specs.Hooks.{hook_data, hooks_data};
 ghost use Rattle.toml.specs.Data.{get_member};
 ghost use Rattle.toml.specs.View.{view, table_view};
 ghost use Rattle.farm_files.specs.Hooks.{hook_keys, hook_in, hook_rows, hooks_in, AreHooks, IsHookFrom, IsTemplateText};
@@ -17,7 +17,7 @@ use crate::rows::MOST_ROWS;
 use crate::values::{has_key, has_only, text_or};
 use call_rules::{is_hook_group_id, is_hook_id};
 use farm_text::{Doc, ReadFault, Text};
-use hook_fire::{Hook, HookBook};
+use hook_book::{Hook, HookBook};
 use std::alloc::{AllocError, Global};
 use std::collections::BTreeSet;
 use toml::Value;

@@ -15,7 +15,7 @@ use Rattle.farm_asks.specs.declared.question.Caller.{Caller}
 use Rattle.farm_asks.specs.declared.reply.Answer.{Answer}
 use Rattle.farm_asks.specs.Access.{Has, HasAccess}
 use Rattle.call_rules.specs.declared.hook_names.HookName.{HookName}
-use Rattle.hook_fire.specs.Hooks.{HookData}
+use Rattle.hook_book.specs.Hooks.{HookData}
 use Rattle.farm_machine.specs.Calls.TriggerHook.{hook_at, of_hook}
 use Rattle.farm_machine.specs.Calls.CreateTask.{standing, scheduler_besides, where_found, joining, create_task}
 use Rattle.farm_machine.specs.Case.{Setting, Deed, Rule, Case, of_row, of_run}

@@ -7,7 +7,7 @@ use Rattle.call_rules.specs.Policy.{create_policy, trigger_policy}
 use Rattle.call_rules.specs.declared.hook_names.HookName.{HookName}
 use Rattle.farm_record.specs.declared.change.Creation.{Creation}
 use Rattle.hawk_auth.specs.Access.{Access as Admission, Expands}
-use Rattle.hook_fire.specs.Hooks.{HookData}
+use Rattle.hook_book.specs.Hooks.{HookData}
 use Rattle.hook_fire.specs.declared.fault.FireFault.{FireFault}
 use Rattle.hook_fire.specs.declared.fault.FireFault.TheVariants.{Template, TooMuchWork, Definition, NoMemory}
 use Rattle.jsone_values.specs.Faults.{rule_of}

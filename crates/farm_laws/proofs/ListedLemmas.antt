@@ -6,7 +6,7 @@ use Rattle.scope_sets.specs.Scopes.{star, covers}
 use Rattle.scope_sets.proofs.SatisfyingLemmas.{covers_by}
 use Rattle.call_rules.specs.Policy.{create_scope, from_highest, create_policy}
 use Rattle.call_rules.specs.declared.hook_names.HookName.{HookName}
-use Rattle.hook_fire.specs.Hooks.{HookData}
+use Rattle.hook_book.specs.Hooks.{HookData}
 use Rattle.run_states.specs.Rows.{Row}
 use Rattle.farm_rows.specs.Contents.{row_with}
 use Rattle.task_defs.specs.declared.choices.Priority.{Priority}

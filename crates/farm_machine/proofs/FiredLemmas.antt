@@ -12,7 +12,7 @@ use Rattle.farm_record.specs.declared.change.Kind.TheVariants.{Create}
 use Rattle.farm_record.specs.Records.{IsSaid}
 use Rattle.hawk_auth.proofs.SomeLemmas.{expands}
 use Rattle.hook_fire.specs.Firing.{IsFired}
-use Rattle.hook_fire.specs.Hooks.{HookData}
+use Rattle.hook_book.specs.Hooks.{HookData}
 use Rattle.hook_fire.specs.declared.fault.FireFault.{FireFault}
 use Rattle.hook_fire.specs.declared.fault.FireFault.TheVariants.{Template, TooMuchWork, Definition, NoMemory}
 use Rattle.hook_fire.proofs.FiringLemmas.{Laws, one_answer}

@@ -3,7 +3,7 @@ use Rattle.std.proofs.Common.{◌≡◌, ℕ, true, false, List, [], ◌∷◌, 
 use Rattle.farm_text.specs.Document.{Document, object}
 use Rattle.hawk_auth.specs.Access.{TooMany as Exceeds}
 use Rattle.hook_fire.specs.Firing.{IsFired}
-use Rattle.hook_fire.specs.Hooks.{HookData, hook_named}
+use Rattle.hook_book.specs.Hooks.{HookData, hook_named}
 use Rattle.hook_fire.specs.declared.fault.FireFault.{FireFault}
 use Rattle.role_expand.specs.Closures.{IsClosure, HasMoreDerivable, FailsToExpand}
 use Rattle.role_expand.specs.declared.expansion.ExpandFault.{ExpandFault}

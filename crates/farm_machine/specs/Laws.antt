@@ -10,7 +10,7 @@ use Rattle.farm_record.specs.declared.change.Kind.{Kind}
 use Rattle.farm_record.specs.declared.change.Kind.TheVariants.{Create}
 use Rattle.farm_text.specs.Document.{object, document_text}
 use Rattle.hook_fire.specs.Firing.{IsFired}
-use Rattle.hook_fire.specs.Hooks.{HookData}
+use Rattle.hook_book.specs.Hooks.{HookData}
 use Rattle.hook_fire.specs.declared.fault.FireFault.{FireFault}
 use Rattle.hook_fire.specs.declared.fault.FireFault.TheVariants.{NoMemory}
 use Rattle.task_defs.specs.declared.task_def.TaskDef.{TaskDef}

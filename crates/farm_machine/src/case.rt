@@ -30,7 +30,7 @@ pub(crate) struct Scene<'a> {
 impl<'a> Model for Scene<'a> {
     ghost use Rattle.std.specs.Coded.{codes};
     ghost use Rattle.task_defs.specs.Codes.{members_code};
-    ghost use Rattle.hook_fire.specs.Codes.{document_code};
+    ghost use Rattle.hook_book.specs.Codes.{document_code};
     ghost use Rattle.farm_machine.specs.Case.{Setting};
     ghost use Rattle.farm_machine.specs.State.{working};
 

@@ -20,7 +20,7 @@ pub struct States {}
 impl Model for States {
     ghost use Rattle.std.specs.Coded.{codes};
     ghost use Rattle.task_defs.specs.Codes.{members_code};
-    ghost use Rattle.hook_fire.specs.Codes.{document_code};
+    ghost use Rattle.hook_book.specs.Codes.{document_code};
     ghost use Rattle.farm_machine.specs.State.{State, empty_state, no_config};
 
     ghost Value = { State };
@@ -36,7 +36,7 @@ pub struct Entries {}
 impl Model for Entries {
     ghost use Rattle.std.specs.Coded.{codes};
     ghost use Rattle.task_defs.specs.Codes.{members_code};
-    ghost use Rattle.hook_fire.specs.Codes.{document_code};
+    ghost use Rattle.hook_book.specs.Codes.{document_code};
     ghost use Rattle.farm_machine.specs.Entry.{Entry, tick};
 
     ghost Value = { Entry };
@@ -52,7 +52,7 @@ pub struct Openings {}
 impl Model for Openings {
     ghost use Rattle.std.specs.Coded.{codes};
     ghost use Rattle.task_defs.specs.Codes.{members_code};
-    ghost use Rattle.hook_fire.specs.Codes.{document_code};
+    ghost use Rattle.hook_book.specs.Codes.{document_code};
     ghost use Rattle.std.specs.Prelude.{[]};
     ghost use Rattle.farm_machine.specs.Law.{Opening};
     ghost use Rattle.farm_machine.specs.State.{empty_state, no_config};

@@ -3,7 +3,7 @@ use farm_asks::config::Config;
 use farm_files::{FileFault, LONGEST_FILE, read_farm, read_farm_with, tell_fault};
 use farm_text::Doc;
 use hawk_auth::Client;
-use hook_fire::Hook;
+use hook_book::Hook;
 use std::alloc::{AllocError, Global};
 use std::test::Fail;
 

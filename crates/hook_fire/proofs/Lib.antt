@@ -2,7 +2,6 @@ pub mod ContextLemmas
 pub mod DefaultLemmas
 pub mod FiringLemmas
 pub mod LateLemmas
-pub mod PlaceLemmas
 pub mod SomeFault
 pub mod SomeDefinition
 pub mod SomeFiring

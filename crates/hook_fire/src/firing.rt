@@ -7,18 +7,11 @@ ghost use Rattle.hook_fire.specs.Firing.{ComesTo, Makes, IsRefused, IsFired};
 use crate::context::context;
 use crate::defaults::with_defaults;
 use crate::fault::FireFault;
-use farm_text::{Doc, Moment, SlugId, Text};
+use farm_text::{Doc, Moment, SlugId};
+use hook_book::Hook;
 use jsone_render::{RenderFault, render};
 use std::alloc::Global;
 use task_defs::{DefError, TaskDef, read_task};
-
-/// A hook: its group, its id in that, and the template of the tasks that it makes.
-#[derive(Drop)]
-pub struct Hook {
-    pub group: Text,
-    pub id: Text,
-    pub template: Doc,
-}
 
 /// The definition of the task of the drawn id that the hook makes when it is fired at this moment with this payload: its template rendered,
 /// with its defaults, read as a definition. Else the first fault of the template, that it costs too much, or the least rule that the definition breaks.

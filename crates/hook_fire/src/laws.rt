@@ -1,6 +1,5 @@
 //! What follows from the definitions. The functions do nothing: each contract is a law.
 ghost use Rattle.std.specs.Prelude.{◌≡◌, ◌≢◌, ◌<◌, ◌≤◌, ◌⊎◌, ℕ, List, Result, Err};
-ghost use Rattle.std.specs.Thread.{IsSend};
 ghost use Rattle.farm_text.specs.Moment.{IsMomentText};
 ghost use Rattle.task_defs.specs.Values.{IsMoment};
 ghost use Rattle.farm_text.specs.Document.{Document};
@@ -9,11 +8,9 @@ ghost use Rattle.task_defs.specs.Faults.{IsFault};
 ghost use Rattle.task_defs.specs.declared.fault.DefFault.{DefFault};
 ghost use Rattle.task_defs.specs.declared.task_def.TaskDef.{TaskDef};
 ghost use Rattle.hook_fire.specs.Firing.{IsFired};
-ghost use Rattle.hook_fire.specs.contracts.book.HookBook.{the_row};
 ghost use Rattle.hook_fire.specs.declared.fault.FireFault.{FireFault};
 ghost use Rattle.hook_fire.specs.declared.fault.FireFault.TheVariants.{NoMemory};
 
-use crate::book::HookBook;
 use farm_text::{a_text_has_one_moment, moment_texts_are_one};
 use jsone_render::laws::the_rendering_is_one;
 use task_defs::the_fault_is_one;
@@ -33,17 +30,6 @@ pub fn the_firing_is_one()
 /// The text of a moment past the last one that is read is read as none, and so breaks the rule of moments.
 pub fn late_moments_are_not_read()
     ensures { (moment : ℕ) (text : List ℕ) → 253_370_764_799_999 < moment → IsMomentText moment text → ¬ IsMoment text }
-{}
-
-/// A book of hooks may go to another thread.
-pub fn hooks_cross_threads()
-    ensures sent { IsSend the_row }
-{
-    sends::<HookBook>();
-}
-
-fn sends<T: Send>()
-    ensures { IsSend T.row }
 {}
 
 /// No document is without a definition that it says or a fault that it has, for whichever task.

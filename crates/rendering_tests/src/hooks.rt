@@ -1,6 +1,7 @@
 //! Firings that were worked by hand.
 use farm_text::{Doc, Moment, SlugId, Text};
-use hook_fire::{FireFault, Hook, fire};
+use hook_book::Hook;
+use hook_fire::{FireFault, fire};
 use std::alloc::{AllocError, Global};
 use task_defs::TaskDef;
 

@@ -8,7 +8,7 @@ use Rattle.farm_record.specs.declared.change.Creation.{Creation}
 use Rattle.farm_text.specs.Document.{object}
 use Rattle.hawk_auth.specs.Access.{Access as Admission, Expands}
 use Rattle.hook_fire.specs.Firing.{IsFired}
-use Rattle.hook_fire.specs.Hooks.{HookData, hook_named}
+use Rattle.hook_book.specs.Hooks.{HookData, hook_named}
 use Rattle.hook_fire.specs.declared.fault.FireFault.{FireFault}
 use Rattle.hook_fire.specs.declared.fault.FireFault.TheVariants.{Template, TooMuchWork, Definition, NoMemory}
 use Rattle.jsone_values.specs.Faults.{rule_of}

@@ -1,5 +1,5 @@
 use Rattle.std.proofs.Common.{◌≡◌}
-use Rattle.hook_fire.specs.Hooks.{hooks_data}
+use Rattle.hook_book.specs.Hooks.{hooks_data}
 use Rattle.farm_files.proofs.hooks.hook_book.Given as goal
 
 abbrev pub invariant-loop-hook : goal.invariant-loop-hook

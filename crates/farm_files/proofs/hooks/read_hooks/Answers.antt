@@ -1,6 +1,6 @@
 use Rattle.std.proofs.Common.{◌≡◌, ℕ, List, [], Some, None, Option, map, sym, ap, ◌∙◌, subst}
 use Rattle.std.specs.Prelude.{MatchResult, codes}
-use Rattle.hook_fire.specs.Hooks.{HookData, hooks_data}
+use Rattle.hook_book.specs.Hooks.{HookData, hooks_data}
 use Rattle.toml.specs.Data.{Data, array, get_member}
 use Rattle.toml.specs.View.{view, items_of, table_view}
 use Rattle.toml.specs.declared.value.Value.{Value}

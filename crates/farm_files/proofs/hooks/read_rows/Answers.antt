@@ -1,7 +1,7 @@
 use Rattle.std.proofs.Common.{◌+◌, ◌<◌, [], ◌∷◌, ◌++◌, map, take, length, sym, ◌∙◌, subst, refl, arith}
 use Rattle.std.proofs.lemmas.List.{length-map, take_all}
 use Rattle.std.proofs.lemmas.Option.{slice_get_within}
-use Rattle.hook_fire.specs.Hooks.{hook_data, hooks_data}
+use Rattle.hook_book.specs.Hooks.{hook_data, hooks_data}
 use Rattle.farm_files.specs.Hooks.{AreHooks, hook_rows}
 use Rattle.farm_files.proofs.HookLemmas.{hooks_more, named}
 use Rattle.toml.specs.View.{view}

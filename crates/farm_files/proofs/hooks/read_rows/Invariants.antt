@@ -2,7 +2,7 @@ use Rattle.std.proofs.Common.{ℕ, ◌<◌, ◌≤◌, map, take}
 use Rattle.toml.specs.View.{view}
 use Rattle.farm_files.specs.declared.fault.Rule.{Rule}
 use Rattle.farm_files.specs.Earlier.{AreIdsOf}
-use Rattle.hook_fire.specs.Hooks.{hooks_data}
+use Rattle.hook_book.specs.Hooks.{hooks_data}
 use Rattle.farm_files.specs.Hooks.{AreHooks, hook_rows, name_of}
 use Rattle.farm_files.specs.Rows.{RowAtBreaks, says_of}
 use Rattle.farm_files.proofs.hooks.read_rows.Given as goal

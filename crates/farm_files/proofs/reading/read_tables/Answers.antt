@@ -11,7 +11,7 @@ use Rattle.farm_files.specs.declared.settings.Settings.{Settings}
 use Rattle.farm_files.proofs.FarmLemmas.{first_unknown, first_farm, refuses_rows, refuses_cycle, refuses_clients, refuses_hooks, forms, apart, tables_sound}
 use Rattle.farm_files.proofs.BookLemmas.{book_apart, book_forms}
 use Rattle.hawk_auth.specs.Clients.{ClientData, clients_data}
-use Rattle.hook_fire.specs.Hooks.{HookData}
+use Rattle.hook_book.specs.Hooks.{HookData}
 use Rattle.farm_files.specs.Clients.{AreClients, clients_in}
 use Rattle.farm_files.specs.Hooks.{AreHooks, hooks_in}
 use Rattle.farm_files.proofs.reading.read_tables.Goals as goal

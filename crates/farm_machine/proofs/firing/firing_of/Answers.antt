@@ -1,6 +1,6 @@
 -- The hook of the name is fired; a definition comes to what its scopes make of it, and a fault to its answer.
 use Rattle.std.proofs.Common.{Some, None, ap}
-use Rattle.hook_fire.specs.Hooks.{hook_data}
+use Rattle.hook_book.specs.Hooks.{hook_data}
 use Rattle.farm_machine.specs.Case.{Setting}
 use Rattle.farm_machine.proofs.FiringLemmas.{found-so, comes-made, comes-refused}
 use Rattle.farm_machine.proofs.firing.firing_of.Goals as goal

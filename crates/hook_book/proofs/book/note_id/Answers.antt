@@ -1,6 +1,6 @@
 use Rattle.std.proofs.Common.{Some, string_bytes}
 use Rattle.std.proofs.lemmas.Map.Text.{btree_map_updates_text}
-use Rattle.hook_fire.proofs.book.note_id.Goals as goal
+use Rattle.hook_book.proofs.book.note_id.Goals as goal
 
 pub returns-clause-kept : goal.returns-clause-kept
 returns-clause-kept c = λ i.

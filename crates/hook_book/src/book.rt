@@ -1,10 +1,10 @@
 //! The book of hooks.
 ghost use Rattle.std.specs.Prelude.{◌≡◌, ℕ, List, Some, None, [], ◌∷◌, ◌++◌, ◌&&◌, length, option_map, bytes_eq, OnOk, OnErr, if◌then◌else◌};
 ghost use Rattle.std.specs.BTreeMap.{get_by_text};
-ghost use Rattle.hook_fire.specs.Hooks.{hook_data, hook_named, is_named};
-ghost use Rattle.hook_fire.specs.Places.{place_in, first_place};
+ghost use Rattle.hook_book.specs.Hooks.{hook_data, hook_named, is_named};
+ghost use Rattle.hook_book.specs.Places.{place_in, first_place};
 
-use crate::firing::Hook;
+use crate::hook::Hook;
 use std::alloc::{AllocError, Global};
 use std::collections::BTreeMap;
 use std::marker::Model;
@@ -20,9 +20,9 @@ pub struct HookBook {
 impl Model for HookBook {
     ghost use Rattle.std.specs.Coded.{codes};
     ghost use Rattle.std.specs.Prelude.{List};
-    ghost use Rattle.hook_fire.specs.Codes.{document_code};
-    ghost use Rattle.hook_fire.specs.Hooks.{HookData, hooks_data};
-    ghost use Rattle.hook_fire.specs.Places.{HasPlaces};
+    ghost use Rattle.hook_book.specs.Codes.{document_code};
+    ghost use Rattle.hook_book.specs.Hooks.{HookData, hooks_data};
+    ghost use Rattle.hook_book.specs.Places.{HasPlaces};
 
     ghost Value = { List HookData };
 

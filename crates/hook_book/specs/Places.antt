@@ -2,7 +2,7 @@
 use Rattle.std.specs.Prelude.{◌≡◌, ℕ, Bool, List, String, Option, Some, None, option_and_then, slice_get, if◌then◌else◌}
 use Rattle.std.specs.Global.{Global}
 use Rattle.std.specs.BTreeMap.{BTreeMap, get_by_text}
-use Rattle.hook_fire.specs.Hooks.{HookData, hook_named}
+use Rattle.hook_book.specs.Hooks.{HookData, hook_named}
 
 -- for each group the place of each id
 abbrev pub Places : Type 0

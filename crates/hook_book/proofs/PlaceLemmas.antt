@@ -4,8 +4,8 @@ use Rattle.std.specs.BTreeMap.{BTreeMap, get_by_text}
 use Rattle.std.proofs.lemmas.List.Folds.{find-append}
 use Rattle.std.proofs.lemmas.Option.{slice_get_within}
 use Rattle.std.proofs.lemmas.Slice.Eq.{bytes_eq-Decides}
-use Rattle.hook_fire.specs.Places.{Places, place_in, IsPlaceOf, first_place}
-use Rattle.hook_fire.specs.Hooks.{HookData, hook_named, is_named}
+use Rattle.hook_book.specs.Places.{Places, place_in, IsPlaceOf, first_place}
+use Rattle.hook_book.specs.Hooks.{HookData, hook_named, is_named}
 
 -- ---- a book's places
 

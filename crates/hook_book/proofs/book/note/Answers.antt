@@ -1,8 +1,8 @@
 use Rattle.std.proofs.Common.{◌≡◌, ℕ, bytes_eq, if◌then◌else◌, Option, Some, None, sym, ap, ◌∙◌, string_bytes, rules}
 use Rattle.std.specs.Option.{option_copied_mut}
 use Rattle.std.proofs.lemmas.Map.Text.{btree_map_updates_text}
-use Rattle.hook_fire.proofs.PlaceLemmas.{noted_so, left_so, noted, no_id}
-use Rattle.hook_fire.proofs.book.note.Goals as goal
+use Rattle.hook_book.proofs.PlaceLemmas.{noted_so, left_so, noted, no_id}
+use Rattle.hook_book.proofs.book.note.Goals as goal
 
 pub returns-in-Some-clause-kept : goal.returns-in-Some-clause-kept
 returns-in-Some-clause-kept c =

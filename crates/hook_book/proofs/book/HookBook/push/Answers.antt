@@ -1,10 +1,10 @@
 use Rattle.std.proofs.Common.{◌≡◌, List, ◌∷◌, [], ◌++◌, map, length, ap, ◌∙◌, arith}
 use Rattle.std.proofs.lemmas.List.{length-map, map-append}
-use Rattle.hook_fire.specs.Hooks.{HookData, hook_data, hooks_data, is_named}
-use Rattle.hook_fire.specs.Places.{place_in, first_place}
-use Rattle.hook_fire.specs.declared.firing.Hook.{Hook}
-use Rattle.hook_fire.proofs.PlaceLemmas.{IsPlaceOf-pushed}
-use Rattle.hook_fire.proofs.book.HookBook.push.Goals as goal
+use Rattle.hook_book.specs.Hooks.{HookData, hook_data, hooks_data, is_named}
+use Rattle.hook_book.specs.Places.{place_in, first_place}
+use Rattle.hook_book.specs.declared.hook.Hook.{Hook}
+use Rattle.hook_book.proofs.PlaceLemmas.{IsPlaceOf-pushed}
+use Rattle.hook_book.proofs.book.HookBook.push.Goals as goal
 
 pub invariant_of-self-2 : goal.invariant_of-self-2
 invariant_of-self-2 c = λ group id.

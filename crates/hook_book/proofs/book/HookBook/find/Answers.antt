@@ -1,10 +1,10 @@
 use Rattle.std.proofs.Common.{◌≡◌, ◌<◌, List, Some, refl, ap, sym, ◌∙◌, subst, arith, option_map, length, slice_get}
 use Rattle.std.proofs.lemmas.List.{length-map}
 use Rattle.std.proofs.lemmas.Option.{slice_get-map, slice_get_read}
-use Rattle.hook_fire.specs.Hooks.{HookData, hook_data, hooks_data, hook_named}
-use Rattle.hook_fire.specs.Places.{IsPlaceOf}
-use Rattle.hook_fire.proofs.PlaceLemmas.{read_place, place_within}
-use Rattle.hook_fire.proofs.book.HookBook.find.Goals as goal
+use Rattle.hook_book.specs.Hooks.{HookData, hook_data, hooks_data, hook_named}
+use Rattle.hook_book.specs.Places.{IsPlaceOf}
+use Rattle.hook_book.proofs.PlaceLemmas.{read_place, place_within}
+use Rattle.hook_book.proofs.book.HookBook.find.Goals as goal
 
 pub returns : goal.returns
 returns c =

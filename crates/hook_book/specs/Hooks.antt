@@ -2,7 +2,7 @@
 use Rattle.std.specs.Prelude.{ℕ, Bool, ◌&&◌, List, map, find, Option, bytes_eq}
 use Rattle.farm_text.specs.Doc.{document}
 use Rattle.farm_text.specs.Document.{Document}
-use Rattle.hook_fire.specs.declared.firing.Hook.{Hook}
+use Rattle.hook_book.specs.declared.hook.Hook.{Hook}
 
 -- a hook: its group, its id in that, and the template of the tasks that it makes
 pub record HookData : Type 0 where
