@@ -181,7 +181,7 @@ fn read_rows(alloc: Global, rows: &[Value]) -> Result<Vec<Client>, FileFault>
 }
 
 /// Reads the rows of `[[client]]`, which may be left out.
-pub(crate) fn read_clients(alloc: Global, top: &toml::Table) -> Result<Vec<Client>, FileFault>
+fn read_clients(alloc: Global, top: &toml::Table) -> Result<Vec<Client>, FileFault>
     ensures { MatchResult result
         (λ clients. ((row : ℕ) (rule : AnyRule) → ¬ RowsBreak client_rows (get_member (codes "client") (table_view top.now)) row rule)
         × AreClients (clients_in (get_member (codes "client") (table_view top.now))) (clients_data clients.items))
@@ -197,7 +197,7 @@ pub(crate) fn read_clients(alloc: Global, top: &toml::Table) -> Result<Vec<Clien
 }
 
 /// The book of these clients, of which each is of its form and no two have one id.
-pub(crate) fn client_book(alloc: Global, clients: Vec<Client>) -> Result<ClientBook, AllocError>
+fn client_book(alloc: Global, clients: Vec<Client>) -> Result<ClientBook, AllocError>
     requires forms { (place : ℕ) → ¬ IsFirstBadClient (clients_data clients.items) place }
     requires apart { (earlier later : ℕ) → ¬ IsFirstRepeat (clients_data clients.items) earlier later }
     ensures { IfOk result (λ book. book ≡ clients_data clients.items) }
@@ -208,4 +208,15 @@ pub(crate) fn client_book(alloc: Global, clients: Vec<Client>) -> Result<ClientB
         Err(BookFault::BadClient(_)) => unreachable!(),
         Err(BookFault::DuplicateClient(_, _)) => unreachable!(),
     }
+}
+
+/// The book of the rows of `[[client]]`.
+pub(crate) fn read_client_book(alloc: Global, top: &toml::Table) -> Result<ClientBook, FileFault>
+    ensures { MatchResult result
+        (λ book. ((row : ℕ) (rule : AnyRule) → ¬ RowsBreak client_rows (get_member (codes "client") (table_view top.now)) row rule)
+        × AreClients (clients_in (get_member (codes "client") (table_view top.now))) book)
+        (RefusesRows ClientTable (RowsBreak client_rows (get_member (codes "client") (table_view top.now)))) }
+{
+    let clients = read_clients(alloc, top)?;
+    Ok(client_book(alloc, clients)?)
 }

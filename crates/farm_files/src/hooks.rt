@@ -168,7 +168,7 @@ fn read_rows(alloc: Global, rows: &[Value]) -> Result<Vec<Hook>, FileFault>
 }
 
 /// Reads the rows of `[[hook]]`, which may be left out.
-pub(crate) fn read_hooks(alloc: Global, top: &toml::Table) -> Result<Vec<Hook>, FileFault>
+fn read_hooks(alloc: Global, top: &toml::Table) -> Result<Vec<Hook>, FileFault>
     ensures { MatchResult result
         (λ hooks. ((row : ℕ) (rule : AnyRule) → ¬ RowsBreak hook_rows (get_member (codes "hook") (table_view top.now)) row rule)
         × AreHooks (hooks_in (get_member (codes "hook") (table_view top.now))) (hooks_data hooks.items))
@@ -184,7 +184,7 @@ pub(crate) fn read_hooks(alloc: Global, top: &toml::Table) -> Result<Vec<Hook>, 
 }
 
 /// The book of these hooks.
-pub(crate) fn hook_book(alloc: Global, hooks: Vec<Hook>) -> Result<HookBook, AllocError>
+fn hook_book(alloc: Global, hooks: Vec<Hook>) -> Result<HookBook, AllocError>
     ensures { IfOk result (λ book. book ≡ hooks_data hooks.items) }
 {
     let mut book = HookBook::new(alloc);
@@ -192,4 +192,15 @@ pub(crate) fn hook_book(alloc: Global, hooks: Vec<Hook>) -> Result<HookBook, All
         book.push(alloc, hook)?;
     }
     Ok(book)
+}
+
+/// The book of the rows of `[[hook]]`.
+pub(crate) fn read_hook_book(alloc: Global, top: &toml::Table) -> Result<HookBook, FileFault>
+    ensures { MatchResult result
+        (λ book. ((row : ℕ) (rule : AnyRule) → ¬ RowsBreak hook_rows (get_member (codes "hook") (table_view top.now)) row rule)
+        × AreHooks (hooks_in (get_member (codes "hook") (table_view top.now))) book)
+        (RefusesRows HookTable (RowsBreak hook_rows (get_member (codes "hook") (table_view top.now)))) }
+{
+    let hooks = read_hooks(alloc, top)?;
+    Ok(hook_book(alloc, hooks)?)
 }

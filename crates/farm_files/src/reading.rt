@@ -1,11 +1,17 @@
 //! The farm file as a whole.
-ghost use Rattle.std.specs.Prelude.{◌≡◌, MatchResult};
+ghost use Rattle.std.specs.Prelude.{◌≡◌, ℕ, true, MatchResult, codes};
+ghost use Rattle.toml.specs.Data.{get_member};
 ghost use Rattle.toml.specs.View.{table_view};
 ghost use Rattle.farm_files.specs.Farms.{Says, Refuses, SaysTables, RefusesTables};
+ghost use Rattle.farm_files.specs.Files.{FarmBreaks, farm_in, table_names};
+ghost use Rattle.farm_files.specs.Roles.{LiesOnCycle, role_rows, roles_in};
+ghost use Rattle.farm_files.specs.Rows.{RowsBreak};
+ghost use Rattle.farm_files.specs.Values.{has_only};
+ghost use Rattle.farm_files.specs.declared.fault.Rule.{Rule as AnyRule};
 
-use crate::clients::{client_book, read_clients};
+use crate::clients::read_client_book;
 use crate::fault::{FileFault, RowFault, Rule, Table};
-use crate::hooks::{hook_book, read_hooks};
+use crate::hooks::read_hook_book;
 use crate::roles::{read_roles, role_set};
 use crate::settings::{Settings, read_settings};
 use crate::values::has_only;
@@ -51,6 +57,25 @@ pub fn read_farm_with(
     }
 }
 
+/// What the rows of `[[role]]` grant. Where they are refused for a cycle, the places of its roles are put into `cycle`.
+fn read_grants(
+    alloc: Global,
+    top: &toml::Table,
+    cycle: &mut Vec<usize>,
+) -> Result<Grants, FileFault>
+    requires only { has_only table_names (table_view top.now) ≡ true }
+    requires farm { (rule : AnyRule) → ¬ FarmBreaks (farm_in (table_view top.now)) rule }
+    ensures { MatchResult result
+        (λ grants. ((row : ℕ) (rule : AnyRule) → ¬ RowsBreak role_rows (get_member (codes "role") (table_view top.now)) row rule)
+        × ((row : ℕ) → ¬ LiesOnCycle (roles_in (get_member (codes "role") (table_view top.now))) row)
+        × (grants ≡ roles_in (get_member (codes "role") (table_view top.now))))
+        (RefusesTables (table_view top.now)) }
+{
+    let roles = read_roles(alloc, top)?;
+    let set = role_set(alloc, roles, cycle)?;
+    Ok(Grants::new(alloc, set)?)
+}
+
 fn read_tables(
     alloc: Global,
     top: &toml::Table,
@@ -66,10 +91,9 @@ fn read_tables(
         Err(RowFault::Breaks(rule)) => return Err(FileFault::at(Table::Farm, 0, rule)),
         Err(RowFault::NoMemory) => return Err(FileFault::NoMemory),
     };
-    let roles = read_roles(alloc, top)?;
-    let roles = role_set(alloc, roles, cycle)?;
-    let clients = read_clients(alloc, top)?;
-    let hooks = read_hooks(alloc, top)?;
+    let roles = read_grants(alloc, top, cycle)?;
+    let clients = read_client_book(alloc, top)?;
+    let hooks = read_hook_book(alloc, top)?;
     let Settings {
         host,
         port,
@@ -81,8 +105,8 @@ fn read_tables(
         port,
         claim_timeout,
         max_tasks,
-        roles: Grants::new(alloc, roles)?,
-        clients: client_book(alloc, clients)?,
-        hooks: hook_book(alloc, hooks)?,
+        roles,
+        clients,
+        hooks,
     })
 }

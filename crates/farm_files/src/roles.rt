@@ -27,20 +27,21 @@ fn read_values(alloc: Global, id: &Value, scopes: &Value) -> Result<Role, RowFau
         (λ role. AreRoleValues (view id.now) (view scopes.now) × (role_data role ≡ role_by (view id.now) (view scopes.now)))
         (RefusesValues (view id.now) (view scopes.now)) }
 {
-    let texts = match texts_at(alloc, scopes)? {
-        Some(texts) => texts,
-        None => return Err(RowFault::Breaks(Rule::WrongKind)),
+    let texts = match texts_at(alloc, scopes) {
+        Ok(Some(texts)) => texts,
+        Ok(None) => return Err(RowFault::Breaks(Rule::WrongKind)),
+        Err(AllocError) => return Err(RowFault::NoMemory),
     };
-    let id = match id.as_str() {
-        Some(id) => id,
-        None => return Err(RowFault::Breaks(Rule::WrongKind)),
+    let Some(id) = id.as_str() else {
+        return Err(RowFault::Breaks(Rule::WrongKind));
     };
-    match scopes_of(alloc, &texts)? {
-        Some(scopes) => Ok(Role {
+    match scopes_of(alloc, &texts) {
+        Ok(Some(scopes)) => Ok(Role {
             id: String::from_str(alloc, id)?,
             scopes,
         }),
-        None => Err(RowFault::Breaks(Rule::OutOfForm)),
+        Ok(None) => Err(RowFault::Breaks(Rule::OutOfForm)),
+        Err(AllocError) => Err(RowFault::NoMemory),
     }
 }
 
