@@ -141,8 +141,13 @@ fn refusal_within<C: Called>(
     if let Some(answer) = call.absent(alloc, at)? {
         return Ok(Some(answer));
     }
-    if let Some(lack) = missing(alloc, scopes, &call.policy(alloc, at)?)? {
-        return Ok(Some(answers::insufficient_scopes(alloc, &lack)?));
+    let policy = call.policy(alloc, at)?;
+    let lacking = missing(alloc, scopes, &policy);
+    drop(policy);
+    if let Some(lack) = lacking? {
+        let denial = answers::insufficient_scopes(alloc, &lack);
+        drop(lack);
+        return Ok(Some(denial?));
     }
     Ok(None)
 }

@@ -67,8 +67,12 @@ pub fn plan(
         moment,
         drawn,
     };
-    let judged = hearing.judgement(alloc, call, tables)?;
-    Ok(Plan { moment, judged })
+    let judged = hearing.judgement(alloc, call, tables);
+    drop(caller);
+    Ok(Plan {
+        moment,
+        judged: judged?,
+    })
 }
 
 /// Who asks what is judged, over which configuration, when, and with which id drawn for it.

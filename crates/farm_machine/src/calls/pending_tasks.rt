@@ -1,9 +1,14 @@
-ghost use Rattle.std.specs.Prelude.{None, ◌≡◌, IfOk};
+ghost use Rattle.std.specs.Prelude.{None, ◌≡◌, IfOk, count_by};
+ghost use Rattle.farm_text.specs.Document.{document_text};
+ghost use Rattle.farm_rows.specs.Picks.{waits_in};
+ghost use Rattle.farm_asks.specs.Replies.{pending_body};
 
 use crate::case::{Called, Done, Scene};
+use crate::tables::Tables;
 use call_rules::pending_scope;
 use farm_asks::answers;
 use farm_asks::reply::Answer;
+use farm_text::Text;
 use scope_sets::Expr;
 use std::alloc::{AllocError, Global};
 use task_defs::TaskQueue;
@@ -36,10 +41,19 @@ impl Called for PendingTasks {
     }
 
     fn deed(self, alloc: Global, at: &Scene<'_>) -> Result<Done, AllocError> {
-        let count = at.tables.pending(alloc, &self.queue)?;
-        let body = answers::pending_body(alloc, &self.queue, count)?;
-        let text = body.write(alloc);
-        drop(body);
+        let text = pending_text(alloc, at.tables, &self.queue);
+        drop(self);
         Ok(Done::Reads(text?))
     }
+}
+
+/// The text that tells how many tasks wait in a queue.
+fn pending_text(alloc: Global, tables: &Tables, queue: &TaskQueue) -> Result<Text, AllocError>
+    ensures { IfOk result (λ t. t ≡ document_text (pending_body queue.now (count_by (waits_in queue.now) tables.now.rows))) }
+{
+    let count = tables.pending(alloc, queue)?;
+    let body = answers::pending_body(alloc, queue, count)?;
+    let text = body.write(alloc);
+    drop(body);
+    text
 }

@@ -16,7 +16,7 @@ returns-in-Some-2 g c = λ caller has.
     let case = g.C.Called.case c.args.call.now in
     let there : (case at).absent ≡ None = sym c.in_ok-answer.ensures ∙ c.in_default.is in
     let lacks : missing c.args.scopes.now (case at).policy ≡ Some (view c.in-Some-2.lack) = ap (missing c.args.scopes.now) (sym c.in_ok-policy.ensures) ∙ (sym c.in_ok-lack.ensures ∙ ap (option_map view) c.in-Some-2.is) in
-    rw c.in_ok-insufficient_scopes.ensures
+    rw c.in_ok-denial.ensures
     (asks-lacking at caller case [] c.args.scopes.now has c.requires (view c.in-Some-2.lack) there lacks)
 
 pub returns : goal.returns

@@ -6,7 +6,7 @@ use Rattle.farm_machine.proofs.step.plan.Goals as goal
 
 pub invariant_of-result : goal.invariant_of-result
 invariant_of-result c =
-    let judged = c.in_ok-judged.judged in
+    let judged = c.in_ok-judged.field-0 in
     let text : Option (List ℕ) = option_map (λ (r : Vec ℕ Global). r.items) judged.written in
     let planned = IsPlanOf-judged c.args.config.now c.args.tables.now c.args.question c.moment_of-moment.result c.drawn-drawn.result c.into_parts-caller.result.1 c.into_parts-caller.result.0 judged c.moment_of-moment.ensures.value c.drawn-drawn.ensures c.into_parts-caller.ensures.call c.into_parts-caller.ensures.caller c.requires c.in_ok-judged.ensures.judged in (
       c.moment_of-moment.ensures.told,
@@ -15,4 +15,4 @@ invariant_of-result c =
 
 pub returns-clause-planned : goal.returns-clause-planned
 returns-clause-planned c =
-    IsPlanOf-judged c.args.config.now c.args.tables.now c.args.question c.moment_of-moment.result c.drawn-drawn.result c.into_parts-caller.result.1 c.into_parts-caller.result.0 c.in_ok-judged.judged c.moment_of-moment.ensures.value c.drawn-drawn.ensures c.into_parts-caller.ensures.call c.into_parts-caller.ensures.caller c.requires c.in_ok-judged.ensures.judged
+    IsPlanOf-judged c.args.config.now c.args.tables.now c.args.question c.moment_of-moment.result c.drawn-drawn.result c.into_parts-caller.result.1 c.into_parts-caller.result.0 c.in_ok-judged.field-0 c.moment_of-moment.ensures.value c.drawn-drawn.ensures c.into_parts-caller.ensures.call c.into_parts-caller.ensures.caller c.requires c.in_ok-judged.ensures.judged
