@@ -289,14 +289,10 @@ impl Desk for Busy {
     ghost legal = { λ busy opening seen mine stood. stood.0 };
 }
 
-#[test]
-fn others_may_ask_between(rt: HostRuntime) -> Result<(), Fail> {
-    let alloc = rt.alloc();
-    let Some(others) = SlugId::read(b"AAAAAAAAQACAAAAAAAAAAA") else {
-        return Err(Fail::from("no slugid"));
-    };
+/// Whether a ping is answered at a busy desk over this farm, and leaves all of its asks but one.
+fn is_answered_busily(alloc: Global, farm: Bare, others: SlugId) -> Result<bool, AllocError> {
     let mut desk = Busy {
-        farm: Bare::new(alloc, config_of(alloc, "")?),
+        farm,
         others,
         left: 1_000,
     };
@@ -304,10 +300,16 @@ fn others_may_ask_between(rt: HostRuntime) -> Result<(), Fail> {
     let left = desk.left();
     drop(desk);
     let output = output?;
-    assert_eq!(rt;
-        (output.served, output.written.as_slice(), left),
-        (Served::Closed, ALIVE, 999)
-    );
+    let told = (output.served, output.written.as_slice(), left);
+    Ok(told == (Served::Closed, ALIVE, 999))
+}
+
+#[test]
+fn others_may_ask_between(rt: HostRuntime) -> Result<(), Fail> {
+    let alloc = rt.alloc();
+    let others = SlugId::read(b"AAAAAAAAQACAAAAAAAAAAA").ok_or("no slugid")?;
+    let farm = Bare::new(alloc, config_of(alloc, "")?);
+    assert!(rt; is_answered_busily(alloc, farm, others)?);
     Ok(())
 }
 

@@ -1,6 +1,6 @@
 //! Lists of tasks, page by page, over connections in memory. The replies were written by hand after the queue service's reference, and by a
 //! model of it.
-use super::rows::{first_other_at, first_otherwise};
+use super::rows::{Talk, all_answered};
 use super::*;
 
 /// A group of two tasks and another of one: pages with their tokens, and tokens that name no task of the group.
@@ -65,13 +65,15 @@ const MAKERS: &str = r#"["queue:create-task:*", "queue:scheduler-id:*"]"#;
 
 #[test]
 fn lists_are_told(rt: HostRuntime) -> Result<(), Fail> {
-    let alloc = rt.alloc();
-    let told = [
-        first_otherwise(alloc, GROUP)?,
-        first_otherwise(alloc, DEPENDANTS)?,
-        first_otherwise(alloc, PENDING)?,
-        first_other_at(alloc, MAKERS, 1_000_000, DENIED)?,
+    let denied = Talk {
+        scopes: MAKERS,
+        ..Talk::of(DENIED)
+    };
+    let talks = [
+        Talk::of(GROUP),
+        Talk::of(DEPENDANTS),
+        Talk::of(PENDING),
+        denied,
     ];
-    assert_eq!(rt; told, ["none"; 4]);
-    Ok(())
+    all_answered(rt.alloc(), &talks)
 }

@@ -1,6 +1,6 @@
 //! Calls of workers and of whoever manages a task, one after the other, with replies worked out by hand; runs that are lost, and fifty runs of
 //! one task.
-use super::rows::first_otherwise;
+use super::rows::{Talk, all_answered};
 use super::*;
 
 /// A task and its runs, from its making to its deadline.
@@ -30,8 +30,7 @@ const ROWS: &str =
 
 #[test]
 fn runs_are_claimed_kept_lost_reported_rerun_and_canceled(rt: HostRuntime) -> Result<(), Fail> {
-    assert_eq!(rt; first_otherwise(rt.alloc(), ROWS)?, "none");
-    Ok(())
+    all_answered(rt.alloc(), &[Talk::of(ROWS)])
 }
 
 /// The claim ends, and no retry is left.
@@ -70,19 +69,9 @@ const LAST: &str = r#"
 1|POST /api/queue/v1/task/AAAAAAAAQACAAAAAAAAAAA/rerun||409 Conflict|{"code":"RequestConflict","details":{"rule":6,*
 1|POST /api/queue/v1/task/AAAAAAAAQACAAAAAAAAAAA/runs/49/failed||200 OK|*"#;
 
-/// Whether each of their lines is answered as it says.
-fn has_fifty(alloc: Global) -> Result<bool, Fail> {
-    let talk = fifty(alloc)?;
-    let other = first_otherwise(alloc, talk.as_str())?;
-    Ok(other == "none")
-}
-
 #[test]
 fn lost_runs_are_told_and_a_task_has_fifty(rt: HostRuntime) -> Result<(), Fail> {
-    let others = [
-        first_otherwise(rt.alloc(), LOST)?,
-        first_otherwise(rt.alloc(), LATE)?,
-    ];
-    assert_eq!(rt; (others, has_fifty(rt.alloc())?), (["none"; 2], true));
-    Ok(())
+    let fifty = fifty(rt.alloc())?;
+    let talks = [Talk::of(LOST), Talk::of(LATE), Talk::of(fifty.as_str())];
+    all_answered(rt.alloc(), &talks)
 }

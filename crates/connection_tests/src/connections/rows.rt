@@ -155,52 +155,48 @@ fn first_other<'a>(alloc: Global, desk: &mut Solo<Bare>, talk: &'a str) -> Resul
     Ok("none")
 }
 
-/// The same of a conversation in two halves.
-fn first_other_of_two<'a>(
-    alloc: Global,
-    desk: &mut Solo<Bare>,
-    first: &'a str,
-    second: &'a str,
-) -> Result<&'a str, Fail> {
-    let other = first_other(alloc, desk, first)?;
-    if other != "none" {
-        return Ok(other);
+/// A conversation with a farm of its own.
+#[derive(Clone, Copy)]
+pub(super) struct Talk<'a> {
+    /// What whoever gives no credentials may do there, as a farm file lists it.
+    pub scopes: &'a str,
+    /// How many tasks the farm takes.
+    pub max_tasks: u32,
+    pub lines: &'a str,
+}
+
+impl<'a> Talk<'a> {
+    /// One with a farm that takes a million tasks and allows all.
+    pub fn of(lines: &'a str) -> Talk<'a> {
+        Talk {
+            scopes: ALL,
+            max_tasks: 1_000_000,
+            lines,
+        }
     }
-    first_other(alloc, desk, second)
 }
 
-/// The first line of a conversation with a new farm that is answered otherwise, or `none`. The farm takes so many tasks, and whoever gives no
-/// credentials has these scopes. A desk is owned here, in the next function and in the last alone, so that the proofs of the tests are short.
-pub(super) fn first_other_at<'a>(
-    alloc: Global,
-    scopes: &str,
-    max_tasks: u32,
-    talk: &'a str,
-) -> Result<&'a str, Fail> {
-    let mut desk = farm(alloc, scopes, max_tasks)?;
-    let other = first_other(alloc, &mut desk, talk);
+/// The first line of a conversation that is answered otherwise, or `none`. A desk is owned here and in the last function alone, so that the
+/// proofs of the tests are short.
+fn first_other_in<'a>(alloc: Global, talk: &Talk<'a>) -> Result<&'a str, Fail> {
+    let mut desk = farm(alloc, talk.scopes, talk.max_tasks)?;
+    let other = first_other(alloc, &mut desk, talk.lines);
     drop(desk);
     other
 }
 
-/// The same of a farm that takes a million tasks and allows all, and of two halves.
-pub(super) fn first_other_in<'a>(
-    alloc: Global,
-    first: &'a str,
-    second: &'a str,
-) -> Result<&'a str, Fail> {
-    let mut desk = farm(alloc, ALL, 1_000_000)?;
-    let other = first_other_of_two(alloc, &mut desk, first, second);
-    drop(desk);
-    other
+/// Fails with the first line that is answered otherwise, if these conversations have one.
+pub(super) fn all_answered(alloc: Global, talks: &[Talk]) -> Result<(), Fail> {
+    for talk in talks {
+        match first_other_in(alloc, talk)? {
+            "none" => {}
+            line => return Err(Fail::from(line)),
+        }
+    }
+    Ok(())
 }
 
-/// The same of one part.
-pub(super) fn first_otherwise<'a>(alloc: Global, talk: &'a str) -> Result<&'a str, Fail> {
-    first_other_at(alloc, ALL, 1_000_000, talk)
-}
-
-/// The same of a farm that this file sets up.
+/// The same of a conversation with a farm that this file sets up.
 pub(super) fn first_other_of<'a>(
     alloc: Global,
     file: &str,

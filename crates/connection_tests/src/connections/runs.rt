@@ -1,5 +1,5 @@
 //! The runs of one task over connections in memory. The replies were written by hand after the queue service's reference, and by a model of it.
-use super::rows::{asked, first_otherwise, reply_text};
+use super::rows::{Talk, all_answered, asked, reply_text};
 use super::tasks::{ALL, farm};
 use super::*;
 
@@ -219,14 +219,12 @@ fn fifty_runs_are_listed(rt: HostRuntime) -> Result<(), Fail> {
 
 #[test]
 fn runs_lapse_and_are_retried(rt: HostRuntime) -> Result<(), Fail> {
-    let alloc = rt.alloc();
-    let told = [
-        first_otherwise(alloc, AGAIN)?,
-        first_otherwise(alloc, LAPSE)?,
-        first_otherwise(alloc, LAST)?,
-        first_otherwise(alloc, DEADLINE_FIRST)?,
-        first_otherwise(alloc, RETRY)?,
+    let talks = [
+        Talk::of(AGAIN),
+        Talk::of(LAPSE),
+        Talk::of(LAST),
+        Talk::of(DEADLINE_FIRST),
+        Talk::of(RETRY),
     ];
-    assert_eq!(rt; told, ["none"; 5]);
-    Ok(())
+    all_answered(rt.alloc(), &talks)
 }

@@ -1,5 +1,5 @@
 //! Tasks that are made and asked for over connections in memory, with replies worked out by hand.
-use super::rows::first_other_at;
+use super::rows::{Talk, all_answered};
 use super::*;
 use crate::configs::granting;
 
@@ -81,13 +81,17 @@ const BODIES: &str =
 
 #[test]
 fn tasks_are_made_and_fall_due(rt: HostRuntime) -> Result<(), Fail> {
-    let alloc = rt.alloc();
-    let told = [
-        first_other_at(alloc, THREE_SCOPES, 1_000_000, ONCE)?,
-        first_other_at(alloc, ALL, 1_000_000, DUE)?,
-        first_other_at(alloc, ALL, 1, FULL)?,
-        first_other_at(alloc, ALL, 1, BODIES)?,
-    ];
-    assert_eq!(rt; told, ["none"; 4]);
-    Ok(())
+    let once = Talk {
+        scopes: THREE_SCOPES,
+        ..Talk::of(ONCE)
+    };
+    let full = Talk {
+        max_tasks: 1,
+        ..Talk::of(FULL)
+    };
+    let bodies = Talk {
+        max_tasks: 1,
+        ..Talk::of(BODIES)
+    };
+    all_answered(rt.alloc(), &[once, Talk::of(DUE), full, bodies])
 }

@@ -1,20 +1,17 @@
 //! Tasks that wait for others, over connections in memory. The replies were written by hand after the queue service's reference, and by a model of it.
-use super::rows::{first_other_at, first_other_in, first_otherwise};
-use super::tasks::ALL;
+use super::rows::{Talk, all_answered};
 use super::*;
 
-/// A task waits for two others, of which one is completed and run again.
+/// A task waits for two others, of which one is completed and run again. Then the other is completed: the task is pending, with the number
+/// behind that of the rerun.
 const TWO: &str =
     r#"0|PUT /api/queue/v1/task/AAAAAAAAQACAAAAAAAAAAA|{"created":"2024-01-01T00:00:00.000Z","deadline":"2024-01-02T00:00:00.000Z","metadata":{"description":"d","name":"n","owner":"o@example.com","source":"https://example.com/"},"payload":{},"taskQueueId":"prov/wt"}|200 OK|{"status":{"deadline":"2024-01-02T00:00:00.000Z","expires":"2025-01-01T00:00:00.000Z","projectId":"none","provisionerId":"prov","retriesLeft":5,"runs":[{"reasonCreated":"scheduled","runId":0,"scheduled":"2024-01-01T00:00:00.000Z","state":"pending"}],"schedulerId":"-","state":"pending","taskGroupId":"AAAAAAAAQACAAAAAAAAAAA","taskId":"AAAAAAAAQACAAAAAAAAAAA","taskQueueId":"prov/wt","workerType":"wt"}}
 0|PUT /api/queue/v1/task/AAAAAAAAQACAAAAAAAAAAQ|{"created":"2024-01-01T00:00:00.000Z","deadline":"2024-01-02T00:00:00.000Z","metadata":{"description":"d","name":"n","owner":"o@example.com","source":"https://example.com/"},"payload":{},"taskQueueId":"prov/wt"}|200 OK|{"status":{"deadline":"2024-01-02T00:00:00.000Z","expires":"2025-01-01T00:00:00.000Z","projectId":"none","provisionerId":"prov","retriesLeft":5,"runs":[{"reasonCreated":"scheduled","runId":0,"scheduled":"2024-01-01T00:00:00.000Z","state":"pending"}],"schedulerId":"-","state":"pending","taskGroupId":"AAAAAAAAQACAAAAAAAAAAQ","taskId":"AAAAAAAAQACAAAAAAAAAAQ","taskQueueId":"prov/wt","workerType":"wt"}}
 0|PUT /api/queue/v1/task/AAAAAAAAQACAAAAAAAAAAg|{"created":"2024-01-01T00:00:00.000Z","deadline":"2024-01-02T00:00:00.000Z","dependencies":["AAAAAAAAQACAAAAAAAAAAA","AAAAAAAAQACAAAAAAAAAAQ"],"metadata":{"description":"d","name":"n","owner":"o@example.com","source":"https://example.com/"},"payload":{},"taskQueueId":"prov/wt"}|200 OK|{"status":{"deadline":"2024-01-02T00:00:00.000Z","expires":"2025-01-01T00:00:00.000Z","projectId":"none","provisionerId":"prov","retriesLeft":5,"runs":[],"schedulerId":"-","state":"unscheduled","taskGroupId":"AAAAAAAAQACAAAAAAAAAAg","taskId":"AAAAAAAAQACAAAAAAAAAAg","taskQueueId":"prov/wt","workerType":"wt"}}
 0|POST /api/queue/v1/claim-work/prov%2Fwt|{"workerGroup":"g","workerId":"w"}|200 OK|{"tasks":[{"runId":0,"status":{"deadline":"2024-01-02T00:00:00.000Z","expires":"2025-01-01T00:00:00.000Z","projectId":"none","provisionerId":"prov","retriesLeft":5,"runs":[{"reasonCreated":"scheduled","runId":0,"scheduled":"2024-01-01T00:00:00.000Z","started":"2024-01-01T00:00:00.000Z","state":"running","takenUntil":"2024-01-01T00:20:00.000Z","workerGroup":"g","workerId":"w"}],"schedulerId":"-","state":"running","taskGroupId":"AAAAAAAAQACAAAAAAAAAAA","taskId":"AAAAAAAAQACAAAAAAAAAAA","taskQueueId":"prov/wt","workerType":"wt"},"takenUntil":"2024-01-01T00:20:00.000Z","task":{"created":"2024-01-01T00:00:00.000Z","deadline":"2024-01-02T00:00:00.000Z","dependencies":[],"expires":"2025-01-01T00:00:00.000Z","extra":{},"metadata":{"description":"d","name":"n","owner":"o@example.com","source":"https://example.com/"},"payload":{},"priority":"lowest","projectId":"none","provisionerId":"prov","requires":"all-completed","retries":5,"routes":[],"schedulerId":"-","scopes":[],"tags":{},"taskGroupId":"AAAAAAAAQACAAAAAAAAAAA","taskQueueId":"prov/wt","workerType":"wt"},"workerGroup":"g","workerId":"w"}]}
 0|POST /api/queue/v1/task/AAAAAAAAQACAAAAAAAAAAA/runs/0/completed||200 OK|{"status":{"deadline":"2024-01-02T00:00:00.000Z","expires":"2025-01-01T00:00:00.000Z","projectId":"none","provisionerId":"prov","retriesLeft":5,"runs":[{"reasonCreated":"scheduled","reasonResolved":"completed","resolved":"2024-01-01T00:00:00.000Z","runId":0,"scheduled":"2024-01-01T00:00:00.000Z","started":"2024-01-01T00:00:00.000Z","state":"completed","takenUntil":"2024-01-01T00:20:00.000Z","workerGroup":"g","workerId":"w"}],"schedulerId":"-","state":"completed","taskGroupId":"AAAAAAAAQACAAAAAAAAAAA","taskId":"AAAAAAAAQACAAAAAAAAAAA","taskQueueId":"prov/wt","workerType":"wt"}}
-0|GET /api/queue/v1/task/AAAAAAAAQACAAAAAAAAAAg/status||200 OK|{"status":{"deadline":"2024-01-02T00:00:00.000Z","expires":"2025-01-01T00:00:00.000Z","projectId":"none","provisionerId":"prov","retriesLeft":5,"runs":[],"schedulerId":"-","state":"unscheduled","taskGroupId":"AAAAAAAAQACAAAAAAAAAAg","taskId":"AAAAAAAAQACAAAAAAAAAAg","taskQueueId":"prov/wt","workerType":"wt"}}"#;
-
-/// Then the other is completed: the task is pending, with the number behind that of the rerun.
-const BOTH: &str =
-    r#"0|POST /api/queue/v1/task/AAAAAAAAQACAAAAAAAAAAA/rerun||200 OK|{"status":{"deadline":"2024-01-02T00:00:00.000Z","expires":"2025-01-01T00:00:00.000Z","projectId":"none","provisionerId":"prov","retriesLeft":5,"runs":[{"reasonCreated":"scheduled","reasonResolved":"completed","resolved":"2024-01-01T00:00:00.000Z","runId":0,"scheduled":"2024-01-01T00:00:00.000Z","started":"2024-01-01T00:00:00.000Z","state":"completed","takenUntil":"2024-01-01T00:20:00.000Z","workerGroup":"g","workerId":"w"},{"reasonCreated":"rerun","runId":1,"scheduled":"2024-01-01T00:00:00.000Z","state":"pending"}],"schedulerId":"-","state":"pending","taskGroupId":"AAAAAAAAQACAAAAAAAAAAA","taskId":"AAAAAAAAQACAAAAAAAAAAA","taskQueueId":"prov/wt","workerType":"wt"}}
+0|GET /api/queue/v1/task/AAAAAAAAQACAAAAAAAAAAg/status||200 OK|{"status":{"deadline":"2024-01-02T00:00:00.000Z","expires":"2025-01-01T00:00:00.000Z","projectId":"none","provisionerId":"prov","retriesLeft":5,"runs":[],"schedulerId":"-","state":"unscheduled","taskGroupId":"AAAAAAAAQACAAAAAAAAAAg","taskId":"AAAAAAAAQACAAAAAAAAAAg","taskQueueId":"prov/wt","workerType":"wt"}}
+0|POST /api/queue/v1/task/AAAAAAAAQACAAAAAAAAAAA/rerun||200 OK|{"status":{"deadline":"2024-01-02T00:00:00.000Z","expires":"2025-01-01T00:00:00.000Z","projectId":"none","provisionerId":"prov","retriesLeft":5,"runs":[{"reasonCreated":"scheduled","reasonResolved":"completed","resolved":"2024-01-01T00:00:00.000Z","runId":0,"scheduled":"2024-01-01T00:00:00.000Z","started":"2024-01-01T00:00:00.000Z","state":"completed","takenUntil":"2024-01-01T00:20:00.000Z","workerGroup":"g","workerId":"w"},{"reasonCreated":"rerun","runId":1,"scheduled":"2024-01-01T00:00:00.000Z","state":"pending"}],"schedulerId":"-","state":"pending","taskGroupId":"AAAAAAAAQACAAAAAAAAAAA","taskId":"AAAAAAAAQACAAAAAAAAAAA","taskQueueId":"prov/wt","workerType":"wt"}}
 0|POST /api/queue/v1/claim-work/prov%2Fwt|{"workerGroup":"g","workerId":"w"}|200 OK|{"tasks":[{"runId":0,"status":{"deadline":"2024-01-02T00:00:00.000Z","expires":"2025-01-01T00:00:00.000Z","projectId":"none","provisionerId":"prov","retriesLeft":5,"runs":[{"reasonCreated":"scheduled","runId":0,"scheduled":"2024-01-01T00:00:00.000Z","started":"2024-01-01T00:00:00.000Z","state":"running","takenUntil":"2024-01-01T00:20:00.000Z","workerGroup":"g","workerId":"w"}],"schedulerId":"-","state":"running","taskGroupId":"AAAAAAAAQACAAAAAAAAAAQ","taskId":"AAAAAAAAQACAAAAAAAAAAQ","taskQueueId":"prov/wt","workerType":"wt"},"takenUntil":"2024-01-01T00:20:00.000Z","task":{"created":"2024-01-01T00:00:00.000Z","deadline":"2024-01-02T00:00:00.000Z","dependencies":[],"expires":"2025-01-01T00:00:00.000Z","extra":{},"metadata":{"description":"d","name":"n","owner":"o@example.com","source":"https://example.com/"},"payload":{},"priority":"lowest","projectId":"none","provisionerId":"prov","requires":"all-completed","retries":5,"routes":[],"schedulerId":"-","scopes":[],"tags":{},"taskGroupId":"AAAAAAAAQACAAAAAAAAAAQ","taskQueueId":"prov/wt","workerType":"wt"},"workerGroup":"g","workerId":"w"}]}
 0|POST /api/queue/v1/task/AAAAAAAAQACAAAAAAAAAAQ/runs/0/completed||200 OK|{"status":{"deadline":"2024-01-02T00:00:00.000Z","expires":"2025-01-01T00:00:00.000Z","projectId":"none","provisionerId":"prov","retriesLeft":5,"runs":[{"reasonCreated":"scheduled","reasonResolved":"completed","resolved":"2024-01-01T00:00:00.000Z","runId":0,"scheduled":"2024-01-01T00:00:00.000Z","started":"2024-01-01T00:00:00.000Z","state":"completed","takenUntil":"2024-01-01T00:20:00.000Z","workerGroup":"g","workerId":"w"}],"schedulerId":"-","state":"completed","taskGroupId":"AAAAAAAAQACAAAAAAAAAAQ","taskId":"AAAAAAAAQACAAAAAAAAAAQ","taskQueueId":"prov/wt","workerType":"wt"}}
 0|GET /api/queue/v1/task/AAAAAAAAQACAAAAAAAAAAg/status||200 OK|{"status":{"deadline":"2024-01-02T00:00:00.000Z","expires":"2025-01-01T00:00:00.000Z","projectId":"none","provisionerId":"prov","retriesLeft":5,"runs":[{"reasonCreated":"scheduled","runId":0,"scheduled":"2024-01-01T00:00:00.000Z","state":"pending"}],"schedulerId":"-","state":"pending","taskGroupId":"AAAAAAAAQACAAAAAAAAAAg","taskId":"AAAAAAAAQACAAAAAAAAAAg","taskQueueId":"prov/wt","workerType":"wt"}}
@@ -69,15 +66,17 @@ const ONE_TICK: &str =
 
 #[test]
 fn tasks_wait_for_others(rt: HostRuntime) -> Result<(), Fail> {
-    let alloc = rt.alloc();
-    let told = [
-        first_other_in(alloc, TWO, BOTH)?,
-        first_otherwise(alloc, ITSELF)?,
-        first_other_at(alloc, ALL, 1, FULL)?,
-        first_otherwise(alloc, REFUSED)?,
-        first_otherwise(alloc, CANCELED)?,
-        first_otherwise(alloc, ONE_TICK)?,
+    let full = Talk {
+        max_tasks: 1,
+        ..Talk::of(FULL)
+    };
+    let talks = [
+        Talk::of(TWO),
+        Talk::of(ITSELF),
+        full,
+        Talk::of(REFUSED),
+        Talk::of(CANCELED),
+        Talk::of(ONE_TICK),
     ];
-    assert_eq!(rt; told, ["none"; 6]);
-    Ok(())
+    all_answered(rt.alloc(), &talks)
 }

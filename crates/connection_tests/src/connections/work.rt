@@ -1,5 +1,5 @@
 //! Two workers over connections in memory, of whom one dies, with replies by a model of the rules that was written apart from this program.
-use super::rows::first_otherwise;
+use super::rows::{Talk, all_answered};
 use super::*;
 
 /// Each row: how many milliseconds after the first task is made, the request, its body, and the reply's status and body.
@@ -58,6 +58,5 @@ const TALK: &str =
 
 #[test]
 fn two_workers_share_a_queue(rt: HostRuntime) -> Result<(), Fail> {
-    assert_eq!(rt; first_otherwise(rt.alloc(), TALK)?, "none");
-    Ok(())
+    all_answered(rt.alloc(), &[Talk::of(TALK)])
 }
