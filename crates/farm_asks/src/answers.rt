@@ -1,12 +1,13 @@
 //! The answers of calls: statuses of HTTP (RFC 9110), and bodies as JSON (RFC 8259).
 
-ghost use Rattle.std.specs.Prelude.{◌≡◌, ◌≢◌, ◌<◌, ◌^◌, codes, Err, IfOk};
-ghost use Rattle.farm_asks.specs.Replies.{ok, not_found, bad_parameter, bad_body, too_late, bad_dependency, pending_body, conflict, other_scheduler, farm_full, status_body, not_authentic, skewed, overstepping, expansion_limit, insufficient_scopes, hook_insufficient_scopes, template_fault, too_costly, error_text};
+ghost use Rattle.std.specs.Prelude.{◌≡◌, ◌≢◌, ◌<◌, ◌^◌, [], ◌∷◌, codes, pos, Err, IfOk};
+ghost use Rattle.farm_asks.specs.Expressions.{document_of};
+ghost use Rattle.farm_asks.specs.Replies.{ok, not_found, input_error, bad_parameter, bad_body, too_late, bad_dependency, pending_body, conflict, other_scheduler, farm_full, status_body, not_authentic, skewed, overstepping, expansion_limit, insufficient_scopes, hook_insufficient_scopes, template_fault, too_costly, error_text};
 ghost use Rattle.hawk_auth.specs.Access.{UnlessNoMemory};
 ghost use Rattle.farm_asks.specs.Access.{Refused, access_by};
 ghost use Rattle.farm_asks.specs.Told.{HasSeconds};
 ghost use Rattle.farm_text.specs.Doc.{document};
-ghost use Rattle.farm_text.specs.Document.{document_text};
+ghost use Rattle.farm_text.specs.Document.{document_text, members_of, no_members, put, text, whole};
 ghost use Rattle.farm_text.specs.Entries.{held};
 ghost use Rattle.farm_text.specs.Slug.{slug_text};
 ghost use Rattle.call_rules.specs.HookNames.{hook_name as name_of_hook};
@@ -41,9 +42,8 @@ pub fn ok(body: Text) -> Answer
 pub fn not_found(alloc: Global, kind: &str, name: &str) -> Result<Answer, AllocError>
     ensures { IfOk result (λ a. a ≡ not_found kind.now name.now) }
 {
-    let details = Entries::new(alloc)
-        .with(alloc, "kind", Doc::text(alloc, kind)?)?
-        .with(alloc, "name", Doc::text(alloc, name)?)?;
+    let kinds = with_text(alloc, Entries::new(alloc), "kind", kind)?;
+    let details = with_text(alloc, kinds, "name", name)?;
     Ok(Answer {
         status: StatusCode::NOT_FOUND,
         body: error_text(alloc, "ResourceNotFound", details, "nothing has that name")?,
@@ -95,33 +95,47 @@ fn input_error(alloc: Global, details: Entries) -> Result<Answer, AllocError>
     })
 }
 
+/// The request breaks this rule.
+fn broken_rule(alloc: Global, rule: u8) -> Result<Answer, AllocError>
+    ensures { IfOk result (λ a. a ≡ input_error ((codes "rule", whole (pos rule)) ∷ [])) }
+{
+    let details = Entries::new(alloc).with(alloc, "rule", Doc::Int(i64::from(rule)))?;
+    input_error(alloc, details)
+}
+
+/// The request breaks this rule, with the text that is told at this key.
+fn broken_with(alloc: Global, key: &str, value: &str, rule: u8) -> Result<Answer, AllocError>
+    ensures { IfOk result (λ a. a ≡ record {
+      status = 400;
+      body = error_text (codes "InputError") (put (codes "rule") (whole (pos rule)) (put key.now (text value.now) no_members)) (codes "the request breaks a rule");
+    }) }
+{
+    let told = with_text(alloc, Entries::new(alloc), key, value)?;
+    let details = told.with(alloc, "rule", Doc::Int(i64::from(rule)))?;
+    input_error(alloc, details)
+}
+
 /// This parameter of the target is off its form.
 pub fn bad_parameter(alloc: Global, name: &str) -> Result<Answer, AllocError>
     ensures { IfOk result (λ a. a ≡ bad_parameter name.now) }
 {
-    let details = Entries::new(alloc)
-        .with(alloc, "name", Doc::text(alloc, name)?)?
-        .with(alloc, "rule", Doc::Int(22))?;
-    input_error(alloc, details)
+    broken_with(alloc, "name", name, 22)
 }
 
 /// The body is off its form.
 pub fn bad_body(alloc: Global, fault: &BodyFault) -> Result<Answer, AllocError>
     ensures { IfOk result (λ a. a ≡ bad_body fault.now) }
 {
-    let details = match fault {
-        BodyFault::NotJson => Entries::new(alloc).with(alloc, "rule", Doc::Int(20))?,
-        BodyFault::NotWhole(path) => Entries::new(alloc)
-            .with(alloc, "path", Doc::text(alloc, path.as_str())?)?
-            .with(alloc, "rule", Doc::Int(21))?,
-        BodyFault::NoWork => Entries::new(alloc).with(alloc, "rule", Doc::Int(23))?,
-        BodyFault::NoReason => Entries::new(alloc).with(alloc, "rule", Doc::Int(24))?,
-        BodyFault::NoPayload => Entries::new(alloc).with(alloc, "rule", Doc::Int(25))?,
-        BodyFault::NoDefinition(fault) => Entries::new(alloc)
-            .with(alloc, "key", Doc::text(alloc, fault.key.as_str())?)?
-            .with(alloc, "rule", Doc::Int(i64::from(fault.rule)))?,
-    };
-    input_error(alloc, details)
+    match fault {
+        BodyFault::NotJson => broken_rule(alloc, 20),
+        BodyFault::NotWhole(path) => broken_with(alloc, "path", path.as_str(), 21),
+        BodyFault::NoWork => broken_rule(alloc, 23),
+        BodyFault::NoReason => broken_rule(alloc, 24),
+        BodyFault::NoPayload => broken_rule(alloc, 25),
+        BodyFault::NoDefinition(fault) => {
+            broken_with(alloc, "key", fault.key.as_str(), fault.rule)
+        }
+    }
 }
 
 /// The template of a hook has the fault of this number, at this place.
@@ -139,20 +153,14 @@ pub fn template_fault(alloc: Global, fault: u8, path: &str) -> Result<Answer, Al
 pub fn too_costly(alloc: Global) -> Result<Answer, AllocError>
     ensures { IfOk result (λ a. a ≡ too_costly) }
 {
-    input_error(
-        alloc,
-        Entries::new(alloc).with(alloc, "rule", Doc::Int(19))?,
-    )
+    broken_rule(alloc, 19)
 }
 
 /// The task's deadline is not still to come.
 pub fn too_late(alloc: Global) -> Result<Answer, AllocError>
     ensures { IfOk result (λ a. a ≡ too_late) }
 {
-    input_error(
-        alloc,
-        Entries::new(alloc).with(alloc, "rule", Doc::Int(15))?,
-    )
+    broken_rule(alloc, 15)
 }
 
 /// This task that a new one waits for breaks this rule.
@@ -160,10 +168,7 @@ pub fn bad_dependency(alloc: Global, rule: u8, id: SlugId) -> Result<Answer, All
     ensures { IfOk result (λ a. a ≡ bad_dependency rule id) }
 {
     let name = id.to_text(alloc)?;
-    let details = Entries::new(alloc)
-        .with(alloc, "name", Doc::text(alloc, name.as_str())?)?
-        .with(alloc, "rule", Doc::Int(i64::from(rule)))?;
-    input_error(alloc, details)
+    broken_with(alloc, "name", name.as_str(), rule)
 }
 
 /// The status of a task is answered.
@@ -177,13 +182,17 @@ pub fn status(alloc: Global, row: &TaskRow) -> Result<Answer, AllocError>
 pub fn pending_body(alloc: Global, queue: &TaskQueue, count: u32) -> Result<Doc, AllocError>
     ensures { IfOk result (λ d. document d ≡ pending_body queue.now count) }
 {
-    let provisioner = Doc::text(alloc, queue.provisioner_id.as_str())?;
     let name = queue.name(alloc)?;
-    let worker = Doc::text(alloc, queue.worker_type.as_str())?;
-    let first = Entries::new(alloc).with(alloc, "pendingTasks", Doc::Int(i64::from(count)))?;
-    let second = first.with(alloc, "provisionerId", provisioner)?;
-    let third = second.with(alloc, "taskQueueId", Doc::Text(name))?;
-    Ok(third.with(alloc, "workerType", worker)?.into_doc())
+    let first = Entries::new(alloc).with(alloc, "taskQueueId", Doc::Text(name))?;
+    let second = first.with(alloc, "pendingTasks", Doc::Int(i64::from(count)))?;
+    let third = with_text(
+        alloc,
+        second,
+        "provisionerId",
+        queue.provisioner_id.as_str(),
+    )?;
+    let fourth = with_text(alloc, third, "workerType", queue.worker_type.as_str())?;
+    Ok(fourth.into_doc())
 }
 
 /// The state of this task forbids it, by this rule.
@@ -200,9 +209,8 @@ pub fn conflict(alloc: Global, rule: u8, row: &TaskRow) -> Result<Answer, AllocE
 pub fn other_scheduler(alloc: Global, kept: &str) -> Result<Answer, AllocError>
     ensures { IfOk result (λ a. a ≡ other_scheduler kept.now) }
 {
-    let details = Entries::new(alloc)
-        .with(alloc, "rule", Doc::Int(2))?
-        .with(alloc, "schedulerId", Doc::text(alloc, kept)?)?;
+    let rule = Entries::new(alloc).with(alloc, "rule", Doc::Int(2))?;
+    let details = with_text(alloc, rule, "schedulerId", kept)?;
     Ok(Answer {
         status: StatusCode::CONFLICT,
         body: error_text(alloc, "RequestConflict", details, "the state forbids it")?,
@@ -245,7 +253,7 @@ pub(crate) fn refused_caller(alloc: Global, fault: &AuthFault) -> Result<Answer,
 fn not_authentic(alloc: Global, reason: &str) -> Result<Answer, AllocError>
     ensures { IfOk result (λ a. a ≡ not_authentic reason.now) }
 {
-    let details = Entries::new(alloc).with(alloc, "reason", Doc::text(alloc, reason)?)?;
+    let details = with_text(alloc, Entries::new(alloc), "reason", reason)?;
     authentication_failed(alloc, details)
 }
 
@@ -310,26 +318,37 @@ pub fn expansion_limit(alloc: Global) -> Result<Answer, AllocError>
 pub fn insufficient_scopes(alloc: Global, missing: &Expr) -> Result<Answer, AllocError>
     ensures { IfOk result (λ a. a ≡ insufficient_scopes (view missing.now)) }
 {
-    let details = Entries::new(alloc).with(alloc, "missing", expression_doc(alloc, missing)?)?;
-    Ok(Answer {
-        status: StatusCode::FORBIDDEN,
-        body: error_text(alloc, "InsufficientScopes", details, "scopes are missing")?,
-    })
+    lacking_scopes(alloc, "InsufficientScopes", missing, "scopes are missing")
 }
 
 /// The scopes of the hook do not hold what its task asks for, and this is missing.
 pub fn hook_insufficient_scopes(alloc: Global, missing: &Expr) -> Result<Answer, AllocError>
     ensures { IfOk result (λ a. a ≡ hook_insufficient_scopes (view missing.now)) }
 {
+    lacking_scopes(
+        alloc,
+        "HookInsufficientScopes",
+        missing,
+        "the hook's scopes are missing",
+    )
+}
+
+/// These scopes are missing, as this code and this message say.
+fn lacking_scopes(
+    alloc: Global,
+    code: &str,
+    missing: &Expr,
+    message: &str,
+) -> Result<Answer, AllocError>
+    ensures { IfOk result (λ a. a ≡ record {
+      status = 403;
+      body = error_text code.now (members_of ((codes "missing", document_of (view missing.now)) ∷ [])) message.now;
+    }) }
+{
     let details = Entries::new(alloc).with(alloc, "missing", expression_doc(alloc, missing)?)?;
     Ok(Answer {
         status: StatusCode::FORBIDDEN,
-        body: error_text(
-            alloc,
-            "HookInsufficientScopes",
-            details,
-            "the hook's scopes are missing",
-        )?,
+        body: error_text(alloc, code, details, message)?,
     })
 }
 
@@ -342,10 +361,23 @@ fn error_text(
 ) -> Result<Text, AllocError>
     ensures { IfOk result (λ t. t ≡ error_text code.now (held details) message.now) }
 {
-    Entries::new(alloc)
-        .with(alloc, "code", Doc::text(alloc, code)?)?
-        .with(alloc, "details", details.into_doc())?
-        .with(alloc, "message", Doc::text(alloc, message)?)?
-        .into_doc()
-        .write(alloc)
+    let detailed = Entries::new(alloc).with(alloc, "details", details.into_doc())?;
+    let coded = with_text(alloc, detailed, "code", code)?;
+    let body = with_text(alloc, coded, "message", message)?.into_doc();
+    let text = body.write(alloc);
+    drop(body);
+    text
+}
+
+/// The members with a copy of this text at the key.
+fn with_text(alloc: Global, entries: Entries, key: &str, value: &str) -> Result<Entries, AllocError>
+    ensures { IfOk result (λ e. held e ≡ put key.now (text value.now) (held entries)) }
+{
+    match Doc::text(alloc, value) {
+        Ok(value) => entries.with(alloc, key, value),
+        Err(error) => {
+            drop(entries);
+            Err(error)
+        }
+    }
 }
