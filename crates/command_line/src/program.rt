@@ -20,45 +20,6 @@ fn farm_file<'a>(alloc: Global) -> Arg<'a>
         .help("The farm file (TOML).")
 }
 
-/// `--disk`, the file that keeps the farm.
-fn disk<'a>(alloc: Global, required: bool) -> Arg<'a>
-    ensures rule { rule_of result ≡ option_rule (codes "disk") required }
-    ensures local { result.global ≡ false }
-{
-    option(
-        alloc,
-        "disk",
-        required,
-        "The file that keeps the farm's records. It is made where it is not there.",
-    )
-}
-
-fn answer<'a>(alloc: Global) -> Result<Command<'a>, AllocError>
-    ensures { IfOk result (IsDiskLeaf (codes "answer")) }
-{
-    Command::new(alloc, "answer")
-        .about("Serves one connection: requests on standard input, replies on standard output.")
-        .arg(farm_file(alloc))?
-        .arg(disk(alloc, false))
-}
-
-fn expand<'a>(alloc: Global) -> Result<Command<'a>, AllocError>
-    ensures { IfOk result (IsLeaf (codes "expand")) }
-{
-    Command::new(alloc, "expand")
-        .about("Reads scopes, one a line, and writes all scopes that they give.")
-        .arg(farm_file(alloc))
-}
-
-fn check<'a>(alloc: Global) -> Result<Command<'a>, AllocError>
-    ensures { IfOk result (IsDiskLeaf (codes "check")) }
-{
-    Command::new(alloc, "check")
-        .about("Checks the farm file and the disk, and counts what they have.")
-        .arg(farm_file(alloc))?
-        .arg(disk(alloc, false))
-}
-
 /// `--name`, with one value.
 fn option<'a>(alloc: Global, name: &'a str, required: bool, help: &'a str) -> Arg<'a>
     ensures rule { rule_of result ≡ option_rule name.entry.now required }
@@ -70,67 +31,176 @@ fn option<'a>(alloc: Global, name: &'a str, required: bool, help: &'a str) -> Ar
         .help(help)
 }
 
+/// The command with an option more, `--name` with one value, where there was memory for both.
+fn with_option<'a>(
+    alloc: Global,
+    command: Result<Command<'a>, AllocError>,
+    name: &'a str,
+    required: bool,
+    help: &'a str,
+) -> Result<Command<'a>, AllocError>
+    ensures { (app : App) → IfOk command.entry (IsPlainLeaf app) → IfOk result (IsPlainLeaf (with_rule app (option_rule name.entry.now required))) }
+{
+    match command {
+        Ok(command) => command.arg(option(alloc, name, required, help)),
+        Err(error) => Err(error),
+    }
+}
+
+/// The command with `--disk`, the file that keeps the farm.
+fn with_disk<'a>(
+    alloc: Global,
+    command: Result<Command<'a>, AllocError>,
+    required: bool,
+) -> Result<Command<'a>, AllocError>
+    ensures { (app : App) → IfOk command.entry (IsPlainLeaf app) → IfOk result (IsPlainLeaf (with_rule app (option_rule (codes "disk") required))) }
+{
+    with_option(
+        alloc,
+        command,
+        "disk",
+        required,
+        "The file that keeps the farm's records. It is made where it is not there.",
+    )
+}
+
+/// A command that takes nothing.
+fn bare<'a>(alloc: Global, name: &'a str, about: &'a str) -> Command<'a>
+    ensures { IsPlainLeaf (new_app name.entry.now) result }
+{
+    Command::new(alloc, name).about(about)
+}
+
+/// A command that takes FARM and nothing else.
+fn over_farm<'a>(alloc: Global, name: &'a str, about: &'a str) -> Result<Command<'a>, AllocError>
+    ensures { IfOk result (IsLeaf name.entry.now) }
+{
+    bare(alloc, name, about).arg(farm_file(alloc))
+}
+
+fn answer<'a>(alloc: Global) -> Result<Command<'a>, AllocError>
+    ensures { IfOk result (IsDiskLeaf (codes "answer")) }
+{
+    let command = over_farm(
+        alloc,
+        "answer",
+        "Serves one connection: requests on standard input, replies on standard output.",
+    );
+    with_disk(alloc, command, false)
+}
+
+fn expand<'a>(alloc: Global) -> Result<Command<'a>, AllocError>
+    ensures { IfOk result (IsLeaf (codes "expand")) }
+{
+    over_farm(
+        alloc,
+        "expand",
+        "Reads scopes, one a line, and writes all scopes that they give.",
+    )
+}
+
+fn check<'a>(alloc: Global) -> Result<Command<'a>, AllocError>
+    ensures { IfOk result (IsDiskLeaf (codes "check")) }
+{
+    let command = over_farm(
+        alloc,
+        "check",
+        "Checks the farm file and the disk, and counts what they have.",
+    );
+    with_disk(alloc, command, false)
+}
+
 /// `sign`, with who signs.
 fn signer<'a>(alloc: Global) -> Result<Command<'a>, AllocError>
     ensures { IfOk result (IsPlainLeaf (with_fields (new_app (codes "sign")) (take 2 request_fields))) }
 {
-    Command::new(alloc, "sign")
-        .about("Writes the value of the Authorization header that signs a request (Hawk).")
-        .arg(option(alloc, "id", true, "The client's id."))?
-        .arg(option(alloc, "token", true, "The client's access token."))
+    let command = bare(
+        alloc,
+        "sign",
+        "Writes the value of the Authorization header that signs a request (Hawk).",
+    );
+    let command = with_option(alloc, Ok(command), "id", true, "The client's id.");
+    with_option(alloc, command, "token", true, "The client's access token.")
 }
 
 /// `sign`, with who signs, and what is asked of which host.
 fn sign_request<'a>(alloc: Global) -> Result<Command<'a>, AllocError>
     ensures { IfOk result (IsPlainLeaf (with_fields (new_app (codes "sign")) request_fields)) }
 {
-    signer(alloc)?
-        .arg(option(alloc, "method", true, "The method of the request."))?
-        .arg(option(
-            alloc,
-            "target",
-            true,
-            "The target of the request, as it is sent.",
-        ))?
-        .arg(option(alloc, "host", true, "The host that the farm file names."))
+    let command = with_option(
+        alloc,
+        signer(alloc),
+        "method",
+        true,
+        "The method of the request.",
+    );
+    let command = with_option(
+        alloc,
+        command,
+        "target",
+        true,
+        "The target of the request, as it is sent.",
+    );
+    with_option(
+        alloc,
+        command,
+        "host",
+        true,
+        "The host that the farm file names.",
+    )
 }
 
 /// `sign`, with what has to be there.
 fn sign_stamp<'a>(alloc: Global) -> Result<Command<'a>, AllocError>
     ensures { IfOk result (IsPlainLeaf (with_fields (new_app (codes "sign")) (request_fields ++ port_field ∷ take 2 stamp_fields))) }
 {
-    sign_request(alloc)?
-        .arg(option(alloc, "port", true, "The port that the farm file names."))?
-        .arg(option(alloc, "ts", true, "The seconds since 1970."))?
-        .arg(option(alloc, "nonce", true, "A text that is used once."))
+    let command = with_option(
+        alloc,
+        sign_request(alloc),
+        "port",
+        true,
+        "The port that the farm file names.",
+    );
+    let command = with_option(alloc, command, "ts", true, "The seconds since 1970.");
+    with_option(alloc, command, "nonce", true, "A text that is used once.")
 }
 
 /// `sign` with all its options.
 fn sign<'a>(alloc: Global) -> Result<Command<'a>, AllocError>
     ensures { IfOk result (IsPlainLeaf sign_app) }
 {
-    sign_stamp(alloc)?
-        .arg(option(
-            alloc,
-            "ext",
-            false,
-            "The scopes that are asked for, in base64.",
-        ))?
-        .arg(option(
-            alloc,
-            "type",
-            false,
-            "The content type of the body, which is read from standard input.",
-        ))
+    let command = with_option(
+        alloc,
+        sign_stamp(alloc),
+        "ext",
+        false,
+        "The scopes that are asked for, in base64.",
+    );
+    with_option(
+        alloc,
+        command,
+        "type",
+        false,
+        "The content type of the body, which is read from standard input.",
+    )
 }
 
 fn bulk<'a>(alloc: Global) -> Result<Command<'a>, AllocError>
     ensures { IfOk result (IsPlainLeaf bulk_app) }
 {
-    Command::new(alloc, "bulk")
-        .about("Runs a generated load over a farm in memory, and writes how its tasks ended.")
-        .arg(option(alloc, "seed", true, "What its numbers begin with."))?
-        .arg(option(alloc, "tasks", true, "How many tasks it creates."))
+    let command = bare(
+        alloc,
+        "bulk",
+        "Runs a generated load over a farm in memory, and writes how its tasks ended.",
+    );
+    let command = with_option(
+        alloc,
+        Ok(command),
+        "seed",
+        true,
+        "What its numbers begin with.",
+    );
+    with_option(alloc, command, "tasks", true, "How many tasks it creates.")
 }
 
 fn render<'a>(alloc: Global) -> Command<'a>
@@ -143,35 +213,39 @@ fn render<'a>(alloc: Global) -> Command<'a>
 fn served<'a>(alloc: Global) -> Result<Command<'a>, AllocError>
     ensures { IfOk result (IsPlainLeaf (with_rule (with_farm (codes "serve")) (option_rule (codes "disk") true))) }
 {
-    Command::new(alloc, "serve")
-        .about("Serves connections that come to an address, over a farm that a disk keeps.")
-        .arg(farm_file(alloc))?
-        .arg(disk(alloc, true))
+    let command = over_farm(
+        alloc,
+        "serve",
+        "Serves connections that come to an address, over a farm that a disk keeps.",
+    );
+    with_disk(alloc, command, true)
 }
 
 /// `serve` with all its options.
 fn serve<'a>(alloc: Global) -> Result<Command<'a>, AllocError>
     ensures { IfOk result (IsPlainLeaf serve_app) }
 {
-    served(alloc)?
-        .arg(option(
-            alloc,
-            "listen",
-            true,
-            "The address and the port that are listened at, as 127.0.0.1:8080.",
-        ))?
-        .arg(option(
-            alloc,
-            "workers",
-            false,
-            "How many workers serve side by side: 1 to 64, or else 4.",
-        ))?
-        .arg(option(
-            alloc,
-            "connections",
-            false,
-            "How many connections each worker serves: 1 to 1000000, or else as many.",
-        ))
+    let command = with_option(
+        alloc,
+        served(alloc),
+        "listen",
+        true,
+        "The address and the port that are listened at, as 127.0.0.1:8080.",
+    );
+    let command = with_option(
+        alloc,
+        command,
+        "workers",
+        false,
+        "How many workers serve side by side: 1 to 64, or else 4.",
+    );
+    with_option(
+        alloc,
+        command,
+        "connections",
+        false,
+        "How many connections each worker serves: 1 to 1000000, or else as many.",
+    )
 }
 
 /// The program without its commands. Its words come without its name.
@@ -204,24 +278,39 @@ fn with<'a>(
     }
 }
 
+/// The same, where there was memory for the program.
+fn joined<'a>(
+    program: Result<Command<'a>, AllocError>,
+    command: Result<Command<'a>, AllocError>,
+) -> Result<Command<'a>, AllocError>
+    ensures { (whole app : App) → IfOk program.entry (λ p. app_of p ≡ whole) → IfOk command.entry (IsPlainLeaf app)
+        → IfOk result (λ more. app_of more ≡ with_subcommand whole app.top) }
+{
+    match program {
+        Ok(program) => with(program, command),
+        Err(error) => {
+            drop(command);
+            Err(error)
+        }
+    }
+}
+
 /// The program with the first three of its commands.
 fn first_commands<'a>(alloc: Global) -> Result<Command<'a>, AllocError>
     ensures { IfOk result (λ program. app_of program
         ≡ with_subcommand (with_subcommand (with_subcommand bare_app (with_disk (codes "answer")).top) (with_farm (codes "expand")).top) (with_disk (codes "check")).top) }
 {
-    let program = without_commands(alloc)?;
-    let program = with(program, answer(alloc))?;
-    let program = with(program, expand(alloc))?;
-    with(program, check(alloc))
+    let program = joined(without_commands(alloc), answer(alloc));
+    let program = joined(program, expand(alloc));
+    joined(program, check(alloc))
 }
 
 /// The program with its commands.
 pub(crate) fn farm<'a>(alloc: Global) -> Result<Command<'a>, AllocError>
     ensures { IfOk result (λ program. app_of program ≡ farm_app) }
 {
-    let program = first_commands(alloc)?;
-    let program = with(program, sign(alloc))?;
-    let program = with(program, bulk(alloc))?;
-    let program = program.subcommand(render(alloc))?;
-    with(program, serve(alloc))
+    let program = joined(first_commands(alloc), sign(alloc));
+    let program = joined(program, bulk(alloc));
+    let program = joined(program, Ok(render(alloc)));
+    joined(program, serve(alloc))
 }

@@ -69,14 +69,23 @@ fn command_of(alloc: Global, matches: &ArgMatches<'_>) -> Result<Command, WordsF
     let Some((name, inner)) = matches.subcommand() else {
         return Err(WordsFault::usage(alloc, "error: the words name no command\n"));
     };
+    command_named(alloc, name, inner)
+}
+
+/// The command of this name, with what its matches give.
+fn command_named(alloc: Global, name: &str, matches: &ArgMatches<'_>) -> Result<Command, WordsFault>
+    ensures { MatchResult result
+        (λ command. command_in (name.now, rows_of (found_of matches.now)) ≡ Some command)
+        (Refuses (command_in (name.now, rows_of (found_of matches.now)))) }
+{
     if name == "sign" {
-        return match read_signing(alloc, inner) {
+        return match read_signing(alloc, matches) {
             Ok(signing) => Ok(Command::Sign { signing }),
             Err(fault) => Err(fault),
         };
     }
     if name == "bulk" {
-        return match read_load(alloc, inner) {
+        return match read_load(alloc, matches) {
             Ok(load) => Ok(Command::Bulk { load }),
             Err(fault) => Err(fault),
         };
@@ -85,9 +94,9 @@ fn command_of(alloc: Global, matches: &ArgMatches<'_>) -> Result<Command, WordsF
         return Ok(Command::Render);
     }
     if name == "serve" {
-        return read_serve(alloc, inner);
+        return read_serve(alloc, matches);
     }
-    read_work(alloc, name, inner)
+    read_work(alloc, name, matches)
 }
 
 /// The service over the farm file that the matches of `serve` give.

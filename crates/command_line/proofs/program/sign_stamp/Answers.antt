@@ -1,9 +1,4 @@
-use Rattle.std.proofs.lemmas.Result.{IfOk-weaker}
-use Rattle.command_line.proofs.OptionLemmas.{with_one}
 use Rattle.command_line.proofs.program.sign_stamp.Goals as goal
 
 pub returns : goal.returns
-returns c =
-    let port = with_one _ _ _ _ _ c.in_ok-sign_request.ensures c.option.ensures.rule c.option.ensures.local c.in_ok-arg.ensures in
-    let ts = with_one _ _ _ _ _ port c.option-2.ensures.rule c.option-2.ensures.local c.in_ok-arg-2.ensures in
-    IfOk-weaker c.arg-3.result _ _ (λ more adds. with_one _ _ _ _ _ ts c.option-3.ensures.rule c.option-3.ensures.local adds) c.arg-3.ensures
+returns c = c.with_option.ensures _ (c.with_option-command-2.ensures _ (c.with_option-command.ensures _ c.sign_request.ensures))
