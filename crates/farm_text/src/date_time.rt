@@ -68,8 +68,8 @@ fn full_date(text: &[u8]) -> Option<(i32, &[u8])>
         → IsSomeAnd result (λ p. (p.0 ≡ days) × (p.1.now ≡ rest)) }
 {
     let (year, rest) = four_digits(text)?;
-    let (month, rest) = two_digits(after(rest, b'-')?)?;
-    let (day, rest) = two_digits(after(rest, b'-')?)?;
+    let (month, rest) = two_digits_behind(rest, b'-')?;
+    let (day, rest) = two_digits_behind(rest, b'-')?;
     let days = day_number(year, month, day)?;
     Some((days, rest))
 }
@@ -98,7 +98,7 @@ fn time_of_day(text: &[u8]) -> Option<(u32, &[u8])>
         → IsSomeAnd result (λ p. (p.0 ≡ seconds) × (p.1.now ≡ rest)) }
 {
     let (minutes, rest) = hours_minutes(text)?;
-    let (second, rest) = two_digits(after(rest, b':')?)?;
+    let (second, rest) = two_digits_behind(rest, b':')?;
     if second > 59 {
         return None;
     }
@@ -113,7 +113,7 @@ fn hours_minutes(text: &[u8]) -> Option<(u32, &[u8])>
         → IsSomeAnd result (λ p. (p.0 ≡ minutes) × (p.1.now ≡ rest)) }
 {
     let (hour, rest) = two_digits(text)?;
-    let (minute, rest) = two_digits(after(rest, b':')?)?;
+    let (minute, rest) = two_digits_behind(rest, b':')?;
     if hour > 23 || minute > 59 {
         return None;
     }
@@ -140,6 +140,16 @@ fn four_digits(text: &[u8]) -> Option<(u16, &[u8])>
     let (high, rest) = two_digits(text)?;
     let (low, rest) = two_digits(rest)?;
     Some((100 * u16::from(high) + u16::from(low), rest))
+}
+
+// Two digits behind the mark: their number, and the rest.
+fn two_digits_behind(text: &[u8], mark: u8) -> Option<(u8, &[u8])>
+    ensures is { IfSome result (λ p. text.now ≡ mark ∷ (last_digits 2 p.0 ++ p.1.now)) }
+    ensures bound { IfSome result (λ p. p.0 < 100) }
+    ensures only { (n : ℕ) (rest : List ℕ) → n < 100 → text.now ≡ mark ∷ (last_digits 2 n ++ rest)
+        → IsSomeAnd result (λ p. (p.0 ≡ n) × (p.1.now ≡ rest)) }
+{
+    two_digits(after(text, mark)?)
 }
 
 fn two_digits(text: &[u8]) -> Option<(u8, &[u8])>

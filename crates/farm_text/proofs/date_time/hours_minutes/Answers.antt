@@ -8,5 +8,5 @@ returns-clause-is c =
     let m = c.in_ok-minute.minute in (
       last_digits 2 h ++ 58 ∷ last_digits 2 m,
       (h, m, omega arith, omega arith, grind arith, refl),
-      c.in_ok-hour.ensures.is ∙ ap (λ t. last_digits 2 h ++ t) (c.in_ok-after.ensures.is ∙ ap (λ t. 58 ∷ t) c.in_ok-minute.ensures.is),
+      c.in_ok-hour.ensures.is ∙ ap (λ t. last_digits 2 h ++ t) c.in_ok-minute.ensures.is,
     )
