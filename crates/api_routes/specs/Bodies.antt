@@ -8,7 +8,7 @@ use Rattle.task_defs.specs.Faults.{IsFault}
 use Rattle.task_defs.specs.Forms.{IsIdentifier}
 use Rattle.task_defs.specs.declared.names.TaskQueue.{TaskQueue}
 use Rattle.run_states.specs.Reasons.{resolved_name}
-use Rattle.farm_rows.specs.Changes.{reason_of}
+use Rattle.task_index.specs.Changes.{reason_of}
 use Rattle.farm_record.specs.declared.change.Creation.{Creation}
 use Rattle.farm_record.specs.declared.change.Report.{Report}
 use Rattle.farm_record.specs.declared.change.Report.TheVariants as reports

@@ -12,7 +12,7 @@ use Rattle.task_defs.specs.declared.names.TaskQueue.{TaskQueue}
 use Rattle.task_defs.proofs.OneLemmas.{fault_one, no_fault}
 use Rattle.task_defs.proofs.QueueLemmas.{queue_name_same}
 use Rattle.run_states.specs.Reasons.{resolved_name}
-use Rattle.farm_rows.specs.Changes.{reason_of}
+use Rattle.task_index.specs.Changes.{reason_of}
 use Rattle.farm_record.specs.declared.change.Creation.{Creation}
 use Rattle.farm_record.specs.declared.change.Report.{Report}
 use Rattle.farm_record.specs.declared.change.Report.TheVariants.{Completed, Failed, Superseded, WorkerShutdown, MalformedPayload, ResourceUnavailable, InternalError, IntermittentTask}

@@ -9,7 +9,7 @@ use Rattle.route_table.specs.Fits.{NoTwoFit}
 use Rattle.farm_text.specs.Document.{Document, text, whole, get, data_of}
 use Rattle.farm_text.specs.Reading.{IsJson}
 use Rattle.api_routes.specs.Routes.{IsCallOf}
-use Rattle.farm_rows.specs.Due.{is_due}
+use Rattle.task_index.specs.Due.{is_due}
 use Rattle.farm_rows.specs.Summary.{summary_of}
 use Rattle.farm_rows.specs.declared.summary.Summary.{Summary}
 use Rattle.farm_machine.specs.Changes.{moment_of}

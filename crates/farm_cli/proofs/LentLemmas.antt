@@ -6,7 +6,7 @@ use Rattle.command_line.specs.declared.service.Service.{Service}
 use Rattle.history.specs.Asks.{LeadsAlone}
 use Rattle.history.specs.Histories.{end_state}
 use Rattle.http_wire.specs.Calls.{LinkState}
-use Rattle.farm_rows.specs.Contents.{Contents}
+use Rattle.task_index.specs.Contents.{Contents}
 use Rattle.farm_core.specs.Farm.{HoldsHistory, state_of}
 use Rattle.farm_core.specs.Records.{Recorded}
 use Rattle.farm_asks.specs.declared.config.Config.{Config}

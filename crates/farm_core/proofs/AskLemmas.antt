@@ -18,8 +18,8 @@ use Rattle.farm_machine.specs.Planned.{Planned, IsPlanOf}
 use Rattle.farm_machine.specs.Replay.{records_by}
 use Rattle.farm_machine.specs.State.{State, working}
 use Rattle.farm_machine.specs.Step.{MayTick, MayBecome, IsToKeep, after_call, ticks_before, farm_rules}
-use Rattle.farm_rows.specs.Contents.{Contents}
-use Rattle.farm_rows.specs.Due.{is_due, advance}
+use Rattle.task_index.specs.Contents.{Contents}
+use Rattle.task_index.specs.Due.{is_due, advance}
 use Rattle.farm_core.specs.Asking.{ticks_kept, Performs}
 use Rattle.farm_core.specs.Bare.{IsResolved}
 use Rattle.farm_core.specs.Farm.{state_of, AsksDisk, AreFailedBy}

@@ -5,13 +5,13 @@ use Rattle.farm_text.specs.declared.moment.TheConstants.{LAST_TOLD_MOMENT}
 use Rattle.farm_asks.specs.declared.config.Config.{Config}
 use Rattle.farm_asks.specs.declared.reply.Reply.{Reply}
 use Rattle.farm_machine.specs.Changes.{moment_of}
-use Rattle.farm_rows.specs.Due.{is_due, advance}
+use Rattle.task_index.specs.Due.{is_due, advance}
 use Rattle.farm_asks.specs.Questions.{Asking}
 use Rattle.farm_machine.specs.Entry.{Outcome, call}
-use Rattle.farm_rows.specs.Contents.{Contents}
+use Rattle.task_index.specs.Contents.{Contents}
 use Rattle.farm_machine.specs.State.{State, working}
 use Rattle.farm_machine.specs.Step.{MayTick, MayBecome, after_call, reply_to, farm_rules}
-use Rattle.farm_rows.proofs.AdvanceLemmas.{advance-none}
+use Rattle.task_index.proofs.AdvanceLemmas.{advance-none}
 use Rattle.farm_core.specs.Bare.{IsResolved, IsPerformed}
 
 -- the moment of a call stays, where it was reached

@@ -6,7 +6,7 @@ use Rattle.history.specs.Histories.{IsLegal, end_state, Leads}
 use Rattle.history.proofs.HistoriesLemmas.{IsLegal-front, IsLegal-back}
 use Rattle.disk_base.specs.Contents.{Contents as Disk, LeftNow}
 use Rattle.farm_record.specs.declared.change.Change.{Change}
-use Rattle.farm_rows.specs.Contents.{Contents}
+use Rattle.task_index.specs.Contents.{Contents}
 use Rattle.farm_asks.specs.Questions.{Asking}
 use Rattle.farm_machine.specs.Entry.{Entry, tick, call, finished, out_of_memory, disk_failed, was_halted}
 use Rattle.farm_machine.specs.Law.{Opening}

@@ -9,7 +9,7 @@ use Rattle.disk_journal.proofs.LawLemmas.{opens_one, opens_whole, image_opens, w
 use Rattle.disk_journal.proofs.RecordLemmas.{length-sized}
 use Rattle.farm_record.specs.declared.change.Change.{Change}
 use Rattle.farm_record.specs.Records.{IsRecord}
-use Rattle.farm_rows.specs.Contents.{Contents, no_contents}
+use Rattle.task_index.specs.Contents.{Contents, no_contents}
 use Rattle.farm_machine.specs.Replay.{may_replay, after_replay, replayed, IsTried}
 use Rattle.farm_machine.proofs.ReplayLemmas.{replayed-push, replayed-append}
 use Rattle.farm_core.specs.Opened.{Replays, IsBroken, IsFarmDamaged}

@@ -8,7 +8,7 @@ use Rattle.disk_journal.proofs.AppendLemmas.{ready_image}
 use Rattle.disk_journal.proofs.LawLemmas.{opens_one, opens_whole, image_opens}
 use Rattle.disk_journal.specs.declared.fault.OpenFault.{OpenFault}
 use Rattle.disk_journal.specs.declared.fault.OpenFault.TheVariants as faults
-use Rattle.farm_rows.specs.Contents.{Contents}
+use Rattle.task_index.specs.Contents.{Contents}
 use Rattle.farm_core.specs.Opened.{Replays, HasBodies, IsFarmDamaged, KeepsRefused, HasOpened}
 use Rattle.farm_core.specs.Reading.{IsRestored, IsFirstFault}
 

@@ -2,7 +2,7 @@
 use Rattle.std.proofs.Common.{◌≡◌, ◌⊎◌, ℕ, List, [], ◌∷◌, ◌++◌, length, refl, sym, ap, ◌∙◌, subst, inl, inr}
 use Rattle.disk_journal.specs.Records.{records, IsDamagedBehind}
 use Rattle.disk_journal.proofs.LawLemmas.{opens_one, opens_whole, damaged_one, behind_one}
-use Rattle.farm_rows.specs.Contents.{Contents}
+use Rattle.task_index.specs.Contents.{Contents}
 use Rattle.farm_core.specs.Opened.{Replays, IsBroken, HasBodies, IsFarmDamaged}
 use Rattle.farm_core.proofs.OpenLemmas.{OneChange, unbroken}
 

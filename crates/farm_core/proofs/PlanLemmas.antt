@@ -2,9 +2,9 @@
 use Rattle.std.proofs.Common.{◌≡◌, ◌≤◌, true, Option, Some, None, IfSome, option_map, refl, subst, arith}
 use Rattle.farm_text.specs.declared.moment.TheConstants.{LAST_TOLD_MOMENT}
 use Rattle.farm_record.specs.declared.change.Change.{Change}
-use Rattle.farm_rows.specs.Changes.{may_apply}
-use Rattle.farm_rows.specs.Contents.{Contents}
-use Rattle.farm_rows.specs.Plans as tasks
+use Rattle.task_index.specs.Changes.{may_apply}
+use Rattle.task_index.specs.Contents.{Contents}
+use Rattle.task_index.specs.Plans as tasks
 use Rattle.farm_asks.specs.declared.config.Config.{Config}
 use Rattle.farm_machine.specs.Changes.{moment_of}
 use Rattle.farm_asks.specs.Questions.{Asking}

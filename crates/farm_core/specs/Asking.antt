@@ -4,8 +4,8 @@ use Rattle.std.specs.Option.{option_to_list}
 use Rattle.disk_base.specs.Contents.{Contents as Disk}
 use Rattle.farm_record.specs.declared.change.Change.{Change}
 use Rattle.farm_record.specs.Records.{tick_at}
-use Rattle.farm_rows.specs.Contents.{Contents}
-use Rattle.farm_rows.specs.Due.{is_due}
+use Rattle.task_index.specs.Contents.{Contents}
+use Rattle.task_index.specs.Due.{is_due}
 use Rattle.farm_asks.specs.declared.config.Config.{Config}
 use Rattle.farm_asks.specs.declared.reply.Reply.{Reply}
 use Rattle.farm_asks.specs.Questions.{Asking}

@@ -2,10 +2,10 @@
 use Rattle.std.specs.Prelude.{◌≡◌, ℕ, Bool, if◌then◌else◌}
 use Rattle.farm_asks.specs.declared.config.Config.{Config}
 use Rattle.farm_asks.specs.declared.reply.Reply.{Reply}
-use Rattle.farm_rows.specs.Due.{is_due, advance}
+use Rattle.task_index.specs.Due.{is_due, advance}
 use Rattle.farm_asks.specs.Questions.{Asking}
 use Rattle.farm_machine.specs.Entry.{Outcome}
-use Rattle.farm_rows.specs.Contents.{Contents}
+use Rattle.task_index.specs.Contents.{Contents}
 use Rattle.farm_machine.specs.State.{working}
 use Rattle.farm_machine.specs.Step.{MayBecome, after_call, reply_to}
 use Rattle.farm_core.specs.Diskless.{NeedsNoDisk}

@@ -13,7 +13,7 @@ use Rattle.farm_machine.specs.Law.{Opening}
 use Rattle.farm_machine.specs.Replay.{records_of, Restores}
 use Rattle.farm_machine.specs.State.{State}
 use Rattle.farm_machine.specs.Step.{IsToKeep, farm_rules, ticks_before}
-use Rattle.farm_rows.specs.Contents.{Contents}
+use Rattle.task_index.specs.Contents.{Contents}
 use Rattle.farm_core.specs.Records.{KeepsRecords, HasRecords, IsFailed}
 
 -- the state of a farm

@@ -4,7 +4,7 @@ use Rattle.disk_journal.specs.declared.fault.OpenFault.{OpenFault}
 use Rattle.disk_journal.specs.declared.fault.OpenFault.TheVariants.{Disk, Damaged, NoMemory}
 use Rattle.farm_record.specs.declared.change.Change.{Change}
 use Rattle.farm_record.specs.Records.{IsRecord}
-use Rattle.farm_rows.specs.Contents.{Contents}
+use Rattle.task_index.specs.Contents.{Contents}
 use Rattle.farm_machine.specs.Replay.{may_replay, after_replay}
 use Rattle.farm_core.specs.Opened.{Replays, IsBroken}
 

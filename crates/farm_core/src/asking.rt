@@ -8,7 +8,7 @@ ghost use Rattle.farm_machine.specs.Changes.{moment_of as moment_by};
 ghost use Rattle.farm_machine.specs.Planned.{IsPlanOf, IsPlanOn};
 ghost use Rattle.farm_asks.specs.Questions.{Asking};
 ghost use Rattle.farm_asks.specs.declared.config.Config.{Config as AnyConfig};
-ghost use Rattle.farm_rows.specs.Due.{is_due};
+ghost use Rattle.task_index.specs.Due.{is_due};
 ghost use Rattle.farm_core.specs.Asking.{IsResolvedBy, ticks_kept, ticks_failed, changes_kept, changes_failed, is_failed, Performs};
 ghost use Rattle.farm_core.specs.Farm.{TellsFaults};
 ghost use Rattle.farm_core.specs.Records.{KeepsRecords};

@@ -2,7 +2,7 @@
 ghost use Rattle.std.specs.Prelude.{◌≡◌, ◌≤◌, false};
 ghost use Rattle.farm_text.specs.declared.moment.TheConstants.{LAST_TOLD_MOMENT};
 ghost use Rattle.farm_machine.specs.Changes.{moment_of as moment_by};
-ghost use Rattle.farm_rows.specs.Due.{is_due};
+ghost use Rattle.task_index.specs.Due.{is_due};
 ghost use Rattle.farm_rows.specs.Summary.{summary_of};
 ghost use Rattle.farm_machine.specs.State.{working, empty_state};
 ghost use Rattle.farm_core.specs.Bare.{IsResolved, IsPerformed};

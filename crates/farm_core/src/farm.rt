@@ -5,7 +5,7 @@ ghost use Rattle.disk_base.specs.Contents.{StopsLeave};
 ghost use Rattle.disk_journal.specs.Images.{IsImage, IsWithin};
 ghost use Rattle.disk_journal.specs.Opening.{HasOpenCause, answer_of};
 ghost use Rattle.disk_journal.specs.declared.fault.OpenFault.TheVariants.{Disk, Damaged};
-ghost use Rattle.farm_rows.specs.Contents.{Contents};
+ghost use Rattle.task_index.specs.Contents.{Contents};
 ghost use Rattle.farm_rows.specs.Summary.{summary_of};
 ghost use Rattle.farm_core.specs.Farm.{state_of, AsksDisk, TellsFaults, HoldsHistory};
 ghost use Rattle.farm_machine.specs.Entry.{Entry};

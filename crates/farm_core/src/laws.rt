@@ -4,7 +4,7 @@ ghost use Rattle.std.specs.Thread.{IsSend};
 ghost use Rattle.disk_base.specs.Contents.{LeftNow, StopsLeave};
 ghost use Rattle.disk_journal.specs.Images.{IsImage, IsWithin};
 ghost use Rattle.history.specs.Histories.{Leads};
-ghost use Rattle.farm_rows.specs.Contents.{Contents};
+ghost use Rattle.task_index.specs.Contents.{Contents};
 ghost use Rattle.farm_machine.specs.Entry.{Entry};
 ghost use Rattle.farm_machine.specs.Law.{Opening};
 ghost use Rattle.farm_machine.specs.Replay.{Restores};

@@ -22,14 +22,14 @@ use Rattle.run_states.specs.Moves.{claimed, reclaimed, canceled, resolved, run_a
 use Rattle.run_states.specs.Later.{RunLater, RowsLater}
 use Rattle.run_states.proofs.LaterLemmas.{scheduled-later, again-later, claimed-later, canceled-later, reclaimed-later, resolved-later}
 use Rattle.run_states.proofs.RunLemmas.{get-last, last-change}
-use Rattle.farm_rows.specs.Changes.{has_id, reason_of, change_row, claim_of, all_claimed, after_kind, changed as with_rows, applied}
-use Rattle.farm_rows.specs.Ready.{settled}
-use Rattle.farm_rows.specs.Contents.{Contents, row_with, HaveOwnIds}
-use Rattle.farm_rows.specs.Picks.{is_same_queue, without, last_name, pick, picks}
-use Rattle.farm_rows.proofs.AdvanceLemmas.{advance-ids}
-use Rattle.farm_rows.proofs.DueLemmas.{change-stays, change-ids}
-use Rattle.farm_rows.proofs.IdLemmas.{created-ids, claimed-ids, after-holds}
-use Rattle.farm_rows.proofs.ReadyLemmas.{settled-stays, settled-ids}
+use Rattle.task_index.specs.Changes.{has_id, reason_of, change_row, claim_of, all_claimed, after_kind, changed as with_rows, applied}
+use Rattle.task_index.specs.Ready.{settled}
+use Rattle.task_index.specs.Contents.{Contents, row_with, HaveOwnIds}
+use Rattle.task_index.specs.Picks.{is_same_queue, without, last_name, pick, picks}
+use Rattle.task_index.proofs.AdvanceLemmas.{advance-ids}
+use Rattle.task_index.proofs.DueLemmas.{change-stays, change-ids}
+use Rattle.task_index.proofs.IdLemmas.{created-ids, claimed-ids, after-holds}
+use Rattle.task_index.proofs.ReadyLemmas.{settled-stays, settled-ids}
 use Rattle.farm_rows.proofs.ShownLemmas.{pick-one}
 use Rattle.farm_asks.specs.declared.question.Call.{Call}
 use Rattle.farm_asks.specs.declared.question.Call.TheVariants.{NoRoute, BadParameter, BadBody, Ping, Task, Status, ListTaskGroup, ListDependentTasks, PendingTasks, CreateTask, ClaimWork, ReclaimTask, ReportRun, ScheduleTask, RerunTask, CancelTask, TriggerHook}

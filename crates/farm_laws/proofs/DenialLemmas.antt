@@ -4,7 +4,7 @@ use Rattle.scope_sets.specs.Expressions.{Expression, holds, missing, reduced}
 use Rattle.scope_sets.specs.Scopes.{star}
 use Rattle.scope_sets.proofs.LawLemmas.{missing_full}
 use Rattle.run_states.specs.Rows.{Row}
-use Rattle.farm_rows.specs.Contents.{row_with}
+use Rattle.task_index.specs.Contents.{row_with}
 use Rattle.farm_rows.specs.Waits.{missing_dependency, early_dependency}
 use Rattle.farm_record.specs.declared.change.Change.{Change}
 use Rattle.farm_record.specs.declared.change.Creation.{Creation}

@@ -8,10 +8,10 @@ use Rattle.farm_text.specs.declared.moment.TheConstants.{LAST_TOLD_MOMENT}
 use Rattle.run_states.specs.Rows.{Row, claim_due, due_moments}
 use Rattle.run_states.proofs.ClaimLemmas.{claim-open, open-due}
 use Rattle.farm_record.specs.declared.change.Change.{Change}
-use Rattle.farm_rows.specs.Contents.{Contents, row_with}
-use Rattle.farm_rows.specs.Due.{all_due_moments, is_due}
-use Rattle.farm_rows.specs.Changes.{may_be, may_apply}
-use Rattle.farm_rows.proofs.DueLemmas.{any_none}
+use Rattle.task_index.specs.Contents.{Contents, row_with}
+use Rattle.task_index.specs.Due.{all_due_moments, is_due}
+use Rattle.task_index.specs.Changes.{may_be, may_apply}
+use Rattle.task_index.proofs.DueLemmas.{any_none}
 
 -- where nothing is due, nothing is due of a task that is found
 found-open : (test : Row → Bool) (at : ℕ) (rows : List Row) (row : Row) → find test rows ≡ Some row → list_any (λ due. nat_le due at) (all_due_moments rows) ≡ false → list_any (λ due. nat_le due at) (due_moments row) ≡ false

@@ -13,9 +13,9 @@ use Rattle.run_states.specs.declared.run.Outcome.{Outcome}
 use Rattle.run_states.specs.declared.run.Run.{Run}
 use Rattle.run_states.specs.Runs.{is_running_run, run_due}
 use Rattle.run_states.specs.Rows.{Row, is_running_at, claim_due}
-use Rattle.farm_rows.specs.Changes.{may_be, may_apply}
-use Rattle.farm_rows.specs.Contents.{Contents, no_contents, row_with}
-use Rattle.farm_rows.specs.Due.{is_due}
+use Rattle.task_index.specs.Changes.{may_be, may_apply}
+use Rattle.task_index.specs.Contents.{Contents, no_contents, row_with}
+use Rattle.task_index.specs.Due.{is_due}
 use Rattle.farm_laws.proofs.EndLemmas.{before-end}
 use Rattle.farm_asks.specs.Questions.{Asking}
 use Rattle.farm_machine.specs.Entry.{Entry, call, finished}

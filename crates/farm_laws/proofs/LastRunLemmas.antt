@@ -22,12 +22,12 @@ use Rattle.run_states.specs.Rows.{Row, has_ended, is_resolved, is_pending, is_ru
 use Rattle.run_states.specs.Moves.{claimed, reclaimed, retried, followed, closed, resolved, expired, canceled, may_rerun, run_again}
 use Rattle.run_states.proofs.ClaimLemmas.{claim-open}
 use Rattle.run_states.proofs.RunLemmas.{get-last}
-use Rattle.farm_rows.specs.Contents.{Contents}
-use Rattle.farm_rows.specs.Due.{meets_deadline, change_first, resolved_at, after_first, turn, turns, first_due, all_due_moments, advance}
-use Rattle.farm_rows.specs.Changes.{has_id, reason_of, change_row, claim_of, all_claimed, after_kind, applied}
-use Rattle.farm_rows.specs.Ready.{is_ready, started, settled}
-use Rattle.farm_rows.proofs.DueLemmas.{loses}
-use Rattle.farm_rows.proofs.IdLemmas.{after-holds}
+use Rattle.task_index.specs.Contents.{Contents}
+use Rattle.task_index.specs.Due.{meets_deadline, change_first, resolved_at, after_first, turn, turns, first_due, all_due_moments, advance}
+use Rattle.task_index.specs.Changes.{has_id, reason_of, change_row, claim_of, all_claimed, after_kind, applied}
+use Rattle.task_index.specs.Ready.{is_ready, started, settled}
+use Rattle.task_index.proofs.DueLemmas.{loses}
+use Rattle.task_index.proofs.IdLemmas.{after-holds}
 use Rattle.farm_machine.specs.Changes.{changed, moment_of}
 use Rattle.farm_machine.specs.Entry.{Entry, tick, call, finished as Finished, out_of_memory, disk_failed, was_halted}
 use Rattle.farm_machine.specs.State.{State}

@@ -8,7 +8,7 @@ use Rattle.call_rules.specs.Policy.{create_scope, from_highest, create_policy}
 use Rattle.call_rules.specs.declared.hook_names.HookName.{HookName}
 use Rattle.hook_book.specs.Hooks.{HookData}
 use Rattle.run_states.specs.Rows.{Row}
-use Rattle.farm_rows.specs.Contents.{row_with}
+use Rattle.task_index.specs.Contents.{row_with}
 use Rattle.task_defs.specs.declared.choices.Priority.{Priority}
 use Rattle.task_defs.specs.declared.choices.Priority.TheVariants.{Highest, VeryHigh, High, Medium, Low, VeryLow, Lowest}
 use Rattle.task_defs.specs.declared.names.TaskQueue.{TaskQueue}

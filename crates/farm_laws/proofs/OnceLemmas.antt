@@ -12,12 +12,12 @@ use Rattle.farm_record.specs.declared.change.Creation.{Creation}
 use Rattle.run_states.specs.Rows.{Row, new_row}
 use Rattle.run_states.specs.Later.{RowsLater}
 use Rattle.run_states.proofs.LaterLemmas.{RowsLater-refl, RowsLater-trans}
-use Rattle.farm_rows.specs.Contents.{Contents, row_with}
-use Rattle.farm_rows.specs.Changes.{creating, created, applied}
-use Rattle.farm_rows.specs.Ready.{settled}
-use Rattle.farm_rows.proofs.AdvanceLemmas.{advance-stays}
-use Rattle.farm_rows.proofs.IdLemmas.{applied-stays}
-use Rattle.farm_rows.proofs.ReadyLemmas.{settled-stays}
+use Rattle.task_index.specs.Contents.{Contents, row_with}
+use Rattle.task_index.specs.Changes.{creating, created, applied}
+use Rattle.task_index.specs.Ready.{settled}
+use Rattle.task_index.proofs.AdvanceLemmas.{advance-stays}
+use Rattle.task_index.proofs.IdLemmas.{applied-stays}
+use Rattle.task_index.proofs.ReadyLemmas.{settled-stays}
 use Rattle.farm_asks.specs.declared.question.Call.{Call}
 use Rattle.farm_asks.specs.declared.question.Call.TheVariants.{CreateTask}
 use Rattle.farm_asks.specs.Access.{Has, HasAccess}

@@ -5,9 +5,9 @@ use Rattle.std.proofs.lemmas.List.{take-append-drop}
 use Rattle.std.proofs.lemmas.Map.Keys.{IsDistinct-head, IsDistinct-tail}
 use Rattle.std.proofs.lemmas.Slice.Eq.{bytes_eq-Decides}
 use Rattle.run_states.specs.Rows.{Row}
-use Rattle.farm_rows.specs.declared.lists.TaskList.{TaskList}
-use Rattle.farm_rows.specs.Contents.{HaveOwnIds}
-use Rattle.farm_rows.specs.Lists.{is_listed, listed, behind_id, behind, page_rows, next_token, pages}
+use Rattle.task_index.specs.declared.lists.TaskList.{TaskList}
+use Rattle.task_index.specs.Contents.{HaveOwnIds}
+use Rattle.task_index.specs.Lists.{is_listed, listed, behind_id, behind, page_rows, next_token, pages}
 
 -- ---- tasks with ids of their own, by recursion
 

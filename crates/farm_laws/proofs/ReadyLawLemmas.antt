@@ -4,12 +4,12 @@ use Rattle.history.specs.Histories.{end_state}
 use Rattle.farm_record.specs.declared.change.Change.{Change}
 use Rattle.farm_record.specs.declared.change.Kind.{Kind}
 use Rattle.farm_record.specs.declared.change.Kind.TheVariants.{Tick, Create, Schedule, Rerun, Cancel, Claim as TakesRuns, Reclaim, Resolve}
-use Rattle.farm_rows.specs.Changes.{after_kind, after_change, applied}
-use Rattle.farm_rows.specs.Contents.{Contents, HaveOwnIds}
-use Rattle.farm_rows.specs.Ready.{has_ready, settled}
+use Rattle.task_index.specs.Changes.{after_kind, after_change, applied}
+use Rattle.task_index.specs.Contents.{Contents, HaveOwnIds}
+use Rattle.task_index.specs.Ready.{has_ready, settled}
 use Rattle.farm_rows.specs.Starts.{starts, starts_once, may_start}
-use Rattle.farm_rows.proofs.AdvanceLemmas.{advance-ready}
-use Rattle.farm_rows.proofs.ReadyLemmas.{settled-none}
+use Rattle.task_index.proofs.AdvanceLemmas.{advance-ready}
+use Rattle.task_index.proofs.ReadyLemmas.{settled-none}
 use Rattle.farm_laws.proofs.StartLemmas.{starts-kind, starts-schedule, starts-settled, once-advance, once-applied}
 use Rattle.farm_machine.specs.Changes.{changed, moment_of}
 use Rattle.farm_machine.specs.Entry.{Entry, tick, call, finished, out_of_memory, disk_failed, was_halted}

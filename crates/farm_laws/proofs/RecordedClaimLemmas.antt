@@ -13,11 +13,11 @@ use Rattle.farm_record.specs.declared.change.Kind.TheVariants.{Tick, Create, Sch
 use Rattle.farm_record.specs.declared.change.RunName.{RunName}
 use Rattle.farm_text.specs.declared.moment.TheConstants.{LAST_TOLD_MOMENT}
 use Rattle.run_states.specs.Rows.{Row}
-use Rattle.farm_rows.specs.Changes.{are_first, may_keep, may_be, may_apply, claim_of, all_claimed}
-use Rattle.farm_rows.specs.Contents.{Contents, no_contents, row_with, HaveOwnIds}
-use Rattle.farm_rows.specs.Due.{is_due, advance}
-use Rattle.farm_rows.specs.Picks.{without, last_name, pick, picks, names_last, are_picks}
-use Rattle.farm_rows.proofs.AdvanceLemmas.{advance-stays}
+use Rattle.task_index.specs.Changes.{are_first, may_keep, may_be, may_apply, claim_of, all_claimed}
+use Rattle.task_index.specs.Contents.{Contents, no_contents, row_with, HaveOwnIds}
+use Rattle.task_index.specs.Due.{is_due, advance}
+use Rattle.task_index.specs.Picks.{without, last_name, pick, picks, names_last, are_picks}
+use Rattle.task_index.proofs.AdvanceLemmas.{advance-stays}
 use Rattle.farm_machine.specs.Entry.{Entry}
 use Rattle.farm_machine.specs.Replay.{may_come, left_by, after_replay, replayed, Restores}
 use Rattle.farm_machine.specs.RunLaws.{is_same_run, claims_by_kind, claims_in, claims_among}

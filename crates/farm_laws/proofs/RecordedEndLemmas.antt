@@ -20,13 +20,13 @@ use Rattle.run_states.specs.Reasons.{retry_after}
 use Rattle.run_states.specs.Rows.{Row, is_running_at}
 use Rattle.run_states.specs.Runs.{is_running_run, pending_run, ended, change_at}
 use Rattle.run_states.proofs.LaterLemmas.{resolved-later, RowsLater-refl, RowsLater-trans}
-use Rattle.farm_rows.specs.Changes.{reason_of, after_kind, applied}
-use Rattle.farm_rows.specs.Contents.{Contents, no_contents, row_with}
-use Rattle.farm_rows.specs.Due.{advance}
-use Rattle.farm_rows.specs.Ready.{settled}
-use Rattle.farm_rows.proofs.AdvanceLemmas.{advance-stays}
-use Rattle.farm_rows.proofs.IdLemmas.{applied-stays}
-use Rattle.farm_rows.proofs.ReadyLemmas.{settled-stays}
+use Rattle.task_index.specs.Changes.{reason_of, after_kind, applied}
+use Rattle.task_index.specs.Contents.{Contents, no_contents, row_with}
+use Rattle.task_index.specs.Due.{advance}
+use Rattle.task_index.specs.Ready.{settled}
+use Rattle.task_index.proofs.AdvanceLemmas.{advance-stays}
+use Rattle.task_index.proofs.IdLemmas.{applied-stays}
+use Rattle.task_index.proofs.ReadyLemmas.{settled-stays}
 use Rattle.farm_machine.specs.Entry.{Entry}
 use Rattle.farm_machine.specs.Replay.{may_come, left_by, after_replay, replayed, records_of, Restores}
 use Rattle.farm_machine.specs.RunLaws.{is_same_run, run_among, run_in, reported_run, reports_by_kind, reports_among}

@@ -7,7 +7,7 @@ use Rattle.run_states.specs.declared.run.Outcome.{Outcome}
 use Rattle.run_states.specs.declared.run.Run.{Run}
 use Rattle.run_states.specs.Rows.{Row}
 use Rattle.run_states.specs.Later.{RunLater, RunsLater, RowLater, RowsLater}
-use Rattle.farm_rows.specs.Contents.{row_with}
+use Rattle.task_index.specs.Contents.{row_with}
 use Rattle.farm_machine.specs.Entry.{Entry}
 use Rattle.farm_machine.specs.RunLaws.{run_in}
 use Rattle.farm_machine.specs.State.{State}

@@ -16,11 +16,11 @@ use Rattle.run_states.specs.Moves.{claimed, reclaimed, resolved, expired, cancel
 use Rattle.run_states.specs.Serving.{serves}
 use Rattle.run_states.proofs.LaterLemmas.{exceeded-later, canceled-later, scheduled-later, claimed-later, reclaimed-later, resolved-later, expired-later, again-later}
 use Rattle.run_states.proofs.ServeLemmas.{serves-claimed, serves-reclaimed, serves-resolved, serves-expired, serves-exceeded, serves-canceled, serves-again, serves-scheduled}
-use Rattle.farm_rows.specs.Changes.{has_id, reason_of, change_row, claim_of, all_claimed, after_kind, after_change, applied}
-use Rattle.farm_rows.specs.Contents.{Contents}
-use Rattle.farm_rows.specs.Due.{meets_deadline, change_first, resolved_at, after_first, turn, turns, first_due, all_due_moments, advance}
-use Rattle.farm_rows.specs.Ready.{id_serves, is_ready, started, settled}
-use Rattle.farm_rows.proofs.IdLemmas.{after-holds}
+use Rattle.task_index.specs.Changes.{has_id, reason_of, change_row, claim_of, all_claimed, after_kind, after_change, applied}
+use Rattle.task_index.specs.Contents.{Contents}
+use Rattle.task_index.specs.Due.{meets_deadline, change_first, resolved_at, after_first, turn, turns, first_due, all_due_moments, advance}
+use Rattle.task_index.specs.Ready.{id_serves, is_ready, started, settled}
+use Rattle.task_index.proofs.IdLemmas.{after-holds}
 use Rattle.farm_machine.specs.Changes.{changed, moment_of}
 use Rattle.farm_machine.specs.Entry.{Entry, tick, call, finished, out_of_memory, disk_failed, was_halted}
 use Rattle.farm_machine.specs.Replay.{Restores}

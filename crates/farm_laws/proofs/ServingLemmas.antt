@@ -11,13 +11,13 @@ use Rattle.run_states.proofs.LaterLemmas.{again-later, exceeded-later, expired-l
 use Rattle.run_states.proofs.ServeLemmas.{completed-stays, serves-again, serves-exceeded, serves-expired}
 use Rattle.farm_record.specs.declared.change.Change.{Change}
 use Rattle.farm_record.specs.declared.change.Kind.TheVariants.{Rerun}
-use Rattle.farm_rows.specs.Contents.{Contents}
-use Rattle.farm_rows.specs.Ready.{id_serves, settled}
-use Rattle.farm_rows.specs.Due.{all_due_moments, first_due, meets_deadline, change_first, resolved_at, after_first, turn, turns, advance}
-use Rattle.farm_rows.specs.Changes.{has_id, changed, change_row, applied}
-use Rattle.farm_rows.proofs.IdLemmas.{applied-stays}
-use Rattle.farm_rows.proofs.ReadyLemmas.{AreAlike, settled-alike}
-use Rattle.farm_rows.proofs.TurnLemmas.{deadline-resolved, claim-resolved}
+use Rattle.task_index.specs.Contents.{Contents}
+use Rattle.task_index.specs.Ready.{id_serves, settled}
+use Rattle.task_index.specs.Due.{all_due_moments, first_due, meets_deadline, change_first, resolved_at, after_first, turn, turns, advance}
+use Rattle.task_index.specs.Changes.{has_id, changed, change_row, applied}
+use Rattle.task_index.proofs.IdLemmas.{applied-stays}
+use Rattle.task_index.proofs.ReadyLemmas.{AreAlike, settled-alike}
+use Rattle.task_index.proofs.TurnLemmas.{deadline-resolved, claim-resolved}
 
 -- ---- tasks that serve whom they served
 

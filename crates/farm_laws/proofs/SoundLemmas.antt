@@ -7,13 +7,13 @@ use Rattle.farm_record.specs.declared.change.Kind.{Kind}
 use Rattle.farm_record.specs.declared.change.Kind.TheVariants.{Tick, Create, Schedule, Rerun, Cancel, Claim as TakesRuns, Reclaim, Resolve}
 use Rattle.run_states.specs.Later.{RowsLater}
 use Rattle.run_states.specs.Rows.{Row}
-use Rattle.farm_rows.specs.Changes.{creating, may_apply, applied}
-use Rattle.farm_rows.specs.Contents.{Contents, no_contents, row_with, HaveOwnIds}
-use Rattle.farm_rows.specs.Due.{advance}
-use Rattle.farm_rows.specs.Ready.{has_ready}
+use Rattle.task_index.specs.Changes.{creating, may_apply, applied}
+use Rattle.task_index.specs.Contents.{Contents, no_contents, row_with, HaveOwnIds}
+use Rattle.task_index.specs.Due.{advance}
+use Rattle.task_index.specs.Ready.{has_ready}
 use Rattle.farm_rows.specs.Starts.{starts_once}
-use Rattle.farm_rows.proofs.AdvanceLemmas.{advance-ready, advance-ids, advance-stays}
-use Rattle.farm_rows.proofs.IdLemmas.{may-create, applied-none, applied-ids, applied-stays}
+use Rattle.task_index.proofs.AdvanceLemmas.{advance-ready, advance-ids, advance-stays}
+use Rattle.task_index.proofs.IdLemmas.{may-create, applied-none, applied-ids, applied-stays}
 use Rattle.farm_laws.proofs.StartLemmas.{once-advance, once-applied}
 use Rattle.farm_machine.specs.Laws.{Stands}
 use Rattle.farm_machine.specs.Replay.{may_come, left_by, may_replay, after_replay, replayed, Restores}

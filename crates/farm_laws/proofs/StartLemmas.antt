@@ -21,14 +21,14 @@ use Rattle.farm_record.specs.declared.change.Change.{Change}
 use Rattle.farm_record.specs.declared.change.Kind.{Kind}
 use Rattle.farm_record.specs.declared.change.Kind.TheVariants.{Tick, Create, Schedule, Rerun, Cancel, Claim as TakesRuns, Reclaim, Resolve}
 use Rattle.farm_record.specs.declared.change.RunName.{RunName}
-use Rattle.farm_rows.specs.Contents.{Contents, HaveOwnIds}
-use Rattle.farm_rows.specs.Ready.{is_ready, started, settled}
-use Rattle.farm_rows.specs.Due.{all_due_moments, first_due, meets_deadline, change_first, resolved_at, after_first, turn, turns, advance}
-use Rattle.farm_rows.specs.Changes.{has_id, reason_of, change_row, claim_of, all_claimed, after_kind, applied}
+use Rattle.task_index.specs.Contents.{Contents, HaveOwnIds}
+use Rattle.task_index.specs.Ready.{is_ready, started, settled}
+use Rattle.task_index.specs.Due.{all_due_moments, first_due, meets_deadline, change_first, resolved_at, after_first, turn, turns, advance}
+use Rattle.task_index.specs.Changes.{has_id, reason_of, change_row, claim_of, all_claimed, after_kind, applied}
 use Rattle.farm_rows.specs.Starts.{is_start, starts, more_starts, starts_once, may_start, schedules, starts_by}
-use Rattle.farm_rows.proofs.ReadyLemmas.{some-last, ready-free}
-use Rattle.farm_rows.proofs.IdLemmas.{bytes_eq-other, after-holds}
-use Rattle.farm_rows.proofs.TurnLemmas.{deadline-resolved, claim-resolved}
+use Rattle.task_index.proofs.ReadyLemmas.{some-last, ready-free}
+use Rattle.task_index.proofs.IdLemmas.{bytes_eq-other, after-holds}
+use Rattle.task_index.proofs.TurnLemmas.{deadline-resolved, claim-resolved}
 
 -- ---- runs of which one is changed
 

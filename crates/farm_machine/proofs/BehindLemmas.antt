@@ -7,12 +7,12 @@ use Rattle.farm_record.specs.declared.change.Change.{Change}
 use Rattle.farm_record.specs.declared.change.Kind.{Kind}
 use Rattle.farm_record.specs.declared.change.Kind.TheVariants.{Tick, Create, Schedule, Rerun, Cancel, Claim as TakesRuns, Reclaim, Resolve}
 use Rattle.run_states.specs.Rows.{Row}
-use Rattle.farm_rows.specs.Changes.{may_be, may_apply, after_change, applied}
-use Rattle.farm_rows.specs.Contents.{Contents}
-use Rattle.farm_rows.specs.Due.{is_due, advance}
-use Rattle.farm_rows.specs.Sweep.{all_turns}
-use Rattle.farm_rows.proofs.AdvanceLemmas.{advance-is}
-use Rattle.farm_rows.proofs.TurnLemmas.{with_last, all-last}
+use Rattle.task_index.specs.Changes.{may_be, may_apply, after_change, applied}
+use Rattle.task_index.specs.Contents.{Contents}
+use Rattle.task_index.specs.Due.{is_due, advance}
+use Rattle.task_index.specs.Sweep.{all_turns}
+use Rattle.task_index.proofs.AdvanceLemmas.{advance-is}
+use Rattle.task_index.proofs.TurnLemmas.{with_last, all-last}
 use Rattle.farm_asks.specs.Works.{at_moment}
 
 -- the same rows and next number, and a last moment that is no greater

@@ -5,10 +5,10 @@ use Rattle.farm_record.specs.declared.change.Creation.{Creation}
 use Rattle.farm_record.specs.declared.change.Kind.TheVariants.{Create}
 use Rattle.farm_record.specs.Records.{IsSaid}
 use Rattle.run_states.specs.Rows.{Row}
-use Rattle.farm_rows.specs.Changes.{creating}
+use Rattle.task_index.specs.Changes.{creating}
 use Rattle.farm_record.specs.declared.change.RunName.{RunName}
-use Rattle.farm_rows.specs.Contents.{row_with}
-use Rattle.farm_rows.specs.Picks.{picks}
+use Rattle.task_index.specs.Contents.{row_with}
+use Rattle.task_index.specs.Picks.{picks}
 use Rattle.task_defs.specs.declared.task_def.TaskDef.{TaskDef}
 use Rattle.farm_asks.specs.declared.question.Call.{Call}
 use Rattle.farm_asks.specs.declared.question.Call.TheVariants.{NoRoute, BadParameter, BadBody, Ping, Task, Status, ListTaskGroup, ListDependentTasks, PendingTasks, CreateTask, ClaimWork, ReclaimTask, ReportRun, ScheduleTask, RerunTask, CancelTask, TriggerHook}

@@ -5,8 +5,8 @@ use Rattle.std.proofs.lemmas.Bool.{and_from, leb-false, lt-ltb}
 use Rattle.farm_record.specs.declared.change.Creation.{Creation}
 use Rattle.farm_record.specs.declared.change.Kind.TheVariants.{Create}
 use Rattle.run_states.specs.Rows.{Row}
-use Rattle.farm_rows.specs.Changes.{kept_scheduler, waits_well, may_join}
-use Rattle.farm_rows.specs.Contents.{row_with}
+use Rattle.task_index.specs.Changes.{kept_scheduler, waits_well, may_join}
+use Rattle.task_index.specs.Contents.{row_with}
 use Rattle.farm_rows.specs.Waits.{missing_dependency, early_dependency}
 use Rattle.farm_rows.proofs.WaitLemmas.{waits-well}
 use Rattle.farm_machine.specs.declared.case.Done.TheVariants.{Changes}

@@ -4,9 +4,9 @@ use Rattle.farm_text.specs.Document.{Document, document_text}
 use Rattle.farm_record.specs.declared.change.Change.{Change}
 use Rattle.farm_record.specs.declared.change.Kind.{Kind}
 use Rattle.run_states.specs.Rows.{Row}
-use Rattle.farm_rows.specs.Changes.{applied}
-use Rattle.farm_rows.specs.Contents.{Contents}
-use Rattle.farm_rows.specs.Plans as tasks
+use Rattle.task_index.specs.Changes.{applied}
+use Rattle.task_index.specs.Contents.{Contents}
+use Rattle.task_index.specs.Plans as tasks
 use Rattle.farm_machine.specs.declared.judged.Judged.{Judged}
 use Rattle.farm_asks.specs.declared.works.Telling.{Telling}
 use Rattle.farm_machine.specs.Case.{Setting, changing}

@@ -9,9 +9,9 @@ use Rattle.farm_record.specs.declared.change.Resolution.{Resolution}
 use Rattle.farm_record.specs.declared.change.RunName.{RunName}
 use Rattle.run_states.specs.Rows.{Row, is_unscheduled, is_resolved, is_running_at}
 use Rattle.run_states.specs.Moves.{ended_for_at}
-use Rattle.farm_rows.specs.Changes.{reason_of, may_keep, are_first, may_be, may_apply}
-use Rattle.farm_rows.specs.Contents.{Contents, row_with, HaveOwnIds}
-use Rattle.farm_rows.specs.Picks.{picks}
+use Rattle.task_index.specs.Changes.{reason_of, may_keep, are_first, may_be, may_apply}
+use Rattle.task_index.specs.Contents.{Contents, row_with, HaveOwnIds}
+use Rattle.task_index.specs.Picks.{picks}
 use Rattle.farm_rows.proofs.ShownLemmas.{picks-few, picks-first}
 use Rattle.farm_machine.specs.declared.case.Done.TheVariants.{Reads, Changes}
 use Rattle.farm_asks.specs.declared.config.Config.{Config}

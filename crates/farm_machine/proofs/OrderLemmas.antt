@@ -7,8 +7,8 @@ use Rattle.farm_asks.specs.declared.question.Caller.{Caller}
 use Rattle.farm_asks.specs.declared.reply.Answer.{Answer}
 use Rattle.farm_asks.specs.Access.{Access, Has, Refused, HasAccess}
 use Rattle.farm_record.specs.declared.change.Kind.{Kind}
-use Rattle.farm_rows.specs.Contents.{Contents}
-use Rattle.farm_rows.specs.Plans as tasks
+use Rattle.task_index.specs.Contents.{Contents}
+use Rattle.task_index.specs.Plans as tasks
 use Rattle.farm_machine.specs.declared.judged.Judged.{Judged}
 use Rattle.farm_machine.specs.Case.{Setting, Deed, Rule, Case, passing, changing, IsFirstRule}
 use Rattle.farm_machine.specs.Changes.{changed}

@@ -3,11 +3,11 @@ use Rattle.std.proofs.Common.{◌≡◌, ℕ, Bool, true, false, if◌then◌els
 use Rattle.std.specs.List.{list_any, last_or, slice_get}
 use Rattle.run_states.specs.Rows.{Row}
 use Rattle.run_states.proofs.RunLemmas.{get-last}
-use Rattle.farm_rows.specs.Changes.{kept_scheduler}
-use Rattle.farm_rows.specs.Lists.{is_listed, listed, names_listed, page_rows, has_more}
-use Rattle.farm_rows.specs.declared.lists.Page.{Page}
-use Rattle.farm_rows.specs.declared.lists.TaskList.{TaskList}
-use Rattle.farm_rows.specs.declared.lists.TaskList.TheVariants.{Group}
+use Rattle.task_index.specs.Changes.{kept_scheduler}
+use Rattle.task_index.specs.Lists.{is_listed, listed, names_listed, page_rows, has_more}
+use Rattle.task_index.specs.declared.lists.Page.{Page}
+use Rattle.task_index.specs.declared.lists.TaskList.{TaskList}
+use Rattle.task_index.specs.declared.lists.TaskList.TheVariants.{Group}
 use Rattle.farm_asks.specs.declared.question.PageRequest.{PageRequest}
 use Rattle.farm_machine.specs.Pages.{page_doc, token_behind, page_body}
 

@@ -1,7 +1,7 @@
 -- A call that is judged in the state of its tables is planned.
 use Rattle.std.proofs.Common.{◌≡◌, ℕ, false, List, refl, subst}
-use Rattle.farm_rows.specs.Contents.{Contents}
-use Rattle.farm_rows.specs.Due.{is_due}
+use Rattle.task_index.specs.Contents.{Contents}
+use Rattle.task_index.specs.Due.{is_due}
 use Rattle.farm_asks.specs.declared.config.Config.{Config}
 use Rattle.farm_machine.specs.declared.judged.Judged.{Judged}
 use Rattle.farm_asks.specs.declared.question.Call.{Call}

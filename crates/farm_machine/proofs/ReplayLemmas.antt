@@ -9,10 +9,10 @@ use Rattle.farm_record.specs.declared.change.Change.{Change}
 use Rattle.farm_record.specs.declared.change.Kind.{Kind}
 use Rattle.farm_record.specs.declared.change.Kind.TheVariants.{Tick, Create, Schedule, Rerun, Cancel, Claim as TakesRuns, Reclaim, Resolve}
 use Rattle.farm_record.specs.Records.{tick_at}
-use Rattle.farm_rows.specs.Changes.{may_apply, applied}
-use Rattle.farm_rows.specs.Contents.{Contents, no_contents}
-use Rattle.farm_rows.specs.Due.{is_due, advance}
-use Rattle.farm_rows.proofs.TurnLemmas.{with_last}
+use Rattle.task_index.specs.Changes.{may_apply, applied}
+use Rattle.task_index.specs.Contents.{Contents, no_contents}
+use Rattle.task_index.specs.Due.{is_due, advance}
+use Rattle.task_index.proofs.TurnLemmas.{with_last}
 use Rattle.farm_machine.specs.Changes.{moment_of, reached, changed}
 use Rattle.farm_asks.specs.Questions.{Asking}
 use Rattle.farm_machine.specs.Entry.{Entry, tick, call, finished, out_of_memory, disk_failed, was_halted}

@@ -5,8 +5,8 @@ use Rattle.role_expand.specs.Cycles.{IsAccepted}
 use Rattle.farm_record.specs.declared.change.Creation.{Creation}
 use Rattle.run_states.specs.Rows.{Row, is_unscheduled, is_resolved, is_running_at}
 use Rattle.run_states.specs.Moves.{ended_for_at}
-use Rattle.farm_rows.specs.Changes.{reason_of}
-use Rattle.farm_rows.specs.Contents.{row_with}
+use Rattle.task_index.specs.Changes.{reason_of}
+use Rattle.task_index.specs.Contents.{row_with}
 use Rattle.farm_rows.specs.Waits.{missing_dependency, early_dependency}
 use Rattle.task_defs.specs.declared.task_def.TaskDef.{TaskDef}
 use Rattle.farm_asks.specs.declared.question.Call.{Call}

@@ -4,7 +4,7 @@ use Rattle.farm_record.specs.declared.change.Change.{Change}
 use Rattle.farm_record.specs.declared.change.Kind.{Kind}
 use Rattle.farm_record.specs.declared.change.Kind.TheVariants.{Tick, Create, Schedule, Rerun, Cancel, Claim as TakesRuns, Reclaim, Resolve}
 use Rattle.farm_record.specs.Records.{IsSaid}
-use Rattle.farm_rows.specs.Plans.{Planned}
+use Rattle.task_index.specs.Plans.{Planned}
 use Rattle.farm_machine.specs.declared.judged.Judged.{Judged}
 use Rattle.farm_asks.specs.declared.question.Call.{Call}
 use Rattle.farm_asks.specs.Questions.{Asking}

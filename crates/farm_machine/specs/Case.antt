@@ -7,8 +7,8 @@ use Rattle.call_rules.specs.Policy.{run_name}
 use Rattle.farm_record.specs.declared.change.Change.{Change}
 use Rattle.farm_record.specs.declared.change.Kind.{Kind}
 use Rattle.run_states.specs.Rows.{Row}
-use Rattle.farm_rows.specs.Contents.{Contents, row_with}
-use Rattle.farm_rows.specs.Plans.{named_rows}
+use Rattle.task_index.specs.Contents.{Contents, row_with}
+use Rattle.task_index.specs.Plans.{named_rows}
 use Rattle.farm_asks.specs.declared.reply.Answer.{Answer}
 use Rattle.farm_asks.specs.Replies.{not_found}
 use Rattle.farm_machine.specs.State.{State}

@@ -1,8 +1,8 @@
 -- The moment of a call, and what the tables keep after it.
 use Rattle.std.specs.Prelude.{ℕ, max, Option, Some, None}
 use Rattle.farm_record.specs.declared.change.Change.{Change}
-use Rattle.farm_rows.specs.Changes.{applied}
-use Rattle.farm_rows.specs.Contents.{Contents}
+use Rattle.task_index.specs.Changes.{applied}
+use Rattle.task_index.specs.Contents.{Contents}
 use Rattle.farm_asks.specs.Questions.{Asking}
 
 -- the moment of a call: the greater of the clock's and the last

@@ -2,8 +2,8 @@
 use Rattle.std.specs.Prelude.{◌≡◌, ◌≤◌, true, false, None}
 use Rattle.farm_text.specs.Document.{document_text}
 use Rattle.farm_text.specs.declared.moment.TheConstants.{LAST_TOLD_MOMENT}
-use Rattle.farm_rows.specs.Changes.{may_apply}
-use Rattle.farm_rows.specs.Due.{is_due}
+use Rattle.task_index.specs.Changes.{may_apply}
+use Rattle.task_index.specs.Due.{is_due}
 use Rattle.farm_machine.specs.declared.case.Done.{Done}
 use Rattle.farm_machine.specs.declared.case.Done.TheVariants.{Reads, Changes}
 use Rattle.farm_machine.specs.Case.{Setting, Deed, changing}

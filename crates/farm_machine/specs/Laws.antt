@@ -15,8 +15,8 @@ use Rattle.hook_fire.specs.declared.fault.FireFault.{FireFault}
 use Rattle.hook_fire.specs.declared.fault.FireFault.TheVariants.{NoMemory}
 use Rattle.task_defs.specs.declared.task_def.TaskDef.{TaskDef}
 use Rattle.run_states.specs.Rows.{Row}
-use Rattle.farm_rows.specs.Changes.{creating}
-use Rattle.farm_rows.specs.Contents.{Contents, row_with}
+use Rattle.task_index.specs.Changes.{creating}
+use Rattle.task_index.specs.Contents.{Contents, row_with}
 use Rattle.farm_asks.specs.declared.question.Call.{Call}
 use Rattle.farm_asks.specs.declared.question.Call.TheVariants.{CreateTask, TriggerHook}
 use Rattle.farm_asks.specs.declared.reply.Answer.{Answer}

@@ -4,9 +4,9 @@ use Rattle.std.specs.Prelude.{ℕ, List, [], ◌∷◌, ◌++◌, map, codes, Op
 use Rattle.farm_text.specs.Document.{Document, text, array, object, items_of, members_of}
 use Rattle.farm_text.specs.Slug.{slug_text}
 use Rattle.run_states.specs.Rows.{Row}
-use Rattle.farm_rows.specs.Lists.{listed, names_listed, page_rows, has_more, next_token}
-use Rattle.farm_rows.specs.declared.lists.TaskList.{TaskList}
-use Rattle.farm_rows.specs.declared.lists.TaskList.TheVariants.{Group, Dependants}
+use Rattle.task_index.specs.Lists.{listed, names_listed, page_rows, has_more, next_token}
+use Rattle.task_index.specs.declared.lists.TaskList.{TaskList}
+use Rattle.task_index.specs.declared.lists.TaskList.TheVariants.{Group, Dependants}
 use Rattle.task_statuses.specs.Statuses.{where_some, definition_of, status_of}
 use Rattle.farm_asks.specs.declared.question.PageRequest.{PageRequest}
 use Rattle.farm_asks.specs.declared.reply.Answer.{Answer}

@@ -1,8 +1,8 @@
 -- What a plan holds: the moment of its call, the judgement, and the plan of its change.
 use Rattle.std.specs.Prelude.{◌≡◌, ℕ, false, Option, IfSome, option_map}
-use Rattle.farm_rows.specs.Due.{is_due}
-use Rattle.farm_rows.specs.Contents.{Contents}
-use Rattle.farm_rows.specs.Plans as tasks
+use Rattle.task_index.specs.Due.{is_due}
+use Rattle.task_index.specs.Contents.{Contents}
+use Rattle.task_index.specs.Plans as tasks
 use Rattle.farm_asks.specs.declared.config.Config.{Config}
 use Rattle.farm_machine.specs.declared.judged.Judged.{Judged}
 use Rattle.farm_asks.specs.Questions.{Asking}

@@ -4,9 +4,9 @@ use Rattle.history.specs.Histories.{end_state}
 use Rattle.farm_record.specs.declared.change.Change.{Change}
 use Rattle.farm_record.specs.declared.change.Kind.TheVariants.{Schedule}
 use Rattle.run_states.specs.Rows.{Row}
-use Rattle.farm_rows.specs.Changes.{after_kind}
-use Rattle.farm_rows.specs.Contents.{Contents, HaveOwnIds}
-use Rattle.farm_rows.specs.Ready.{is_ready, id_serves, has_ready}
+use Rattle.task_index.specs.Changes.{after_kind}
+use Rattle.task_index.specs.Contents.{Contents, HaveOwnIds}
+use Rattle.task_index.specs.Ready.{is_ready, id_serves, has_ready}
 use Rattle.farm_rows.specs.Starts.{starts, more_starts, starts_once, may_start, starts_by}
 use Rattle.task_defs.specs.declared.choices.Requires.{Requires}
 use Rattle.farm_machine.specs.Changes.{changed}

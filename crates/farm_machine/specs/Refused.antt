@@ -4,8 +4,8 @@ use Rattle.scope_sets.specs.Expressions.{missing}
 use Rattle.farm_text.specs.Document.{document_text}
 use Rattle.farm_record.specs.declared.change.Change.{Change}
 use Rattle.farm_record.specs.declared.change.Kind.{Kind}
-use Rattle.farm_rows.specs.Contents.{Contents}
-use Rattle.farm_rows.specs.Plans as tasks
+use Rattle.task_index.specs.Contents.{Contents}
+use Rattle.task_index.specs.Plans as tasks
 use Rattle.farm_asks.specs.declared.config.Config.{Config}
 use Rattle.farm_machine.specs.declared.judged.Judged.{Judged}
 use Rattle.farm_asks.specs.declared.question.Caller.{Caller}

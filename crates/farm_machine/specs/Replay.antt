@@ -8,10 +8,10 @@ use Rattle.farm_record.specs.declared.change.Change.{Change}
 use Rattle.farm_record.specs.declared.change.Kind.{Kind}
 use Rattle.farm_record.specs.declared.change.Kind.TheVariants.{Tick}
 use Rattle.farm_record.specs.Records.{tick_at}
-use Rattle.farm_rows.specs.Changes.{may_apply, applied}
-use Rattle.farm_rows.specs.Contents.{Contents, no_contents, HaveOwnIds}
-use Rattle.farm_rows.specs.Due.{is_due, advance}
-use Rattle.farm_rows.specs.Ready.{has_ready}
+use Rattle.task_index.specs.Changes.{may_apply, applied}
+use Rattle.task_index.specs.Contents.{Contents, no_contents, HaveOwnIds}
+use Rattle.task_index.specs.Due.{is_due, advance}
+use Rattle.task_index.specs.Ready.{has_ready}
 use Rattle.farm_rows.specs.Starts.{starts_once}
 use Rattle.farm_asks.specs.Questions.{Asking}
 use Rattle.farm_machine.specs.Entry.{Entry, tick, call, finished}

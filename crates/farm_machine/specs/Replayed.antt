@@ -2,8 +2,8 @@
 use Rattle.std.specs.Prelude.{◌≡◌, ℕ, Bool, true, false}
 use Rattle.farm_record.specs.declared.change.Kind.{Kind}
 use Rattle.farm_record.specs.declared.change.Kind.TheVariants.{Tick}
-use Rattle.farm_rows.specs.Contents.{Contents}
-use Rattle.farm_rows.specs.Due.{advance}
+use Rattle.task_index.specs.Contents.{Contents}
+use Rattle.task_index.specs.Due.{advance}
 use Rattle.farm_machine.specs.Replay.{may_tick}
 
 -- it is a tick

@@ -10,7 +10,7 @@ use Rattle.farm_record.specs.declared.change.RunName.{RunName}
 use Rattle.run_states.specs.declared.run.Claim.{Claim}
 use Rattle.run_states.specs.declared.run.Outcome.{Outcome}
 use Rattle.run_states.specs.declared.run.Run.{Run}
-use Rattle.farm_rows.specs.Contents.{Contents, row_with, HaveOwnIds}
+use Rattle.task_index.specs.Contents.{Contents, row_with, HaveOwnIds}
 use Rattle.farm_asks.specs.Questions.{Asking}
 use Rattle.farm_machine.specs.Entry.{Entry, call, finished}
 use Rattle.farm_machine.specs.Judgement.{Judgement}

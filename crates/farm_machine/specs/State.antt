@@ -1,6 +1,6 @@
 -- The state of a farm, as plain data (the queue service of the Taskcluster reference).
 use Rattle.std.specs.Prelude.{[], Bool, false}
-use Rattle.farm_rows.specs.Contents.{Contents, no_contents}
+use Rattle.task_index.specs.Contents.{Contents, no_contents}
 use Rattle.farm_asks.specs.declared.config.Config.{Config}
 
 -- the state of a farm: how it is set up, what its tables keep, and whether its disk failed

@@ -7,8 +7,8 @@ use Rattle.farm_text.specs.declared.moment.TheConstants.{LAST_TOLD_MOMENT}
 use Rattle.farm_asks.specs.declared.reply.Asked.{Asked}
 use Rattle.farm_asks.specs.declared.reply.Reply.{Reply}
 use Rattle.farm_asks.specs.declared.reply.Reply.TheVariants.{Answered, OutOfMemory, DiskFault, Halted}
-use Rattle.farm_rows.specs.Changes.{may_apply}
-use Rattle.farm_rows.specs.Due.{is_due, advance}
+use Rattle.task_index.specs.Changes.{may_apply}
+use Rattle.task_index.specs.Due.{is_due, advance}
 use Rattle.farm_machine.specs.Changes.{moment_of, reached, changed}
 use Rattle.farm_asks.specs.Questions.{Asking}
 use Rattle.farm_machine.specs.Entry.{Outcome, finished, out_of_memory, disk_failed, was_halted, Entry, tick, call}

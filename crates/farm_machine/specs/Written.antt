@@ -2,7 +2,7 @@
 use Rattle.std.specs.Prelude.{ℕ, List, Option, Some, None}
 use Rattle.farm_record.specs.declared.change.Change.{Change}
 use Rattle.farm_record.specs.Records.{IsSpelled, IsRecord, IsSaid}
-use Rattle.farm_rows.specs.Plans.{Planned}
+use Rattle.task_index.specs.Plans.{Planned}
 
 -- the text is what is written of a change, from which it can be read where some document says it
 pub record IsWritten (change : Change) (text : List ℕ) : Type 0 where

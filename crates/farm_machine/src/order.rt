@@ -1,7 +1,7 @@
 //! The one order of refusals, for every call that asks something.
 ghost use Rattle.std.specs.Prelude.{◌≡◌, ◌&&◌, nat_le, min, length, true, Some, None, IfOk, option_map};
 ghost use Rattle.farm_text.specs.Document.{document_text};
-ghost use Rattle.farm_rows.specs.Changes.{may_apply};
+ghost use Rattle.task_index.specs.Changes.{may_apply};
 ghost use Rattle.farm_asks.specs.declared.question.Caller.{Caller};
 ghost use Rattle.farm_asks.specs.Access.{Has, HasAccess};
 ghost use Rattle.farm_machine.specs.Case.{changing};

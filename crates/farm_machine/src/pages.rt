@@ -10,11 +10,11 @@ use crate::case::Scene;
 use farm_asks::answers;
 use farm_asks::question::{PageRequest, Parameter};
 use farm_asks::reply::Answer;
-use farm_rows::{Page, TaskList};
 use farm_text::{SlugId, Text};
 use json::Writer;
 use run_states::TaskRow;
 use std::alloc::{AllocError, Global};
+use task_index::lists::{Page, TaskList};
 use task_statuses::{id_member, write_definition, write_status};
 
 /// The answer where the token of a page names no task of the list.

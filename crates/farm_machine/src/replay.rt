@@ -1,7 +1,7 @@
 //! Replay: the changes that records tell are made again.
 ghost use Rattle.std.specs.Prelude.{◌≡◌};
-ghost use Rattle.farm_rows.specs.Changes.{may_apply, applied};
-ghost use Rattle.farm_rows.specs.Due.{advance};
+ghost use Rattle.task_index.specs.Changes.{may_apply, applied};
+ghost use Rattle.task_index.specs.Due.{advance};
 ghost use Rattle.farm_machine.specs.Replay.{may_tick, may_replay, after_replay, IsTried};
 ghost use Rattle.farm_machine.specs.Replayed.{is_tick, IsTicked};
 

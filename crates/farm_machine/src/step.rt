@@ -2,7 +2,7 @@
 
 ghost use Rattle.std.specs.Prelude.{◌≡◌, ◌≤◌, false, None, IfOk, option_map};
 ghost use Rattle.farm_text.specs.declared.moment.TheConstants.{LAST_TOLD_MOMENT};
-ghost use Rattle.farm_rows.specs.Due.{is_due};
+ghost use Rattle.task_index.specs.Due.{is_due};
 ghost use Rattle.farm_asks.specs.declared.question.Call.{Call as AnyCall};
 ghost use Rattle.farm_machine.specs.Changes.{moment_of as moment_by, changed};
 ghost use Rattle.farm_machine.specs.Deeds.{IsReady};

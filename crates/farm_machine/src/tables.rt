@@ -3,12 +3,12 @@ ghost use Rattle.std.specs.Prelude.{◌≡◌, ◌≤◌, true, false, IfOk, Mat
 ghost use Rattle.std.specs.List.{list_any};
 ghost use Rattle.std.specs.Thread.{IsSend};
 ghost use Rattle.farm_text.specs.declared.moment.TheConstants.{LAST_TOLD_MOMENT};
-ghost use Rattle.farm_rows.specs.Contents.{no_contents, row_with, HaveOwnIds};
-ghost use Rattle.farm_rows.specs.Changes.{on_row, may_apply, applied};
-ghost use Rattle.farm_rows.specs.Due.{is_due, advance};
-ghost use Rattle.farm_rows.specs.Lists.{is_listed, listed, names_listed, page_rows, has_more};
-ghost use Rattle.farm_rows.specs.Picks.{picks, waits_in};
-ghost use Rattle.farm_rows.specs.Plans.{IsPlanOn};
+ghost use Rattle.task_index.specs.Contents.{no_contents, row_with, HaveOwnIds};
+ghost use Rattle.task_index.specs.Changes.{on_row, may_apply, applied};
+ghost use Rattle.task_index.specs.Due.{is_due, advance};
+ghost use Rattle.task_index.specs.Lists.{is_listed, listed, names_listed, page_rows, has_more};
+ghost use Rattle.task_index.specs.Picks.{picks, waits_in};
+ghost use Rattle.task_index.specs.Plans.{IsPlanOn};
 ghost use Rattle.farm_rows.specs.Summary.{summary_of};
 ghost use Rattle.farm_rows.specs.Waits.{missing_dependency, early_dependency};
 ghost use Rattle.farm_machine.specs.contracts.tables.Tables.{the_row};
@@ -16,14 +16,13 @@ ghost use Rattle.farm_machine.specs.Calls.CreateTask.{scheduler_besides};
 ghost use Rattle.farm_machine.specs.Changes.{reached};
 
 use farm_record::{Change, Creation, RunName};
-use farm_rows::{
-    Page, Summary, TaskList, TaskPlan, TaskTables, one_name_is_one_queue, tables_cross_threads,
-};
+use farm_rows::{Summary, TaskPlan, TaskTables, one_name_is_one_queue, tables_cross_threads};
 use farm_text::{Moment, SlugId};
 use run_states::TaskRow;
 use std::alloc::{AllocError, Global};
 use std::marker::Model;
 use task_defs::{Identifier, TaskQueue};
+use task_index::lists::{Page, TaskList};
 
 /// What a farm keeps: its tasks in the order of their creation, the last moment, and the next number.
 #[derive(Drop)]
@@ -34,7 +33,7 @@ pub struct Tables {
 impl Model for Tables {
     ghost use Rattle.std.specs.Coded.{codes};
     ghost use Rattle.task_defs.specs.Codes.{members_code};
-    ghost use Rattle.farm_rows.specs.Contents.{Contents};
+    ghost use Rattle.task_index.specs.Contents.{Contents};
 
     ghost Value = { Contents };
 

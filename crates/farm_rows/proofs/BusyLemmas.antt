@@ -14,15 +14,15 @@ use Rattle.run_states.proofs.LaterLemmas.{scheduled-later, again-later, canceled
 use Rattle.farm_record.specs.declared.change.RunName.{RunName}
 use Rattle.farm_rows.specs.declared.plan.Deed.{Deed}
 use Rattle.farm_rows.specs.declared.plan.Deed.TheVariants.{Create, Schedule, Rerun, Cancel, Claim as TakesRuns, Reclaim, Resolve}
-use Rattle.farm_rows.specs.Contents.{Contents, row_with, HaveOwnIds}
-use Rattle.farm_rows.specs.Changes.{on_row, change_row, reason_of, claim_of, may_keep, are_first, may_be}
-use Rattle.farm_rows.specs.Ready.{is_ready, started, settled}
+use Rattle.task_index.specs.Contents.{Contents, row_with, HaveOwnIds}
+use Rattle.task_index.specs.Changes.{on_row, change_row, reason_of, claim_of, may_keep, are_first, may_be}
+use Rattle.task_index.specs.Ready.{is_ready, started, settled}
 use Rattle.farm_rows.specs.Deeds.{kind_of, row_of, rows_after}
-use Rattle.farm_rows.specs.Picks.{is_same_queue, pick, names_last, are_picks, without}
-use Rattle.farm_rows.specs.Plans.{names_of, rows_with}
+use Rattle.task_index.specs.Picks.{is_same_queue, pick, names_last, are_picks, without}
+use Rattle.task_index.specs.Plans.{names_of, rows_with}
 use Rattle.farm_rows.proofs.ChangeLemmas.{found}
-use Rattle.farm_rows.proofs.IdLemmas.{claimed-stays}
-use Rattle.farm_rows.proofs.ReadyLemmas.{some-last, scheduled-busy, later-busy, ready-free}
+use Rattle.task_index.proofs.IdLemmas.{claimed-stays}
+use Rattle.task_index.proofs.ReadyLemmas.{some-last, scheduled-busy, later-busy, ready-free}
 use Rattle.farm_rows.proofs.ShownLemmas.{Keeps, changed-found, pick-one, each-without, Stands, each-stands}
 
 -- ---- a task with runs stays as the tasks settle

@@ -12,18 +12,18 @@ use Rattle.run_states.specs.Moves.{may_rerun, run_again, canceled, claimed, recl
 use Rattle.farm_record.specs.declared.change.RunName.{RunName}
 use Rattle.farm_rows.specs.declared.plan.Deed.{Deed}
 use Rattle.farm_rows.specs.declared.plan.Deed.TheVariants.{Create, Schedule, Rerun, Cancel, Claim as TakesRuns, Reclaim, Resolve}
-use Rattle.farm_rows.specs.Contents.{Contents, row_with}
-use Rattle.farm_rows.specs.Ready.{is_ready, has_ready, started, settled}
-use Rattle.farm_rows.specs.Due.{is_due, draws}
-use Rattle.farm_rows.specs.Changes.{on_row, may_be, may_apply, has_id, change_row, reason_of, claim_of, all_claimed, applied}
+use Rattle.task_index.specs.Contents.{Contents, row_with}
+use Rattle.task_index.specs.Ready.{is_ready, has_ready, started, settled}
+use Rattle.task_index.specs.Due.{is_due, draws}
+use Rattle.task_index.specs.Changes.{on_row, may_be, may_apply, has_id, change_row, reason_of, claim_of, all_claimed, applied}
 use Rattle.farm_rows.specs.Deeds.{kind_of, change_of, row_of, rows_after, drawn_by}
-use Rattle.farm_rows.specs.Plans.{room_for}
-use Rattle.farm_rows.specs.Sweep.{numbered, runs_made, fits, IsKept}
+use Rattle.task_index.specs.Plans.{room_for}
+use Rattle.task_index.specs.Sweep.{numbered, runs_made, fits, IsKept}
 use Rattle.run_states.proofs.LaterLemmas.{scheduled-later, again-later, canceled-later, reclaimed-later, resolved-later}
-use Rattle.farm_rows.proofs.DueLemmas.{change-length, change-ids}
+use Rattle.task_index.proofs.DueLemmas.{change-length, change-ids}
 use Rattle.farm_rows.proofs.StepLemmas.{scheduled-fits, scheduled-more, settled-fits, settled-made, settled-numbered}
-use Rattle.farm_rows.proofs.ReadyLemmas.{settled-none, settled-ids, settled-length, settled-last}
-use Rattle.farm_rows.proofs.IdLemmas.{claimed-ids}
+use Rattle.task_index.proofs.ReadyLemmas.{settled-none, settled-ids, settled-length, settled-last}
+use Rattle.task_index.proofs.IdLemmas.{claimed-ids}
 use Rattle.farm_rows.proofs.FitLemmas.{change-fits, change-made, found-made, again-fits, again-more, finished-fits, canceled-more, claimed-fits, claimed-more, reclaimed-fits, reclaimed-more, resolved-fits, resolved-more, draws-few}
 
 -- the contents of these parts

@@ -4,13 +4,13 @@ use Rattle.std.proofs.lemmas.List.Sums.{sum_by_push}
 use Rattle.task_defs.specs.declared.task_def.TaskDef.{TaskDef}
 use Rattle.run_states.specs.Rows.{Row, new_row, scheduled}
 use Rattle.farm_record.specs.declared.change.Creation.{Creation}
-use Rattle.farm_rows.specs.Contents.{Contents}
-use Rattle.farm_rows.specs.Ready.{is_ready, has_ready, settled_row, settled}
-use Rattle.farm_rows.specs.Changes.{creating, applied}
-use Rattle.farm_rows.proofs.Settling.{one_if}
-use Rattle.farm_rows.specs.Sweep.{fits}
+use Rattle.task_index.specs.Contents.{Contents}
+use Rattle.task_index.specs.Ready.{is_ready, has_ready, settled_row, settled}
+use Rattle.task_index.specs.Changes.{creating, applied}
+use Rattle.task_index.proofs.Settling.{one_if}
+use Rattle.task_index.specs.Sweep.{fits}
 use Rattle.farm_rows.proofs.FitLemmas.{fits-of}
-use Rattle.farm_rows.proofs.ReadyLemmas.{ready-more, count-same, count-none, settled-more}
+use Rattle.task_index.proofs.ReadyLemmas.{ready-more, count-same, count-none, settled-more}
 
 -- what fits of a new task, and how many runs it has
 pub record NewRow (contents : Contents) (at : ℕ) (id : List ℕ) (definition : TaskDef) : Type 0 where

@@ -6,8 +6,8 @@ use Rattle.std.proofs.MapsCrossing as maps
 use Rattle.claim_queue.specs.contracts.due_rows.DueRows as held
 use Rattle.claim_queue.specs.contracts.due_rows.DueRows.TheInside.{the_type as held_type}
 use Rattle.run_states.specs.contracts.row.TaskRow as rows
-use Rattle.farm_rows.specs.contracts.dues.Dues as dues
-use Rattle.farm_rows.specs.contracts.index.Index as indexes
+use Rattle.task_index.specs.contracts.dues.Dues as dues
+use Rattle.task_index.specs.contracts.index.Index as indexes
 use Rattle.farm_rows.specs.contracts.tables.TaskTables.{the_row}
 use Rattle.farm_rows.specs.contracts.tables.TaskTables.TheInside.{the_type as inside_type}
 use Rattle.farm_rows.proofs.GraphCrossing.{dependencies_send}

@@ -14,8 +14,8 @@ use Rattle.run_states.specs.Reasons.{retry_after}
 use Rattle.run_states.specs.Runs.{ended, kept, taken, pending_run, change_last, change_at}
 use Rattle.run_states.specs.Rows.{Row, is_resolved, is_pending, is_running_at, loses_claim, runs_finished, finished}
 use Rattle.run_states.specs.Moves.{retried, closed, expired, may_rerun, run_again, claimed, reclaimed, resolved, canceled}
-use Rattle.farm_rows.specs.Due.{change_first, draws}
-use Rattle.farm_rows.specs.Sweep.{runs_made, fits}
+use Rattle.task_index.specs.Due.{change_first, draws}
+use Rattle.task_index.specs.Sweep.{runs_made, fits}
 
 -- ---- lists of which one is changed
 

@@ -14,10 +14,10 @@ use Rattle.dep_graph.specs.contracts.waits.Waits as waits
 use Rattle.dep_graph.specs.contracts.graph.Addition as addition
 use Rattle.dep_graph.specs.contracts.graph.Graph as graph
 use Rattle.dep_graph.specs.contracts.graph.Graph.TheInside.{the_type as graph_type}
-use Rattle.farm_rows.specs.contracts.dependencies.noted.Noted as noted
-use Rattle.farm_rows.specs.contracts.dependencies.noted.Noted.TheInside.{the_type as noted_type}
-use Rattle.farm_rows.specs.contracts.dependencies.DependencyGraph.{the_row}
-use Rattle.farm_rows.specs.contracts.dependencies.DependencyGraph.TheInside.{the_type as inside_type}
+use Rattle.task_index.specs.contracts.dependencies.noted.Noted as noted
+use Rattle.task_index.specs.contracts.dependencies.noted.Noted.TheInside.{the_type as noted_type}
+use Rattle.task_index.specs.contracts.dependencies.DependencyGraph.{the_row}
+use Rattle.task_index.specs.contracts.dependencies.DependencyGraph.TheInside.{the_type as inside_type}
 
 node_send : IsSend node.the_row
 node_send = view_send _ _ _ _ _ (declared_send node_type (

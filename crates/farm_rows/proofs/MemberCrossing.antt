@@ -6,10 +6,10 @@ use Rattle.std.proofs.MapsCrossing as maps
 use Rattle.task_groups.specs.contracts.group.Group as group
 use Rattle.task_groups.specs.contracts.groups.Groups as groups
 use Rattle.task_groups.specs.contracts.groups.Groups.TheInside.{the_type as groups_type}
-use Rattle.farm_rows.specs.contracts.members.noted.Noted as noted
-use Rattle.farm_rows.specs.contracts.members.noted.Noted.TheInside.{the_type as noted_type}
-use Rattle.farm_rows.specs.contracts.members.Members.{the_row}
-use Rattle.farm_rows.specs.contracts.members.Members.TheInside.{the_type as inside_type}
+use Rattle.task_index.specs.contracts.members.noted.Noted as noted
+use Rattle.task_index.specs.contracts.members.noted.Noted.TheInside.{the_type as noted_type}
+use Rattle.task_index.specs.contracts.members.Members.{the_row}
+use Rattle.task_index.specs.contracts.members.Members.TheInside.{the_type as inside_type}
 
 group_send : IsSend group.the_row
 group_send = declared_send group.the_type (search (crosses, maps.crosses, sendable) depth 60 fits 50000)

@@ -2,10 +2,10 @@
 use denote.Param.Send.{IsSend, sendable, view_send}
 use denote.Param.SendFields.{declared_send}
 use Rattle.std.proofs.Crossing.{crosses}
-use Rattle.farm_rows.specs.contracts.place_lists.kept.TaskPlaces as kept
-use Rattle.farm_rows.specs.contracts.place_lists.kept.TaskPlaces.TheInside.{the_type as kept_type}
-use Rattle.farm_rows.specs.contracts.place_lists.PlaceLists.{the_row}
-use Rattle.farm_rows.specs.contracts.place_lists.PlaceLists.TheInside.{the_type as inside_type}
+use Rattle.task_index.specs.contracts.place_lists.kept.TaskPlaces as kept
+use Rattle.task_index.specs.contracts.place_lists.kept.TaskPlaces.TheInside.{the_type as kept_type}
+use Rattle.task_index.specs.contracts.place_lists.PlaceLists.{the_row}
+use Rattle.task_index.specs.contracts.place_lists.PlaceLists.TheInside.{the_type as inside_type}
 
 kept_send : IsSend kept.the_row
 kept_send = view_send _ _ _ _ _ (declared_send kept_type (search (crosses, sendable) depth 60 fits 50000))

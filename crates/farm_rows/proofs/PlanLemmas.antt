@@ -6,14 +6,14 @@ use Rattle.farm_record.specs.declared.change.Creation.{Creation}
 use Rattle.farm_record.specs.declared.change.Kind.TheVariants as kinds
 use Rattle.farm_rows.specs.declared.plan.Deed.{Deed}
 use Rattle.farm_rows.specs.declared.plan.Deed.TheVariants.{Create, Schedule, Rerun, Cancel, Claim as TakesRuns, Reclaim, Resolve}
-use Rattle.farm_rows.specs.Contents.{Contents, HaveOwnIds}
-use Rattle.farm_rows.specs.Changes.{creating, may_apply}
-use Rattle.farm_rows.specs.Ready.{is_ready, has_ready, settled_row}
+use Rattle.task_index.specs.Contents.{Contents, HaveOwnIds}
+use Rattle.task_index.specs.Changes.{creating, may_apply}
+use Rattle.task_index.specs.Ready.{is_ready, has_ready, settled_row}
 use Rattle.farm_rows.specs.Deeds.{kind_of, change_of, row_of, shown_of, rows_after, planned_of}
-use Rattle.farm_rows.specs.Plans.{Planned, Room, names_of, rows_with, named_rows, FindsRoom, IsPlanOn}
+use Rattle.task_index.specs.Plans.{Planned, Room, names_of, rows_with, named_rows, FindsRoom, IsPlanOn}
 use Rattle.farm_rows.proofs.BusyLemmas.{AreBusy, settled-shown, deed-busy}
 use Rattle.farm_rows.proofs.ChangeLemmas.{may-is, unsettled, rows-applied}
-use Rattle.farm_rows.proofs.IdLemmas.{created-stands}
+use Rattle.task_index.proofs.IdLemmas.{created-stands}
 use Rattle.farm_rows.proofs.ShownLemmas.{deed-shown}
 
 -- ---- a change of tasks that stand

@@ -8,7 +8,7 @@ use Rattle.farm_text.specs.contracts.text.Text.TheInside.{the_type as text_type}
 use Rattle.claim_queue.specs.contracts.queues.Queue as rooms
 use Rattle.claim_queue.specs.contracts.pending.Pending as pending
 use Rattle.claim_queue.specs.contracts.pending.Pending.TheInside.{the_type as pending_type}
-use Rattle.farm_rows.specs.contracts.queues.Queues.{the_row, the_type}
+use Rattle.task_index.specs.contracts.queues.Queues.{the_row, the_type}
 
 text_send : IsSend texts.the_row
 text_send = view_send _ _ _ _ _ (declared_send text_type (search (crosses, sendable) depth 40 fits 50000, tt))

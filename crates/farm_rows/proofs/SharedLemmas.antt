@@ -1,10 +1,10 @@
 -- What all turns leave, in code.
 use Rattle.std.proofs.Common.{◌≡◌, ℕ, false, map, bytes_eq, ap, sym, ◌∙◌, subst}
 use Rattle.std.specs.List.{IsDistinct}
-use Rattle.farm_rows.specs.Contents.{Contents, HaveOwnIds}
-use Rattle.farm_rows.specs.Ready.{has_ready}
-use Rattle.farm_rows.specs.Sweep.{all_turns}
-use Rattle.farm_rows.proofs.TurnLemmas.{all-ids, all-none}
+use Rattle.task_index.specs.Contents.{Contents, HaveOwnIds}
+use Rattle.task_index.specs.Ready.{has_ready}
+use Rattle.task_index.specs.Sweep.{all_turns}
+use Rattle.task_index.proofs.TurnLemmas.{all-ids, all-none}
 
 -- all turns leave each task its id
 pub all-own : (before after : Contents) (moment : ℕ) → all_turns before moment ≡ after → HaveOwnIds before.rows → HaveOwnIds after.rows

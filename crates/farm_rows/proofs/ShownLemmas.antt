@@ -15,11 +15,11 @@ use Rattle.run_states.proofs.LaterLemmas.{scheduled-later, again-later, claimed-
 use Rattle.farm_record.specs.declared.change.RunName.{RunName}
 use Rattle.farm_rows.specs.declared.plan.Deed.{Deed}
 use Rattle.farm_rows.specs.declared.plan.Deed.TheVariants.{Create, Schedule, Rerun, Cancel, Claim as TakesRuns, Reclaim, Resolve}
-use Rattle.farm_rows.specs.Contents.{Contents, row_with, HaveOwnIds}
-use Rattle.farm_rows.specs.Changes.{change_row, reason_of, claim_of, all_claimed, may_keep, are_first, may_be}
+use Rattle.task_index.specs.Contents.{Contents, row_with, HaveOwnIds}
+use Rattle.task_index.specs.Changes.{change_row, reason_of, claim_of, all_claimed, may_keep, are_first, may_be}
 use Rattle.farm_rows.specs.Deeds.{kind_of, rows_after}
-use Rattle.farm_rows.specs.Picks.{is_same_queue, waits_in, goes_before, better, pick, picks, last_name, names_last, are_picks, without}
-use Rattle.farm_rows.specs.Plans.{rows_with, named_rows}
+use Rattle.task_index.specs.Picks.{is_same_queue, waits_in, goes_before, better, pick, picks, last_name, names_last, are_picks, without}
+use Rattle.task_index.specs.Plans.{rows_with, named_rows}
 
 -- ---- a change of one task
 

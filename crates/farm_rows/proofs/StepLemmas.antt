@@ -7,15 +7,15 @@ use Rattle.run_states.specs.declared.reasons.ReasonResolved.TheVariants.{ClaimEx
 use Rattle.run_states.specs.declared.run.Run.{Run}
 use Rattle.run_states.specs.Rows.{Row, is_unscheduled, loses_claim, exceeded, first_run, scheduled}
 use Rattle.run_states.specs.Moves.{closed, expired}
-use Rattle.farm_rows.specs.Contents.{Contents}
-use Rattle.farm_rows.specs.Ready.{is_ready, started, settled}
-use Rattle.farm_rows.proofs.Settling.{one_if}
-use Rattle.farm_rows.specs.Due.{meets_deadline, change_first, draws, resolved_at}
-use Rattle.farm_rows.specs.Sweep.{numbered, runs_made, fits}
-use Rattle.farm_rows.proofs.DueLemmas.{any_none}
+use Rattle.task_index.specs.Contents.{Contents}
+use Rattle.task_index.specs.Ready.{is_ready, started, settled}
+use Rattle.task_index.proofs.Settling.{one_if}
+use Rattle.task_index.specs.Due.{meets_deadline, change_first, draws, resolved_at}
+use Rattle.task_index.specs.Sweep.{numbered, runs_made, fits}
+use Rattle.task_index.proofs.DueLemmas.{any_none}
 use Rattle.farm_rows.proofs.FitLemmas.{fits-of, fit-of, finished-fits, finished-more, expired-fits, closed-is, change-fits, change-made}
-use Rattle.farm_rows.proofs.ReadyLemmas.{count-cons, ready-free, some-last}
-use Rattle.farm_rows.proofs.TurnLemmas.{deadline-resolved, claim-resolved}
+use Rattle.task_index.proofs.ReadyLemmas.{count-cons, ready-free, some-last}
+use Rattle.task_index.proofs.TurnLemmas.{deadline-resolved, claim-resolved}
 
 -- ---- a task that is scheduled
 

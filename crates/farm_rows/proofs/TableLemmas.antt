@@ -11,22 +11,22 @@ use Rattle.std.proofs.Math.ListN.{length-append}
 use Rattle.farm_text.specs.declared.moment.TheConstants.{LAST_TOLD_MOMENT}
 use Rattle.run_states.specs.Rows.{Row, new_row, due_moments}
 use Rattle.farm_record.specs.declared.change.Creation.{Creation}
-use Rattle.farm_rows.specs.Contents.{Contents, row_with, HaveOwnIds}
-use Rattle.farm_rows.specs.Ready.{is_ready, settled_row}
-use Rattle.farm_rows.proofs.Settling.{one_if}
-use Rattle.farm_rows.specs.Due.{all_due_moments, is_due, advance}
-use Rattle.farm_rows.specs.Changes.{creating, applied}
-use Rattle.farm_rows.specs.Plans.{Room, room_for, HasRoomOn, lists_of, IsPlanOn}
+use Rattle.task_index.specs.Contents.{Contents, row_with, HaveOwnIds}
+use Rattle.task_index.specs.Ready.{is_ready, settled_row}
+use Rattle.task_index.proofs.Settling.{one_if}
+use Rattle.task_index.specs.Due.{all_due_moments, is_due, advance}
+use Rattle.task_index.specs.Changes.{creating, applied}
+use Rattle.task_index.specs.Plans.{Room, room_for, HasRoomOn, lists_of, IsPlanOn}
 use Rattle.farm_rows.specs.Deeds.{planned_of}
 use Rattle.farm_rows.specs.declared.plan.Deed.TheVariants.{Create}
-use Rattle.farm_rows.specs.Sweep.{numbered, all_turns, runs_made, fits, IsKept}
-use Rattle.farm_rows.proofs.AdvanceLemmas.{advance-is}
+use Rattle.task_index.specs.Sweep.{numbered, all_turns, runs_made, fits, IsKept}
+use Rattle.task_index.proofs.AdvanceLemmas.{advance-is}
 use Rattle.farm_rows.proofs.CreateLemmas.{new-is, created-applied}
-use Rattle.farm_rows.specs.Dependencies.{ids_of, depends_on_these}
-use Rattle.farm_rows.proofs.ComingLemmas.{well-stand}
-use Rattle.farm_rows.proofs.IdLemmas.{may-create, may-wait, created-stands, created-ids}
-use Rattle.farm_rows.proofs.RoomLemmas.{room-enough, greater-room}
-use Rattle.farm_rows.proofs.TurnLemmas.{with_last, idle-first, all-idle, all-last, all-keeps}
+use Rattle.task_index.specs.Dependencies.{ids_of, depends_on_these}
+use Rattle.task_index.proofs.ComingLemmas.{well-stand}
+use Rattle.task_index.proofs.IdLemmas.{may-create, may-wait, created-stands, created-ids}
+use Rattle.task_index.proofs.RoomLemmas.{room-enough, greater-room}
+use Rattle.task_index.proofs.TurnLemmas.{with_last, idle-first, all-idle, all-last, all-keeps}
 
 -- the contents of these parts
 abbrev pub contents_of : List Row → ℕ → ℕ → Contents
@@ -51,18 +51,6 @@ tick-advances before after moment reached turns is =
     let max_is : reached ≡ max before.last moment = is ∙ ap (λ l. max l moment) last in
     ap (λ (c : Contents). contents_of c.rows reached c.next) turns
     ∙ (ap (λ l. contents_of (all_turns before moment).rows l (all_turns before moment).next) max_is ∙ sym (advance-is before moment))
-
--- ---- what falls due first, with one task more
-
-reduce-join : (xs ys : List ℕ) → reduce min (option_to_list (reduce min xs) ++ ys) ≡ reduce min (xs ++ ys)
-reduce-join [] ys = refl
-reduce-join (x ∷ xs) ys = ap Some (sym (fold-append min x xs ys))
-
-pub soonest-more : (rows : List Row) (row : Row) → reduce min (all_due_moments (rows ++ row ∷ [])) ≡ reduce min (option_to_list (reduce min (all_due_moments rows)) ++ due_moments row)
-soonest-more rows row =
-    let all : all_due_moments (rows ++ row ∷ []) ≡ all_due_moments rows ++ due_moments row =
-    flat_map-append due_moments rows (row ∷ []) ∙ ap (λ (ds : List ℕ). all_due_moments rows ++ ds) (append-nil (due_moments row)) in
-    ap (reduce min) all ∙ sym (reduce-join (all_due_moments rows) (due_moments row))
 
 -- ---- a task more
 
@@ -144,13 +132,3 @@ applied-made contents rows new last next at row same none made is =
     ap (λ (rs : List Row). contents_of rs at (next + length row.runs)) (made ∙ ap (λ (r : Row). rows ++ r ∷ []) is)
     ∙ (ap (λ n. contents_of (rows ++ settled_row here at (new_row row.id row.definition) ∷ []) at (next + n)) count
     ∙ (sym (created-applied here at creation none) ∙ ap (λ (c : Contents). applied c (creating at creation)) same))
-
--- ---- loops over the tasks
-
-more-rows : (rows : List Row) (i : ℕ) (item : Row) → i < length rows → item ≡ get_or rows i item → take (i + 1) rows ≡ take i rows ++ item ∷ []
-more-rows rows i item lt is = take_more rows i item lt ∙ ap (λ (r : Row). take i rows ++ r ∷ []) (sym is)
-
-pub soonest-step : (rows : List Row) (i : ℕ) (item : Row) (so_far then : Option ℕ) → i < length rows → so_far ≡ reduce min (all_due_moments (take i rows)) → then ≡ reduce min (option_to_list so_far ++ due_moments item) → item ≡ get_or rows i item
-    → then ≡ reduce min (all_due_moments (take (i + 1) rows))
-soonest-step rows i item so_far then lt is earlier here =
-    earlier ∙ (ap (λ (o : Option ℕ). reduce min (option_to_list o ++ due_moments item)) is ∙ (sym (soonest-more (take i rows) item) ∙ ap (λ (rs : List Row). reduce min (all_due_moments rs)) (sym (more-rows rows i item lt here))))

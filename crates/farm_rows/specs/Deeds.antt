@@ -6,10 +6,10 @@ use Rattle.run_states.specs.Moves.{run_again, canceled, reclaimed, resolved}
 use Rattle.farm_record.specs.declared.change.Change.{Change}
 use Rattle.farm_record.specs.declared.change.Kind.{Kind}
 use Rattle.farm_record.specs.declared.change.Kind.TheVariants as kinds
-use Rattle.farm_rows.specs.Contents.{row_with}
-use Rattle.farm_rows.specs.Due.{draws}
-use Rattle.farm_rows.specs.Changes.{change_row, reason_of, claim_of, all_claimed}
-use Rattle.farm_rows.specs.Plans.{Planned, Room}
+use Rattle.task_index.specs.Contents.{row_with}
+use Rattle.task_index.specs.Due.{draws}
+use Rattle.task_index.specs.Changes.{change_row, reason_of, claim_of, all_claimed}
+use Rattle.task_index.specs.Plans.{Planned, Room}
 use Rattle.farm_rows.specs.declared.plan.Deed.{Deed}
 use Rattle.farm_rows.specs.declared.plan.Deed.TheVariants as deeds
 

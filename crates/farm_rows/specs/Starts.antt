@@ -6,7 +6,7 @@ use Rattle.run_states.specs.declared.reasons.ReasonCreated.TheVariants.{Schedule
 use Rattle.run_states.specs.Rows.{Row, is_unscheduled}
 use Rattle.farm_record.specs.declared.change.Kind.{Kind}
 use Rattle.farm_record.specs.declared.change.Kind.TheVariants.{Tick, Create, Schedule}
-use Rattle.farm_rows.specs.Changes.{has_id}
+use Rattle.task_index.specs.Changes.{has_id}
 
 -- a run that is made for this reason is made as its task is scheduled
 abbrev pub is_start : ReasonCreated → Bool

@@ -4,7 +4,7 @@ use Rattle.std.specs.Prelude.{ℕ, Bool, false, not, ◌&&◌, nat_lt, List, fin
 use Rattle.std.specs.Option.{option_map_or}
 use Rattle.run_states.specs.Rows.{Row}
 use Rattle.farm_record.specs.declared.change.Creation.{Creation}
-use Rattle.farm_rows.specs.Contents.{row_with}
+use Rattle.task_index.specs.Contents.{row_with}
 
 -- a task that the new one waits for is not the task itself, and does not stand
 abbrev pub is_missing : Creation → List Row → List ℕ → Bool

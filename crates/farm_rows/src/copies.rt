@@ -1,6 +1,6 @@
 //! The claims of the runs that a worker takes together.
 ghost use Rattle.std.specs.Prelude.{◌≡◌, length, replicate, IfOk};
-ghost use Rattle.farm_rows.specs.Changes.{claim_of};
+ghost use Rattle.task_index.specs.Changes.{claim_of};
 ghost use Rattle.farm_rows.specs.Deeds.{claims_of};
 
 use crate::plan::Deed;

@@ -4,7 +4,7 @@ ghost use Rattle.std.specs.Thread.{IsSend};
 ghost use Rattle.run_states.specs.Rows.{Row};
 ghost use Rattle.task_defs.specs.Forms.{queue_name};
 ghost use Rattle.farm_rows.specs.contracts.tables.TaskTables.{the_row};
-ghost use Rattle.farm_rows.specs.Picks.{waits_in, waits_under};
+ghost use Rattle.task_index.specs.Picks.{waits_in, waits_under};
 
 use run_states::rows_cross_threads;
 use task_defs::TaskQueue;

@@ -4,38 +4,19 @@
 //! change may be made and what it leaves. A change comes in two steps: `plan` judges it and takes all its memory, `apply` makes it.
 #![tactic(auto)]
 
-mod checks;
 mod copies;
-mod counts;
-mod dependencies;
-mod dues;
-mod index;
 mod laws;
-mod listing;
-mod lists;
-mod members;
 mod moves;
-mod picks;
-mod place_lists;
-mod places;
 mod plan;
-mod queues;
-mod room;
-mod rows;
-mod settle;
 mod shown;
 mod summary;
 mod tables;
 mod turns;
 mod waits;
-mod walks;
 mod work;
 
-pub use counts::RowCounts;
 pub use laws::{one_name_is_one_queue, tables_cross_threads};
-pub use listing::PlacePage;
-pub use lists::{Page, TaskList};
 pub use moves::reason_of;
 pub use plan::TaskPlan;
 pub use summary::Summary;
-pub use tables::{MOST_TASKS, TaskTables};
+pub use tables::TaskTables;

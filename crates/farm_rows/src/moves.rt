@@ -2,15 +2,15 @@
 ghost use Rattle.std.specs.Prelude.{◌≡◌, Some};
 ghost use Rattle.run_states.specs.Rows.{scheduled};
 ghost use Rattle.run_states.specs.Moves.{run_again, canceled, claimed, reclaimed, resolved};
-ghost use Rattle.farm_rows.specs.Contents.{row_with};
-ghost use Rattle.farm_rows.specs.Due.{draws};
-ghost use Rattle.farm_rows.specs.Changes.{change_row, reason_of};
-ghost use Rattle.farm_rows.specs.Indexed.{IsIndexOf};
+ghost use Rattle.task_index.specs.Contents.{row_with};
+ghost use Rattle.task_index.specs.Due.{draws};
+ghost use Rattle.task_index.specs.Changes.{change_row, reason_of};
+ghost use Rattle.task_index.specs.Indexed.{IsIndexOf};
 
-use crate::index::Index;
 use farm_record::{Reclaim, Report, Resolution};
 use farm_text::{Moment, SlugId};
 use run_states::{Claim as RunClaim, ReasonResolved, RunRoom, TaskRow};
+use task_index::index::Index;
 
 /// The task becomes pending, where it is unscheduled.
 pub(crate) fn schedule(rows: &mut [TaskRow], index: &mut Index, id: SlugId, at: Moment, number: u64)

@@ -1,12 +1,14 @@
 //! A change that may be made and has all its memory.
-ghost use Rattle.std.specs.Prelude.{◌≡◌};
+ghost use Rattle.std.specs.Prelude.{◌≡◌, IfOk};
+ghost use Rattle.farm_rows.specs.Deeds.{run_room_of};
 
-use crate::place_lists::room::Room;
 use farm_record::{Claim, Reclaim, Resolution};
 use farm_text::{Moment, SlugId};
 use run_states::{Claim as RunClaim, RunRoom, TaskRow};
+use std::alloc::{AllocError, Global};
 use std::marker::Model;
 use std::slice;
+use task_index::place_lists::room::Room;
 
 /// What is changed.
 #[derive(Drop)]
@@ -40,7 +42,7 @@ impl Model for TaskPlan {
     ghost use Rattle.std.specs.Prelude.{◌≡◌};
     ghost use Rattle.std.specs.Coded.{codes};
     ghost use Rattle.task_defs.specs.Codes.{members_code};
-    ghost use Rattle.farm_rows.specs.Plans.{Planned};
+    ghost use Rattle.task_index.specs.Plans.{Planned};
     ghost use Rattle.farm_rows.specs.Deeds.{claims_of, run_room_of, planned_of};
 
     ghost Value = { Planned };
@@ -66,5 +68,20 @@ impl TaskPlan {
             | Deed::Reclaim(_)
             | Deed::Resolve(_) => &self.rows,
         }
+    }
+}
+
+/// Room for the runs of the task that a change runs again, if it is one that does.
+pub(crate) fn run_room(alloc: Global, deed: &Deed) -> Result<Option<RunRoom>, AllocError>
+    ensures { IfOk result (λ room. room ≡ run_room_of deed.now) }
+{
+    match deed {
+        Deed::Rerun(_) => Ok(Some(RunRoom::make(alloc)?)),
+        Deed::Create(_)
+        | Deed::Schedule(_)
+        | Deed::Cancel(_)
+        | Deed::Claim(_)
+        | Deed::Reclaim(_)
+        | Deed::Resolve(_) => Ok(None),
     }
 }

@@ -1,20 +1,19 @@
 //! The tasks that a change names, as they will be: copies, which share their definitions with the tasks that stand.
 ghost use Rattle.std.specs.Prelude.{◌≡◌, [], ◌∷◌, ◌++◌, map, IfOk, OnOk};
 ghost use Rattle.std.specs.Option.{option_to_list};
-ghost use Rattle.farm_rows.specs.Contents.{row_with};
-ghost use Rattle.farm_rows.specs.Plans.{rows_with, named_rows};
+ghost use Rattle.task_index.specs.Contents.{row_with};
+ghost use Rattle.task_index.specs.Plans.{rows_with, named_rows};
 ghost use Rattle.farm_rows.specs.Deeds.{kind_of, rows_after};
 
 use crate::copies::claims;
-use crate::index::Index;
-use crate::plan::Deed;
-use crate::room::run_room;
-use crate::rows::Rows;
+use crate::plan::{Deed, run_room};
 use crate::work::make;
 use farm_record::RunName;
 use farm_text::{Moment, SlugId};
 use run_states::TaskRow;
 use std::alloc::{AllocError, Global};
+use task_index::index::Index;
+use task_index::rows::Rows;
 
 /// The tasks that a change of tasks that stand names, as they will be, where a new run has this number.
 pub(crate) fn shown(

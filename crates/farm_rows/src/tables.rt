@@ -2,35 +2,22 @@
 ghost use Rattle.std.specs.Prelude.{◌≡◌, ◌↔◌, ◌<◌, ◌≤◌, [], true, false, map, Some, None, length, slice_get, count_by, option_copied, IfOk, IfSome, IsNone, MatchOption};
 ghost use Rattle.std.specs.List.{AllPairs};
 ghost use Rattle.farm_text.specs.declared.moment.TheConstants.{LAST_TOLD_MOMENT};
-ghost use Rattle.farm_rows.specs.Contents.{no_contents, row_with, counts_of, HaveOwnIds};
-ghost use Rattle.farm_rows.specs.Due.{is_due, advance};
-ghost use Rattle.farm_rows.specs.Picks.{waits_under, picks};
-ghost use Rattle.farm_rows.specs.Changes.{on_row, kept_scheduler, may_create, may_be, may_apply, applied};
+ghost use Rattle.task_index.specs.Contents.{no_contents, row_with, counts_of, HaveOwnIds};
+ghost use Rattle.task_index.specs.Due.{is_due, advance};
+ghost use Rattle.task_index.specs.Picks.{waits_under, picks};
+ghost use Rattle.task_index.specs.Changes.{on_row, kept_scheduler, may_create, may_be, may_apply, applied};
 ghost use Rattle.farm_rows.specs.Waits.{missing_dependency, early_dependency};
 ghost use Rattle.task_groups.specs.Pages.{page_rows as page_places, has_more as has_more_places};
-ghost use Rattle.farm_rows.specs.Listing.{places_of};
-ghost use Rattle.farm_rows.specs.Lists.{is_listed, listed, names_listed, page_rows, has_more};
-ghost use Rattle.farm_rows.specs.Plans.{IsPlanOn};
+ghost use Rattle.task_index.specs.Listing.{places_of};
+ghost use Rattle.task_index.specs.Lists.{is_listed, listed, names_listed, page_rows, has_more};
+ghost use Rattle.task_index.specs.Plans.{IsPlanOn};
 ghost use Rattle.farm_rows.specs.Deeds.{change_of, row_of, planned_of, claims_of, run_room_of};
 ghost use Rattle.farm_rows.specs.Summary.{summary_of};
-ghost use Rattle.farm_rows.specs.Sweep.{all_turns};
+ghost use Rattle.task_index.specs.Sweep.{all_turns};
 
 mod plans;
 
-use crate::checks::{
-    is_running, kept_scheduler, may_cancel, may_join, may_keep, may_rerun, may_schedule,
-};
-use crate::counts::RowCounts;
-use crate::index::Index;
-use crate::listing::{PlacePage, page_behind as place_page};
-use crate::lists::{Page, TaskList, lists, page_behind};
-use crate::picks::may_claim;
-use crate::place_lists::PlaceLists;
-use crate::place_lists::coming::keep_listed;
-use crate::place_lists::room::Room;
 use crate::plan::{Deed, TaskPlan};
-use crate::room::add;
-use crate::rows::Rows;
 use crate::summary::{Summary, summary_of};
 use crate::turns::resolve_due;
 use crate::waits::{early_dependency, missing_dependency, waits_well};
@@ -41,9 +28,19 @@ use run_states::{Claim as RunClaim, RunRoom, TaskRow};
 use std::alloc::{AllocError, Global};
 use std::marker::Model;
 use task_defs::{Identifier, TaskQueue};
-
-/// How many tasks stand at most.
-pub const MOST_TASKS: usize = 1_000_000;
+use task_index::checks::{
+    is_running, kept_scheduler, may_cancel, may_join, may_keep, may_rerun, may_schedule,
+};
+use task_index::counts::{MOST_TASKS, RowCounts};
+use task_index::index::Index;
+use task_index::listing::{PlacePage, page_behind as place_page};
+use task_index::lists::{Page, TaskList, lists, page_behind};
+use task_index::picks::may_claim;
+use task_index::place_lists::PlaceLists;
+use task_index::place_lists::coming::keep_listed;
+use task_index::place_lists::room::Room;
+use task_index::room::add;
+use task_index::rows::Rows;
 
 /// The tasks of a farm in the order of their creation, the last moment that was reached, and the number that the next pending run
 /// draws.
@@ -62,8 +59,8 @@ impl Model for TaskTables {
     ghost use Rattle.std.specs.Prelude.{vec_capacity};
     ghost use Rattle.std.specs.Coded.{codes};
     ghost use Rattle.task_defs.specs.Codes.{members_code};
-    ghost use Rattle.farm_rows.specs.Contents.{Contents};
-    ghost use Rattle.farm_rows.specs.Indexed.{AreTables};
+    ghost use Rattle.task_index.specs.Contents.{Contents};
+    ghost use Rattle.task_index.specs.Indexed.{AreTables};
 
     ghost Value = { Contents };
 

@@ -4,15 +4,15 @@ ghost use Rattle.std.specs.List.{list_any, list_all};
 ghost use Rattle.run_states.specs.declared.reasons.ReasonResolved.TheVariants.{ClaimExpired};
 ghost use Rattle.run_states.specs.Rows.{loses_claim, exceeded};
 ghost use Rattle.run_states.specs.Moves.{expired};
-ghost use Rattle.farm_rows.specs.Ready.{settled};
-ghost use Rattle.farm_rows.specs.Due.{meets_deadline, change_first, draws, resolved_at};
-ghost use Rattle.farm_rows.specs.Sweep.{numbered, all_turns, runs_made, fits};
-ghost use Rattle.farm_rows.specs.Indexed.{IsIndexOf};
+ghost use Rattle.task_index.specs.Ready.{settled};
+ghost use Rattle.task_index.specs.Due.{meets_deadline, change_first, draws, resolved_at};
+ghost use Rattle.task_index.specs.Sweep.{numbered, all_turns, runs_made, fits};
+ghost use Rattle.task_index.specs.Indexed.{IsIndexOf};
 
-use crate::index::Index;
-use crate::settle::settle;
 use farm_text::Moment;
 use run_states::TaskRow;
+use task_index::index::Index;
+use task_index::settle::settle;
 
 /// Resolves all that is due at this moment, each at its own moment, after which the tasks settle each time; and answers the number that is
 /// drawn next.

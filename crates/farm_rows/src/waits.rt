@@ -1,13 +1,13 @@
 //! The tasks that a new one waits for.
 ghost use Rattle.std.specs.Prelude.{◌≡◌, nat_le, nat_lt, false, option_copied};
 ghost use Rattle.std.specs.Option.{option_map_or};
-ghost use Rattle.farm_rows.specs.Contents.{row_with};
-ghost use Rattle.farm_rows.specs.Changes.{waits_well};
+ghost use Rattle.task_index.specs.Contents.{row_with};
+ghost use Rattle.task_index.specs.Changes.{waits_well};
 ghost use Rattle.farm_rows.specs.Waits.{is_missing, is_early, missing_dependency, early_dependency};
 
-use crate::rows::Rows;
 use farm_record::Creation;
 use farm_text::{Moment, SlugId};
+use task_index::rows::Rows;
 
 /// Whether each task that a new one waits for stands, and expires no earlier than its deadline; or is the task itself.
 pub(crate) fn waits_well(rows: &Rows<'_>, creation: &Creation) -> bool

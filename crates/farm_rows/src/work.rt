@@ -1,18 +1,18 @@
 //! What a change makes of the tasks that stand. None of it takes memory.
 ghost use Rattle.std.specs.Prelude.{◌≡◌, ◌≤◌, ◌+◌, length, replicate};
-ghost use Rattle.farm_rows.specs.Ready.{settled};
-ghost use Rattle.farm_rows.specs.Sweep.{numbered};
-ghost use Rattle.farm_rows.specs.Changes.{claim_of, all_claimed};
+ghost use Rattle.task_index.specs.Ready.{settled};
+ghost use Rattle.task_index.specs.Sweep.{numbered};
+ghost use Rattle.task_index.specs.Changes.{claim_of, all_claimed};
 ghost use Rattle.farm_rows.specs.Deeds.{rows_after, drawn_by, claims_of, run_room_of};
-ghost use Rattle.farm_rows.specs.Indexed.{IsIndexOf};
+ghost use Rattle.task_index.specs.Indexed.{IsIndexOf};
 
-use crate::index::Index;
 use crate::moves::{cancel, claim, drawn, reclaim, rerun, resolve, schedule};
 use crate::plan::Deed;
-use crate::settle::settle;
 use farm_record::{Claim, Resolution};
 use farm_text::{Moment, SlugId};
 use run_states::{Claim as RunClaim, RunRoom, TaskRow};
+use task_index::index::Index;
+use task_index::settle::settle;
 
 /// Makes a change of the tasks that stand, and answers how many numbers it draws.
 pub(crate) fn make(

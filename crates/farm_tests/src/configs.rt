@@ -11,3 +11,11 @@ pub(crate) fn config_of(alloc: Global, file: &str) -> Result<Config, Fail> {
         Err(_) => Err(Fail::from("the file has a fault")),
     }
 }
+
+/// The configuration of a farm that takes so many tasks, where whoever gives no credentials has these scopes, a list of TOML.
+pub(crate) fn granting(alloc: Global, scopes: &str, max_tasks: u32) -> Result<Config, Fail> {
+    let file = format!(in alloc;
+        "[farm]\nmax_tasks = {max_tasks}\n[[role]]\nid = \"anonymous\"\nscopes = {scopes}\n"
+    )?;
+    config_of(alloc, file.as_str())
+}

@@ -1,7 +1,7 @@
 //! The machine itself: what it replies without a state, and a task that is made twice.
 ghost use Rattle.std.specs.Prelude.{◌≡◌, ◌≤◌, max, false, IfOk, OnOk};
 ghost use Rattle.farm_text.specs.declared.moment.TheConstants.{LAST_TOLD_MOMENT as last_told};
-ghost use Rattle.farm_rows.specs.Due.{is_due};
+ghost use Rattle.task_index.specs.Due.{is_due};
 ghost use Rattle.farm_asks.specs.Questions.{IsSaidCall};
 
 use crate::configs::config_of;

@@ -4,7 +4,7 @@
 //! plan showed its task as it stands then. The parts of a change are its moment, a task, and what the change is of: the definition of
 //! `create`, the run and the end of `claim` and `reclaim`, the run of a report. `tick` reaches a moment; `is` and `list` ask, and come to
 //! `yes` or `no`. `each` makes steps for each number that is `#` in them.
-ghost use Rattle.farm_rows.specs.Plans.{IsPlanOn};
+ghost use Rattle.task_index.specs.Plans.{IsPlanOn};
 
 mod bodies;
 mod looks;

@@ -3,7 +3,7 @@ use Rattle.std.specs.Prelude.{ℕ, ◌+◌, min, List, [], ◌∷◌}
 use Rattle.call_rules.specs.Policy.{claim_policy}
 use Rattle.farm_record.specs.declared.change.Kind.TheVariants.{Claim as TakesRuns}
 use Rattle.farm_record.specs.declared.change.RunName.{RunName}
-use Rattle.farm_rows.specs.Picks.{picks}
+use Rattle.task_index.specs.Picks.{picks}
 use Rattle.farm_asks.specs.declared.question.WorkRequest.{WorkRequest}
 use Rattle.farm_machine.specs.Case.{Setting, Deed, Case, passing, reading, changing}
 use Rattle.farm_asks.specs.Config.{claim_millis}

@@ -5,8 +5,8 @@ use Rattle.farm_record.specs.declared.change.Creation.{Creation}
 use Rattle.farm_record.specs.declared.change.Kind.TheVariants.{Create}
 use Rattle.task_defs.specs.declared.task_def.TaskDef.{TaskDef}
 use Rattle.run_states.specs.Rows.{Row}
-use Rattle.farm_rows.specs.Changes.{kept_scheduler}
-use Rattle.farm_rows.specs.Contents.{row_with}
+use Rattle.task_index.specs.Changes.{kept_scheduler}
+use Rattle.task_index.specs.Contents.{row_with}
 use Rattle.farm_rows.specs.Waits.{missing_dependency, early_dependency}
 use Rattle.farm_asks.specs.declared.reply.Answer.{Answer}
 use Rattle.farm_machine.specs.Case.{Setting, Rule, when, Case, passing, changing}

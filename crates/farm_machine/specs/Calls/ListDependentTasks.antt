@@ -1,7 +1,7 @@
 -- listDependentTasks: the tasks that wait for a task, page by page (the queue service of the Taskcluster reference).
 use Rattle.std.specs.Prelude.{ℕ, List}
 use Rattle.call_rules.specs.Policy.{dependants_policy}
-use Rattle.farm_rows.specs.declared.lists.TaskList.TheVariants.{Dependants}
+use Rattle.task_index.specs.declared.lists.TaskList.TheVariants.{Dependants}
 use Rattle.farm_asks.specs.declared.question.PageRequest.{PageRequest}
 use Rattle.farm_machine.specs.Case.{Setting, Case, on_task, passing, reading}
 use Rattle.farm_machine.specs.Pages.{bad_token, page_body}

@@ -2,8 +2,8 @@
 use Rattle.std.specs.Prelude.{ℕ, List, codes, Option, Some, None, if◌then◌else◌}
 use Rattle.std.specs.List.{list_any}
 use Rattle.call_rules.specs.Policy.{group_policy}
-use Rattle.farm_rows.specs.Lists.{is_listed}
-use Rattle.farm_rows.specs.declared.lists.TaskList.TheVariants.{Group}
+use Rattle.task_index.specs.Lists.{is_listed}
+use Rattle.task_index.specs.declared.lists.TaskList.TheVariants.{Group}
 use Rattle.farm_text.specs.Slug.{slug_text}
 use Rattle.run_states.specs.Rows.{Row}
 use Rattle.farm_asks.specs.declared.question.PageRequest.{PageRequest}

@@ -3,7 +3,7 @@ use Rattle.std.specs.Prelude.{not, [], ◌∷◌}
 use Rattle.call_rules.specs.Policy.{resolve_policy}
 use Rattle.farm_record.specs.declared.change.Kind.TheVariants.{Resolve}
 use Rattle.farm_record.specs.declared.change.Resolution.{Resolution}
-use Rattle.farm_rows.specs.Changes.{reason_of}
+use Rattle.task_index.specs.Changes.{reason_of}
 use Rattle.run_states.specs.Rows.{is_running_at}
 use Rattle.run_states.specs.Moves.{ended_for_at}
 use Rattle.farm_machine.specs.Case.{Setting, Case, on_run, passing, when, changing}

@@ -6,10 +6,10 @@ use call_rules::list_group_scope;
 use farm_asks::answers;
 use farm_asks::question::PageRequest;
 use farm_asks::reply::Answer;
-use farm_rows::TaskList;
 use farm_text::SlugId;
 use scope_sets::Expr;
 use std::alloc::{AllocError, Global};
+use task_index::lists::TaskList;
 
 /// A page of the tasks of a group.
 #[derive(Clone, Copy)]

@@ -1,6 +1,6 @@
 ghost use Rattle.std.specs.Prelude.{None, ◌≡◌, IfOk, count_by};
 ghost use Rattle.farm_text.specs.Document.{document_text};
-ghost use Rattle.farm_rows.specs.Picks.{waits_in};
+ghost use Rattle.task_index.specs.Picks.{waits_in};
 ghost use Rattle.farm_asks.specs.Replies.{pending_body};
 
 use crate::case::{Called, Done, Scene};

@@ -1,6 +1,6 @@
 -- A call that is planned is finished; where memory ran out, only its moment is reached.
 use Rattle.std.proofs.Common.{refl, sym, subst, arith, rules}
-use Rattle.farm_rows.specs.Contents.{Contents}
+use Rattle.task_index.specs.Contents.{Contents}
 use Rattle.farm_machine.specs.Planned.{IsPlanOf, IsPlanOn}
 use Rattle.farm_core.proofs.AskLemmas.{performs-halted, performs-from, performs-out}
 use Rattle.farm_core.proofs.RecordLemmas.{KeepsRecords-none}

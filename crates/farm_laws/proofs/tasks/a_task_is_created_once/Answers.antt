@@ -1,5 +1,5 @@
-use Rattle.farm_rows.proofs.AdvanceLemmas.{advance-ids}
-use Rattle.farm_rows.proofs.IdLemmas.{created-stands, created-refused, applied-ids}
+use Rattle.task_index.proofs.AdvanceLemmas.{advance-ids}
+use Rattle.task_index.proofs.IdLemmas.{created-stands, created-refused, applied-ids}
 use Rattle.farm_laws.proofs.tasks.a_task_is_created_once.Goals as goal
 
 pub returns-clause-stands : goal.returns-clause-stands

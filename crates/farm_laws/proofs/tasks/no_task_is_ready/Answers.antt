@@ -1,5 +1,5 @@
-use Rattle.farm_rows.proofs.AdvanceLemmas.{advance-ready}
-use Rattle.farm_rows.proofs.IdLemmas.{applied-none}
+use Rattle.task_index.proofs.AdvanceLemmas.{advance-ready}
+use Rattle.task_index.proofs.IdLemmas.{applied-none}
 use Rattle.farm_laws.proofs.tasks.no_task_is_ready.Goals as goal
 
 pub returns-clause-advanced : goal.returns-clause-advanced

@@ -1,4 +1,4 @@
-use Rattle.farm_rows.proofs.ReadyLemmas.{settled-first, settled-idle, settled-none}
+use Rattle.task_index.proofs.ReadyLemmas.{settled-first, settled-idle, settled-none}
 use Rattle.farm_laws.proofs.tasks.settling_goes_one_by_one.Goals as goal
 
 pub returns-clause-first : goal.returns-clause-first

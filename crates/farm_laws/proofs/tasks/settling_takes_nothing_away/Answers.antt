@@ -1,4 +1,4 @@
-use Rattle.farm_rows.proofs.ReadyLemmas.{settled-stays, settled-due}
+use Rattle.task_index.proofs.ReadyLemmas.{settled-stays, settled-due}
 use Rattle.farm_laws.proofs.tasks.settling_takes_nothing_away.Goals as goal
 
 pub returns-clause-stays : goal.returns-clause-stays

@@ -1,5 +1,5 @@
-use Rattle.farm_rows.proofs.AdvanceLemmas.{advance-stays}
-use Rattle.farm_rows.proofs.IdLemmas.{applied-stays}
+use Rattle.task_index.proofs.AdvanceLemmas.{advance-stays}
+use Rattle.task_index.proofs.IdLemmas.{applied-stays}
 use Rattle.farm_laws.proofs.tasks.tasks_and_runs_stay.Goals as goal
 
 pub returns-clause-advanced : goal.returns-clause-advanced

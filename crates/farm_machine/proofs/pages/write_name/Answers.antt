@@ -1,8 +1,8 @@
 use Rattle.std.proofs.Common.{[], ◌∷◌, sym}
-use Rattle.farm_rows.specs.declared.lists.TaskList.{TaskList}
+use Rattle.task_index.specs.declared.lists.TaskList.{TaskList}
 use Rattle.farm_machine.specs.Pages.{list_name}
 use Rattle.task_statuses.proofs.WritingLemmas.{members_of_same}
-use Rattle.farm_rows.specs.declared.lists.TaskList.TheVariants.{Group}
+use Rattle.task_index.specs.declared.lists.TaskList.TheVariants.{Group}
 use Rattle.std.proofs.lemmas.Result.{on_ok_weaker}
 use Rattle.farm_machine.proofs.pages.write_name.Goals as goal
 

@@ -1,5 +1,5 @@
 use Rattle.std.proofs.Common.{◌≡◌, replicate}
-use Rattle.farm_rows.specs.Changes.{claim_of}
+use Rattle.task_index.specs.Changes.{claim_of}
 use Rattle.farm_rows.proofs.copies.copies.Given as goal
 
 abbrev pub invariant-loop-made : goal.invariant-loop-made

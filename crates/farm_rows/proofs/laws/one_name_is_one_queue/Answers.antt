@@ -1,5 +1,5 @@
-use Rattle.farm_rows.proofs.QueueLemmas.{under-is}
-use Rattle.farm_rows.proofs.QueueNameLemmas.{one-slash}
+use Rattle.task_index.proofs.QueueLemmas.{under-is}
+use Rattle.task_index.proofs.QueueNameLemmas.{one-slash}
 use Rattle.farm_rows.proofs.laws.one_name_is_one_queue.Goals as goal
 
 pub returns : goal.returns

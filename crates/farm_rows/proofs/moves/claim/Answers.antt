@@ -2,9 +2,9 @@ use Rattle.std.proofs.Common.{ap, sym, ◌∙◌, slice_set}
 use Rattle.run_states.specs.Rows.{Row}
 use Rattle.run_states.specs.Moves.{claimed}
 use Rattle.run_states.proofs.LaterLemmas.{claimed-later}
-use Rattle.farm_rows.specs.Changes.{has_id}
-use Rattle.farm_rows.proofs.IndexLemmas.{index-but, set-within}
-use Rattle.farm_rows.proofs.PlaceLemmas.{place-changed, place-none}
+use Rattle.task_index.specs.Changes.{has_id}
+use Rattle.task_index.proofs.IndexLemmas.{index-but, set-within}
+use Rattle.task_index.proofs.PlaceLemmas.{place-changed, place-none}
 use Rattle.farm_rows.proofs.moves.claim.Goals as goal
 
 pub returns-in-Some-clause-rows : goal.returns-in-Some-clause-rows

@@ -3,9 +3,9 @@ use Rattle.run_states.specs.declared.reasons.ReasonResolved.{ReasonResolved}
 use Rattle.run_states.specs.Rows.{Row}
 use Rattle.run_states.specs.Moves.{resolved}
 use Rattle.run_states.proofs.LaterLemmas.{resolved-later}
-use Rattle.farm_rows.specs.Changes.{has_id, reason_of}
-use Rattle.farm_rows.proofs.IndexLemmas.{index-but, set-within}
-use Rattle.farm_rows.proofs.PlaceLemmas.{place-changed, place-none}
+use Rattle.task_index.specs.Changes.{has_id, reason_of}
+use Rattle.task_index.proofs.IndexLemmas.{index-but, set-within}
+use Rattle.task_index.proofs.PlaceLemmas.{place-changed, place-none}
 use Rattle.farm_rows.proofs.moves.resolve.Goals as goal
 
 pub returns-in-Some-clause-rows : goal.returns-in-Some-clause-rows

@@ -1,5 +1,5 @@
 use Rattle.std.proofs.Common.{◌≡◌, map, take}
-use Rattle.farm_rows.specs.Plans.{rows_with}
+use Rattle.task_index.specs.Plans.{rows_with}
 use Rattle.farm_rows.proofs.shown.each.Given as goal
 
 -- those of the names so far are found

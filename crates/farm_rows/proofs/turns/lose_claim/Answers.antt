@@ -3,10 +3,10 @@ use Rattle.run_states.specs.declared.reasons.ReasonResolved.TheVariants.{ClaimEx
 use Rattle.run_states.specs.Rows.{Row, loses_claim}
 use Rattle.run_states.specs.Moves.{expired}
 use Rattle.run_states.proofs.LaterLemmas.{expired-later}
-use Rattle.farm_rows.specs.Due.{draws}
+use Rattle.task_index.specs.Due.{draws}
 use Rattle.farm_rows.proofs.FitLemmas.{min-one}
-use Rattle.farm_rows.proofs.IndexLemmas.{index-but, set-within}
-use Rattle.farm_rows.proofs.PlaceLemmas.{place-changed, place-found, place-none, place-lost}
+use Rattle.task_index.proofs.IndexLemmas.{index-but, set-within}
+use Rattle.task_index.proofs.PlaceLemmas.{place-changed, place-found, place-none, place-lost}
 use Rattle.farm_rows.proofs.turns.lose_claim.Goals as goal
 
 pub returns-in_default-clause-rows : goal.returns-in_default-clause-rows

@@ -1,9 +1,9 @@
 use Rattle.std.proofs.Common.{ap, sym, ◌∙◌, slice_set}
 use Rattle.run_states.specs.Rows.{Row, exceeded}
 use Rattle.run_states.proofs.LaterLemmas.{exceeded-later}
-use Rattle.farm_rows.specs.Due.{meets_deadline}
-use Rattle.farm_rows.proofs.IndexLemmas.{index-but, set-within}
-use Rattle.farm_rows.proofs.PlaceLemmas.{place-changed, place-none, place-any, place-no}
+use Rattle.task_index.specs.Due.{meets_deadline}
+use Rattle.task_index.proofs.IndexLemmas.{index-but, set-within}
+use Rattle.task_index.proofs.PlaceLemmas.{place-changed, place-none, place-any, place-no}
 use Rattle.farm_rows.proofs.turns.meet_deadline.Goals as goal
 
 pub returns-in_default-clause-rows : goal.returns-in_default-clause-rows

@@ -1,11 +1,11 @@
 use Rattle.std.proofs.Common.{length, ap, sym, ◌∙◌, arith}
 use Rattle.std.specs.List.{list_all}
-use Rattle.farm_rows.specs.Contents.{Contents}
-use Rattle.farm_rows.specs.Due.{all_due_moments, resolved_at}
-use Rattle.farm_rows.specs.Sweep.{numbered, all_turns, runs_made, fits}
+use Rattle.task_index.specs.Contents.{Contents}
+use Rattle.task_index.specs.Due.{all_due_moments, resolved_at}
+use Rattle.task_index.specs.Sweep.{numbered, all_turns, runs_made, fits}
 use Rattle.farm_rows.proofs.FitLemmas.{made-few}
 use Rattle.farm_rows.proofs.StepLemmas.{settled-fits, settled-made, resolved-fits, resolved-made}
-use Rattle.farm_rows.proofs.TurnLemmas.{turn-fewer, all-step, all-idle}
+use Rattle.task_index.proofs.TurnLemmas.{turn-fewer, all-step, all-idle}
 use Rattle.farm_rows.proofs.turns.resolve_due.Goals as goal
 
 pub turn-next-requires-clause-drawn : goal.turn-next-requires-clause-drawn

@@ -1,8 +1,8 @@
 use Rattle.std.proofs.Common.{◌≡◌, ◌≤◌, true, length}
 use Rattle.std.specs.List.{list_all}
-use Rattle.farm_rows.specs.Due.{all_due_moments}
-use Rattle.farm_rows.specs.Sweep.{numbered, all_turns, runs_made, fits}
-use Rattle.farm_rows.specs.Indexed.{IsIndexOf}
+use Rattle.task_index.specs.Due.{all_due_moments}
+use Rattle.task_index.specs.Sweep.{numbered, all_turns, runs_made, fits}
+use Rattle.task_index.specs.Indexed.{IsIndexOf}
 use Rattle.farm_rows.proofs.turns.resolve_due.Given as goal
 
 -- what is left to be resolved makes the whole; what is kept beside the tasks is right

@@ -1,4 +1,4 @@
-use Rattle.farm_rows.specs.Sweep.{numbered}
+use Rattle.task_index.specs.Sweep.{numbered}
 use Rattle.farm_rows.proofs.StepLemmas.{turn-is}
 use Rattle.farm_rows.proofs.turns.turn.Goals as goal
 

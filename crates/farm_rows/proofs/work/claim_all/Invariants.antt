@@ -1,6 +1,6 @@
 use Rattle.std.proofs.Common.{◌≡◌, ◌-◌, length, drop, replicate}
-use Rattle.farm_rows.specs.Changes.{claim_of, all_claimed}
-use Rattle.farm_rows.specs.Indexed.{IsIndexOf}
+use Rattle.task_index.specs.Changes.{claim_of, all_claimed}
+use Rattle.task_index.specs.Indexed.{IsIndexOf}
 use Rattle.farm_rows.proofs.work.claim_all.Given as goal
 
 -- there is a claim for each run that is left, and to take those makes the whole; what is kept beside the tasks is right

@@ -1,8 +1,8 @@
 use Rattle.std.proofs.Common.{is_some, ap, ◌∙◌}
 use Rattle.std.specs.List.{list_any}
-use Rattle.farm_rows.specs.Contents.{Contents}
-use Rattle.farm_rows.specs.Lists.{is_listed}
-use Rattle.farm_rows.specs.declared.lists.TaskList.TheVariants.{Group}
+use Rattle.task_index.specs.Contents.{Contents}
+use Rattle.task_index.specs.Lists.{is_listed}
+use Rattle.task_index.specs.declared.lists.TaskList.TheVariants.{Group}
 use Rattle.farm_machine.proofs.PageLemmas.{some-copied, has-scheduler}
 use Rattle.farm_machine.proofs.tables.Tables.has_group.Goals as goal
 

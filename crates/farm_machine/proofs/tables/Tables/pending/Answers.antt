@@ -1,6 +1,6 @@
 use Rattle.std.proofs.Common.{ℕ, List, ap, ◌∙◌, count_by}
-use Rattle.farm_rows.specs.Contents.{Contents}
-use Rattle.farm_rows.specs.Picks.{waits_in, waits_under}
+use Rattle.task_index.specs.Contents.{Contents}
+use Rattle.task_index.specs.Picks.{waits_in, waits_under}
 use Rattle.farm_machine.proofs.tables.Tables.pending.Goals as goal
 
 pub returns : goal.returns

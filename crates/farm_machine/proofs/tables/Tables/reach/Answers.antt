@@ -1,8 +1,8 @@
 -- Where nothing is due, only the last moment changes; it is the greater of the two.
 use Rattle.std.proofs.Common.{◌≡◌, ℕ, max, ap, ◌∙◌, arith}
-use Rattle.farm_rows.specs.Contents.{Contents}
-use Rattle.farm_rows.specs.Due.{advance}
-use Rattle.farm_rows.proofs.AdvanceLemmas.{advance-idle}
+use Rattle.task_index.specs.Contents.{Contents}
+use Rattle.task_index.specs.Due.{advance}
+use Rattle.task_index.proofs.AdvanceLemmas.{advance-idle}
 use Rattle.farm_machine.proofs.tables.Tables.reach.Goals as goal
 
 pub returns : goal.returns

@@ -2,17 +2,17 @@ use Rattle.std.proofs.Common.{◌≡◌, ◌+◌, List, length, ap, sym, subst, 
 use Rattle.std.proofs.lemmas.List.{with_items_is}
 use Rattle.std.specs.Vec.{with_items}
 use Rattle.run_states.specs.Rows.{Row}
-use Rattle.farm_rows.specs.Ready.{settled}
+use Rattle.task_index.specs.Ready.{settled}
 use Rattle.farm_rows.specs.Deeds.{change_of, rows_after, drawn_by}
 use Rattle.run_states.specs.Later.{RowsLater}
 use Rattle.farm_record.specs.declared.change.Change.{Change}
-use Rattle.farm_rows.specs.Contents.{Contents}
-use Rattle.farm_rows.specs.Changes.{applied}
-use Rattle.farm_rows.specs.Indexed.{IsIndexOf}
-use Rattle.farm_rows.proofs.GroupedLemmas.{listed-later}
-use Rattle.farm_rows.proofs.IdLemmas.{applied-stays}
+use Rattle.task_index.specs.Contents.{Contents}
+use Rattle.task_index.specs.Changes.{applied}
+use Rattle.task_index.specs.Indexed.{IsIndexOf}
+use Rattle.task_index.proofs.GroupedLemmas.{listed-later}
+use Rattle.task_index.proofs.IdLemmas.{applied-stays}
 use Rattle.farm_rows.proofs.TableLemmas.{contents_of}
-use Rattle.farm_rows.specs.Sweep.{numbered}
+use Rattle.task_index.specs.Sweep.{numbered}
 use Rattle.farm_rows.proofs.FitLemmas.{made-few}
 use Rattle.farm_rows.proofs.ChangeLemmas.{kept-after, changed-applied}
 use Rattle.farm_rows.proofs.tables.TaskTables.change.Goals as goal

@@ -3,17 +3,17 @@ use Rattle.std.specs.List.{list_any}
 use Rattle.run_states.specs.Rows.{Row}
 use Rattle.run_states.specs.declared.run.Run.{Run}
 use Rattle.farm_record.specs.declared.change.Creation.{Creation}
-use Rattle.farm_rows.specs.Contents.{Contents}
-use Rattle.farm_rows.specs.Changes.{creating}
-use Rattle.farm_rows.specs.Dependencies.{ids_of, depends_on_these}
-use Rattle.farm_rows.specs.Plans.{Room}
-use Rattle.farm_rows.specs.Ready.{is_ready, has_ready}
-use Rattle.farm_rows.specs.Sweep.{fits, IsKept}
-use Rattle.farm_rows.specs.Indexed.{IsIndexOf}
-use Rattle.farm_rows.specs.PlaceLists.{AreListed}
+use Rattle.task_index.specs.Contents.{Contents}
+use Rattle.task_index.specs.Changes.{creating}
+use Rattle.task_index.specs.Dependencies.{ids_of, depends_on_these}
+use Rattle.task_index.specs.Plans.{Room}
+use Rattle.task_index.specs.Ready.{is_ready, has_ready}
+use Rattle.task_index.specs.Sweep.{fits, IsKept}
+use Rattle.task_index.specs.Indexed.{IsIndexOf}
+use Rattle.task_index.specs.PlaceLists.{AreListed}
 use Rattle.farm_rows.proofs.CreateLemmas.{new-is}
 use Rattle.farm_rows.proofs.FitLemmas.{made-few}
-use Rattle.farm_rows.proofs.IdLemmas.{applied-none}
+use Rattle.task_index.proofs.IdLemmas.{applied-none}
 use Rattle.farm_rows.proofs.TableLemmas.{Fits, contents_of, plan-fits, kept-more, named, planned-unknown, planned-stand, applied-made}
 use Rattle.farm_rows.proofs.tables.TaskTables.create.Goals as goal
 

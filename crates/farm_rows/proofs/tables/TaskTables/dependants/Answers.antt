@@ -1,10 +1,10 @@
 use Rattle.std.proofs.Common.{◌≡◌, true, List, ◌∙◌, ap, subst}
 use Rattle.std.specs.List.{list_all}
 use Rattle.run_states.specs.Rows.{Row}
-use Rattle.farm_rows.specs.Dependencies.{ids_of, depends_on_these}
-use Rattle.farm_rows.specs.declared.lists.TaskList.TheVariants.{Dependants}
-use Rattle.farm_rows.specs.Listing.{places_of}
-use Rattle.farm_rows.proofs.ComingLemmas.{unwaited}
+use Rattle.task_index.specs.Dependencies.{ids_of, depends_on_these}
+use Rattle.task_index.specs.declared.lists.TaskList.TheVariants.{Dependants}
+use Rattle.task_index.specs.Listing.{places_of}
+use Rattle.task_index.proofs.ComingLemmas.{unwaited}
 use Rattle.farm_rows.proofs.tables.TaskTables.dependants.Goals as goal
 
 pub returns-clause-none : goal.returns-clause-none

@@ -1,9 +1,9 @@
 use Rattle.std.proofs.Common.{◌≡◌, min, List, filter, is_some, nat_le, ap, ◌∙◌, rules}
 use Rattle.std.specs.List.{reduce}
 use Rattle.run_states.specs.Rows.{Row}
-use Rattle.farm_rows.specs.Due.{all_due_moments, is_due}
-use Rattle.farm_rows.specs.Contents.{Contents}
-use Rattle.farm_rows.proofs.LeastLemmas.{some-reached}
+use Rattle.task_index.specs.Due.{all_due_moments, is_due}
+use Rattle.task_index.specs.Contents.{Contents}
+use Rattle.task_index.proofs.LeastLemmas.{some-reached}
 use Rattle.farm_rows.proofs.tables.TaskTables.due.Goals as goal
 
 pub returns : goal.returns

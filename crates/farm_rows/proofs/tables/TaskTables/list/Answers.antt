@@ -1,6 +1,6 @@
 use Rattle.std.proofs.Common.{ℕ, ◌<◌, List, sym, subst}
 use Rattle.std.specs.List.{AllPairs}
-use Rattle.farm_rows.proofs.ListingLemmas.{places-rise}
+use Rattle.task_index.proofs.ListingLemmas.{places-rise}
 use Rattle.farm_rows.proofs.tables.TaskTables.list.Goals as goal
 
 pub page_behind-requires : goal.page_behind-requires

@@ -1,8 +1,8 @@
 use Rattle.std.proofs.Common.{List, [], bytes_eq, refl, sym, subst, arith}
 use Rattle.std.proofs.lemmas.Map.Keys.{IsDistinct-from_apart}
-use Rattle.farm_rows.specs.Contents.{HaveOwnIds}
-use Rattle.farm_rows.specs.PlaceLists.{KeptPlaces, AreListed}
-use Rattle.farm_rows.proofs.RoomLemmas.{room-0}
+use Rattle.task_index.specs.Contents.{HaveOwnIds}
+use Rattle.task_index.specs.PlaceLists.{KeptPlaces, AreListed}
+use Rattle.task_index.proofs.RoomLemmas.{room-0}
 use Rattle.farm_rows.proofs.tables.TaskTables.new.Goals as goal
 
 -- no task has an id

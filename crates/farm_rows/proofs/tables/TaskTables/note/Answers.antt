@@ -1,7 +1,7 @@
 use Rattle.std.proofs.Common.{List, ap, ◌∙◌, subst}
 use Rattle.run_states.specs.Rows.{Row}
-use Rattle.farm_rows.specs.Contents.{Contents, row_with}
-use Rattle.farm_rows.specs.Indexed.{IsIndexOf}
+use Rattle.task_index.specs.Contents.{Contents, row_with}
+use Rattle.task_index.specs.Indexed.{IsIndexOf}
 use Rattle.farm_rows.proofs.tables.TaskTables.note.Goals as goal
 
 pub note-requires-clause-unknown : goal.note-requires-clause-unknown

@@ -1,5 +1,5 @@
 use Rattle.std.proofs.Common.{ap, ◌∙◌}
-use Rattle.farm_rows.specs.Ready.{settled_row}
+use Rattle.task_index.specs.Ready.{settled_row}
 use Rattle.farm_rows.proofs.PlanLemmas.{IsPlanOn-created}
 use Rattle.farm_rows.proofs.tables.TaskTables.plan_creation.Goals as goal
 

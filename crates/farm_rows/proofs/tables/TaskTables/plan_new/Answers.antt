@@ -1,8 +1,8 @@
 use Rattle.std.proofs.Common.{IfOk, ap, ◌∙◌, subst}
-use Rattle.farm_rows.specs.Contents.{Contents}
-use Rattle.farm_rows.specs.Changes.{creating, may_apply}
-use Rattle.farm_rows.specs.Plans.{Planned, IsPlanOn}
-use Rattle.farm_rows.proofs.IdLemmas.{may-create}
+use Rattle.task_index.specs.Contents.{Contents}
+use Rattle.task_index.specs.Changes.{creating, may_apply}
+use Rattle.task_index.specs.Plans.{Planned, IsPlanOn}
+use Rattle.task_index.proofs.IdLemmas.{may-create}
 use Rattle.farm_rows.proofs.tables.TaskTables.plan_new.Goals as goal
 
 pub note-requires : goal.note-requires

@@ -3,15 +3,15 @@ use Rattle.std.specs.List.{list_any}
 use Rattle.std.proofs.lemmas.Grind.{common_steps}
 use Rattle.std.proofs.lemmas.List.{with_items_is}
 use Rattle.run_states.specs.Rows.{Row}
-use Rattle.farm_rows.specs.Contents.{Contents, HaveOwnIds}
-use Rattle.farm_rows.specs.Ready.{is_ready}
-use Rattle.farm_rows.specs.Due.{is_due}
-use Rattle.farm_rows.specs.Sweep.{numbered, all_turns}
+use Rattle.task_index.specs.Contents.{Contents, HaveOwnIds}
+use Rattle.task_index.specs.Ready.{is_ready}
+use Rattle.task_index.specs.Due.{is_due}
+use Rattle.task_index.specs.Sweep.{numbered, all_turns}
 use Rattle.run_states.specs.Later.{RowsLater}
-use Rattle.farm_rows.specs.Indexed.{IsIndexOf}
-use Rattle.farm_rows.specs.PlaceLists.{AreListed}
-use Rattle.farm_rows.proofs.GroupedLemmas.{listed-later}
-use Rattle.farm_rows.proofs.TurnLemmas.{all-stay}
+use Rattle.task_index.specs.Indexed.{IsIndexOf}
+use Rattle.task_index.specs.PlaceLists.{AreListed}
+use Rattle.task_index.proofs.GroupedLemmas.{listed-later}
+use Rattle.task_index.proofs.TurnLemmas.{all-stay}
 use Rattle.farm_rows.proofs.SharedLemmas.{all-own, all-unready}
 use Rattle.farm_rows.proofs.TableLemmas.{turns-idle, turns-numbered}
 use Rattle.farm_rows.proofs.tables.TaskTables.resolve_due.Goals as goal

@@ -1,9 +1,9 @@
 use Rattle.std.proofs.Common.{List, IfOk, ap, sym, ◌∙◌, subst}
 use Rattle.run_states.specs.Rows.{Row}
 use Rattle.farm_record.specs.declared.change.Kind.TheVariants.{Create}
-use Rattle.farm_rows.specs.Contents.{Contents}
-use Rattle.farm_rows.specs.Plans.{Room, FindsRoom}
-use Rattle.farm_rows.specs.Ready.{has_ready}
+use Rattle.task_index.specs.Contents.{Contents}
+use Rattle.task_index.specs.Plans.{Room, FindsRoom}
+use Rattle.task_index.specs.Ready.{has_ready}
 use Rattle.farm_rows.proofs.tables.TaskTables.room_for.Goals as goal
 
 pub returns-clause-none : goal.returns-clause-none

@@ -1,5 +1,5 @@
 use Rattle.std.proofs.Common.{◌≡◌, max, ◌∙◌, rules}
-use Rattle.farm_rows.specs.Contents.{Contents}
+use Rattle.task_index.specs.Contents.{Contents}
 use Rattle.farm_rows.proofs.TableLemmas.{tick-advances}
 use Rattle.farm_rows.proofs.tables.TaskTables.tick.Goals as goal
 

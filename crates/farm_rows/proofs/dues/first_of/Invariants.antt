@@ -1,4 +1,0 @@
-use Rattle.farm_rows.proofs.dues.first_of.Given as goal
-
-abbrev pub ghosts-first_counted : goal.ghosts-first_counted
-ghosts-first_counted a = record { name = a.blank.name; parts = a.blank.parts }

@@ -1,7 +1,0 @@
-use Rattle.std.proofs.Common.{Option, subst}
-use Rattle.farm_rows.specs.declared.dues.Dues.{Dues}
-use Rattle.farm_rows.specs.Dated.{MayBeDue}
-use Rattle.farm_rows.proofs.dues.reserve.Goals as goal
-
-pub returns-in-Some : goal.returns-in-Some
-returns-in-Some c = λ rows held. c.reserve.ensures rows (subst (λ (dues : Option Dues). MayBeDue dues rows) c.in-Some.is held)

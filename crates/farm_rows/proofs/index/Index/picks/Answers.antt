@@ -1,7 +1,0 @@
-use Rattle.std.proofs.Common.{Option, subst}
-use Rattle.farm_rows.specs.Placed.{PlaceMap, ArePlaced}
-use Rattle.farm_rows.proofs.QueueChangeLemmas.{placed-own}
-use Rattle.farm_rows.proofs.index.Index.picks.Goals as goal
-
-pub picks_in-requires-clause-own : goal.picks_in-requires-clause-own
-picks_in-requires-clause-own c = placed-own _ c.args.rows.now (subst (λ (places : Option PlaceMap). ArePlaced places c.args.rows.now) c.in-Some.is c.requires.placed)

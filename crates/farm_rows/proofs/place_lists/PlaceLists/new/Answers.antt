@@ -1,6 +1,0 @@
-use Rattle.std.proofs.Common.{arith}
-use Rattle.farm_rows.proofs.RoomLemmas.{room-0}
-use Rattle.farm_rows.proofs.place_lists.PlaceLists.new.Goals as goal
-
-pub invariant_of-result : goal.invariant_of-result
-invariant_of-result c = rw c.new.ensures.items (omega (arith, room-0))

@@ -1,4 +1,0 @@
-use Rattle.farm_rows.proofs.queues.held.hold.Given as goal
-
-abbrev pub ghosts-hold_counted : goal.ghosts-hold_counted
-ghosts-hold_counted a = record { name = a.blank.name; parts = a.blank.parts }

@@ -1,4 +1,0 @@
-use Rattle.farm_rows.proofs.queues.walks.are_firsts.Given as goal
-
-abbrev pub ghosts-are_firsts_counted : goal.ghosts-are_firsts_counted
-ghosts-are_firsts_counted a = record { name = a.blank.name; parts = a.blank.parts }

@@ -1,6 +1,0 @@
-use Rattle.farm_rows.proofs.TableLemmas.{soonest-step}
-use Rattle.farm_rows.proofs.walks.soonest.Goals as goal
-
-pub loop-row-preserved : goal.loop-row-preserved
-loop-row-preserved c =
-    soonest-step c.args.rows.now c.loop-row.row-index c.row-item.result c.loop-row.soonest c.soonest_with-soonest.result c.loop-row-test.true c.loop-row.invariant c.soonest_with-soonest.ensures c.row-item.is

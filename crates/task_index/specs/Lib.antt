@@ -1,0 +1,17 @@
+pub mod Contents
+pub mod Ready
+pub mod Due
+pub mod Picks
+pub mod Left
+pub mod Changes
+pub mod Lists
+pub mod Listing
+pub mod Members
+pub mod Plans
+pub mod Sweep
+pub mod Placed
+pub mod Queues
+pub mod Dated
+pub mod Dependencies
+pub mod PlaceLists
+pub mod Indexed
