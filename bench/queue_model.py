@@ -1,6 +1,6 @@
 """A model of the queue of a build farm, written from its rules apart from the program: it prints the rows of a conversation.
 
-python3 bench/queue_model.py workers|again|lapse|last|deadline|retry: the tables of crates/connection_tests/src/connections/work.rt (workers) and runs.rt.
+python3 bench/queue_model.py workers|again|lapse|last|deadline|retry: the tables of crates/farm_tests/src/connections/work.rt (workers) and runs.rt.
 python3 bench/queue_model.py pair|itself|full|refused|canceled|diamond|tick: those of waits.rt there, of tasks that wait for others.
 python3 bench/queue_model.py group|dependants|pending: those of lists.rt there, line by line.
 """
