@@ -5,9 +5,9 @@
 
 Run it at the top of the repository. It spreads the checks as the kit's `rt ci` does: one a processor, as many as memory holds by the kit's own estimate, each
 once the crates below are proved, first those with the longest chain of others behind them; edits where no proof waits for memory. What each check takes is
-TIMES, in minutes of a processor of a slow machine; SLOW (1 if left out) is how slow a machine is beside it: 0.53 for the fastest so far. FREE (24.8
+TIMES, in minutes of a processor of a slow machine; SLOW (1 if left out) is how slow a machine is beside it: 0.61 for the fastest so far. FREE (24.8
 if left out) is the free memory at the start, in GB: so much has a machine of 24 GiB. It proves nothing, and takes a second. What it says is reckoned,
-not measured; the runs that were measured took 51 and 63 minutes on machines that were fast at first (0.53) and slow at their end.
+not measured: 62.4 of the run that it was made from, whose end was reckoned from minute 55 on, too.
 """
 import glob
 import importlib.machinery
@@ -15,23 +15,23 @@ import importlib.util
 import os
 import sys
 
-# `rattle build` of each library and of each crate's tests, in a run from nothing of 82 minutes on 30 November 2026, on a machine of 2.5 GHz (role_expand 6.0) with
-# little else beside it; of farm_asks, the five crates above it that give answers, and farm_tests, which changed on 1 December, that times what they took then
-# beside what they had taken; and so of farm_text, task_defs, farm_rows, farm_machine, farm_laws, console_commands and random_ids, as they are since that
-# evening, and of farm_serving, farm_bulk, farm_cli, farm and their parts (listeners, houses, load_requests, hook_book, connection_tests), as they are since its
-# night. What the compiler takes is not here. A crate that is not here takes a few seconds.
+# `rattle build` of each library and of each crate's tests, with what the compiler takes, in minutes of a processor: in a run from nothing on 1 December 2026, late,
+# on a machine of 2.5 GHz (role_expand 5.2), until minute 55 with nothing beside it. Of what changed since, or came behind that minute (task_index, farm_rows,
+# farm_machine, farm_files, farm_asks, command_line, farm_text, farm_cli, farm, cli_tests, farm_tests), what the next run took, by how much slower that was at the
+# same minutes. A crate that is not here takes a few seconds.
 TIMES = {
-    "causes": 0.4, "history": 0.3, "scope_sets": 1.3, "jsone_expr": 2.9, "dep_graph": 2.4, "farm_text": 5.6, "random_ids": 0.4, "role_expand": 6.0,
-    "http_wire": 3.5, "disk_base": 2.2, "disk_journal": 1.4, "route_table": 1.2, "shared_desk": 1.6, "task_groups": 1.4, "slug_places": 0.3, "scope_lines": 0.5,
-    "plain_text": 0.6, "farm_desk": 0.3, "task_defs": 7.3, "hawk_auth": 4.1, "jsone_values": 4.2, "jsone_eval": 2.8, "command_line": 5.2, "claim_queue": 2.4,
-    "run_states": 2.2, "farm_record": 2.2, "call_rules": 1.6, "task_statuses": 1.1, "jsone_render": 9.1, "hook_book": 0.7, "hook_fire": 1.2, "farm_rows": 10.3, "farm_asks": 2.8,
-    "farm_machine": 6.8, "farm_laws": 1.0, "api_routes": 3.1, "farm_files": 5.4, "farm_core": 2.8, "farm_server": 1.8, "farm_serving": 1.7, "farm_bulk": 2.2,
-    "console_commands": 1.8, "farm_cli": 4.7, "farm": 2.0, "listeners": 1.0, "houses": 0.9, "load_requests": 0.7,
+    "scope_sets": 1.6, "dep_graph": 2.7, "jsone_expr": 3.3, "farm_text": 5.2, "role_expand": 5.5, "octets": 0.4, "causes": 0.4, "route_table": 1.3,
+    "http_wire": 3.2, "disk_base": 1.9, "task_defs": 6.9, "jsone_values": 3.8, "slug_places": 0.4, "hawk_auth": 3.9, "task_groups": 1.1, "scope_lines": 0.8,
+    "plain_text": 0.6, "disk_journal": 1.4, "jsone_eval": 2.5, "command_line": 4.0, "shared_desk": 1.8, "claim_queue": 2.7, "run_states": 2.5,
+    "farm_record": 2.6, "jsone_render": 10.7, "call_rules": 2.0, "task_statuses": 1.3, "hook_book": 0.8, "listeners": 1.3, "random_ids": 0.6,
+    "farm_rows": 5.0, "load_requests": 0.9, "houses": 2.4, "hook_fire": 1.0, "farm_asks": 3.3, "console_commands": 2.1, "farm_machine": 6.8,
+    "farm_files": 5.4, "api_routes": 3.2, "farm_core": 3.4, "farm_server": 1.9, "farm_serving": 1.8, "farm_laws": 0.8, "farm_bulk": 2.2, "farm_cli": 5.2,
+    "task_index": 7.6, "farm": 4.4,
 }
 TESTS = {
-    "wire_tests": 3.0, "scope_tests": 1.9, "text_tests": 1.7, "sign_tests": 3.2, "parsing_tests": 1.1, "expression_tests": 3.1, "rendering_tests": 1.9,
-    "queue_tests": 4.0, "task_tests": 7.0, "disk_tests": 1.9, "file_tests": 2.2, "farm_tests": 4.6, "connection_tests": 8.6, "desk_tests": 1.4, "cli_tests": 6.1, "farm_desk": 0.5,
-    "history": 0.4,
+    "wire_tests": 3.1, "farm_desk": 0.7, "parsing_tests": 1.2, "disk_tests": 2.5, "desk_tests": 1.7, "expression_tests": 3.6, "history": 0.4,
+    "queue_tests": 5.3, "sign_tests": 4.4, "rendering_tests": 2.1, "scope_tests": 2.0, "text_tests": 2.4, "task_tests": 6.7, "file_tests": 2.4,
+    "farm_tests": 12.4, "cli_tests": 8.0,
 }
 # An edit over what its crate's seed, a proof of the crate, has left.
 EDIT = 0.3
