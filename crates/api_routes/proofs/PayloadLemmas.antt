@@ -1,7 +1,7 @@
 -- What a hook is triggered with: the object that a document is.
 use Rattle.std.proofs.Common.{◌≡◌, ℕ, List, refl, sym, ap, ◌∙◌, subst}
 use Rattle.farm_text.specs.Document.{Document, Members, object}
-use Rattle.task_defs.specs.Documents.{members_in}
+use Rattle.task_types.specs.Maps.{members_in}
 use Rattle.api_routes.specs.Bodies.{IsDocument}
 
 -- a document that is an object is that of its members

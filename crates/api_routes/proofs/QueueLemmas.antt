@@ -5,7 +5,7 @@ use Rattle.std.proofs.lemmas.List.Elements.{All-append, All-cons, All-get_or, Al
 use Rattle.std.proofs.lemmas.Str.{IsUtf8-from_ascii}
 use Rattle.std.proofs.lemmas.Str.Ascii.{IsAscii-from_reads}
 use Rattle.call_rules.specs.HookNames.{IsHookByte, IsHookGroupId, IsHookId}
-use Rattle.task_defs.specs.Forms.{IsIdentifierByte, queue_name}
+use Rattle.task_types.specs.Forms.{IsIdentifierByte, queue_name}
 use Rattle.task_defs.specs.Values.{IsQueue}
 
 low : (b : ℕ) → IsIdentifierByte b → b < 128

@@ -1,10 +1,10 @@
 -- Some document says the definition of a task that a message makes.
 use Rattle.std.proofs.Common.{◌≡◌, ℕ, List, [], ◌∷◌, Option, Some, None, sym, subst, inl, inr}
 use Rattle.farm_text.specs.Slug.{slug_of}
-use Rattle.farm_record.specs.declared.change.RunName.{RunName}
-use Rattle.farm_record.specs.declared.change.Report.TheVariants.{Completed, Failed}
-use Rattle.task_defs.specs.Forms.{queue_name}
-use Rattle.task_defs.specs.declared.names.TaskQueue.{TaskQueue}
+use Rattle.task_types.specs.declared.change.RunName.{RunName}
+use Rattle.task_types.specs.declared.change.Report.TheVariants.{Completed, Failed}
+use Rattle.task_types.specs.Forms.{queue_name}
+use Rattle.task_types.specs.declared.names.TaskQueue.{TaskQueue}
 use Rattle.http_wire.specs.declared.message.Message.{Message}
 use Rattle.farm_asks.specs.declared.question.Call.{Call}
 use Rattle.farm_asks.specs.declared.question.Call.TheVariants.{CreateTask, Task, Status, ListTaskGroup, ListDependentTasks, ScheduleTask, RerunTask, CancelTask}

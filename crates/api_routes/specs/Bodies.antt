@@ -5,14 +5,14 @@ use Rattle.farm_text.specs.Document.{Document, Members, whole, text, object, mem
 use Rattle.farm_text.specs.Reading.{IsJson, unwhole}
 use Rattle.task_defs.specs.Definitions.{Says, rules}
 use Rattle.task_defs.specs.Faults.{IsFault}
-use Rattle.task_defs.specs.Forms.{IsIdentifier}
-use Rattle.task_defs.specs.declared.names.TaskQueue.{TaskQueue}
+use Rattle.task_types.specs.Forms.{IsIdentifier}
+use Rattle.task_types.specs.declared.names.TaskQueue.{TaskQueue}
 use Rattle.run_states.specs.Reasons.{resolved_name}
 use Rattle.task_index.specs.Changes.{reason_of}
-use Rattle.farm_record.specs.declared.change.Creation.{Creation}
-use Rattle.farm_record.specs.declared.change.Report.{Report}
-use Rattle.farm_record.specs.declared.change.Report.TheVariants as reports
-use Rattle.farm_record.specs.declared.change.RunName.{RunName}
+use Rattle.task_types.specs.declared.change.Creation.{Creation}
+use Rattle.task_types.specs.declared.change.Report.{Report}
+use Rattle.task_types.specs.declared.change.Report.TheVariants as reports
+use Rattle.task_types.specs.declared.change.RunName.{RunName}
 use Rattle.farm_asks.specs.declared.question.BodyFault.{BodyFault}
 use Rattle.farm_asks.specs.declared.question.BodyFault.TheVariants.{NotJson, NotWhole, NoDefinition, NoWork, NoReason, NoPayload}
 use Rattle.farm_asks.specs.declared.question.Call.{Call}

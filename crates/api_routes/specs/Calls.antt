@@ -3,12 +3,12 @@ use Rattle.std.specs.Prelude.{◌≡◌, ◌⊎◌, ℕ, decimal, codes, bytes_e
 use Rattle.std.specs.List.{range_with_len}
 use Rattle.call_rules.specs.HookNames.{IsHookGroupId, IsHookId}
 use Rattle.farm_text.specs.Slug.{slug_of}
-use Rattle.task_defs.specs.Forms.{IsIdentifier, queue_name}
+use Rattle.task_types.specs.Forms.{IsIdentifier, queue_name}
 use Rattle.task_defs.specs.Values.{IsQueue}
-use Rattle.task_defs.specs.declared.names.TaskQueue.{TaskQueue}
-use Rattle.farm_record.specs.declared.change.Report.{Report}
-use Rattle.farm_record.specs.declared.change.Report.TheVariants.{Completed, Failed}
-use Rattle.farm_record.specs.declared.change.RunName.{RunName}
+use Rattle.task_types.specs.declared.names.TaskQueue.{TaskQueue}
+use Rattle.task_types.specs.declared.change.Report.{Report}
+use Rattle.task_types.specs.declared.change.Report.TheVariants.{Completed, Failed}
+use Rattle.task_types.specs.declared.change.RunName.{RunName}
 use Rattle.farm_asks.specs.declared.question.Call.{Call}
 use Rattle.farm_asks.specs.declared.question.Call.TheVariants.{BadParameter, Ping, Task, Status, ListTaskGroup, ListDependentTasks, PendingTasks, ReclaimTask, ReportRun, ScheduleTask, RerunTask, CancelTask}
 use Rattle.farm_asks.specs.declared.question.PageRequest.{PageRequest}

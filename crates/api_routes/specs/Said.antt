@@ -3,8 +3,8 @@ use Rattle.std.specs.Prelude.{ℕ, pos, codes, bytes_eq, List, [], ◌∷◌, Op
 use Rattle.std.specs.Map.{lookup}
 use Rattle.farm_text.specs.Doc.{document as document_of}
 use Rattle.farm_text.specs.Document.{Document as AnyDocument, whole, text}
-use Rattle.farm_record.specs.declared.change.Report.{Report}
-use Rattle.farm_record.specs.declared.change.Report.TheVariants.{Superseded, WorkerShutdown, MalformedPayload, ResourceUnavailable, InternalError, IntermittentTask}
+use Rattle.task_types.specs.declared.change.Report.{Report}
+use Rattle.task_types.specs.declared.change.Report.TheVariants.{Superseded, WorkerShutdown, MalformedPayload, ResourceUnavailable, InternalError, IntermittentTask}
 use Rattle.farm_asks.specs.declared.question.BodyFault.{BodyFault}
 use Rattle.farm_asks.specs.declared.question.BodyFault.TheVariants.{NotJson, NotWhole}
 use Rattle.api_routes.specs.declared.bodies.Said.{Said}

@@ -2,17 +2,17 @@
 ghost use Rattle.std.specs.Prelude.{◌≡◌, ℕ, List, IfOk, MatchOption};
 ghost use Rattle.farm_text.specs.Doc.{document};
 ghost use Rattle.farm_asks.specs.declared.question.WorkRequest.{WorkRequest as Request};
-ghost use Rattle.task_defs.specs.Forms.{IsIdentifier};
+ghost use Rattle.task_types.specs.Forms.{IsIdentifier};
 ghost use Rattle.api_routes.specs.Bodies.{IsTaskBody, IsWorkBody, SaysWork, IsReasonBody, IsTriggerBody};
 ghost use Rattle.api_routes.specs.Said.{IsSaid};
 
 use crate::requests::{asked_of, reason_of};
 use call_rules::HookName;
 use farm_asks::question::{BodyFault, Call, Trigger, WorkRequest};
-use farm_record::{Creation, Resolution, RunName};
 use farm_text::{Doc, ReadFault, SlugId, Text};
 use std::alloc::{AllocError, Global};
-use task_defs::{DefError, Identifier, Object, TaskQueue, read_task};
+use task_defs::{DefError, read_task};
+use task_types::{Creation, Identifier, Object, Resolution, RunName, TaskQueue};
 
 /// What a body is: a document, or none for this reason.
 #[derive(Drop)]

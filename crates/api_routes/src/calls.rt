@@ -2,7 +2,7 @@
 ghost use Rattle.std.specs.Prelude.{◌≡◌, [], ◌∷◌, IfOk, map, length};
 ghost use Rattle.percent_encoding.specs.Percent.{percent_decode};
 ghost use Rattle.farm_text.specs.Slug.{slug_of};
-ghost use Rattle.task_defs.specs.Forms.{queue_name};
+ghost use Rattle.task_types.specs.Forms.{queue_name};
 ghost use Rattle.api_routes.specs.Arity.{arity};
 ghost use Rattle.api_routes.specs.Bodies.{IsReasonBody, IsWorkBody};
 ghost use Rattle.api_routes.specs.Calls.{Calls, CallsTask, CallsCreate, CallsRun, CallsQueue, CallsOfQueue, CallsList, CallsHook, Reclaims, Reports, Counts};
@@ -14,9 +14,9 @@ use crate::parts::{
 use crate::queries::{PageAsked, page_of};
 use call_rules::HookName;
 use farm_asks::question::{Call, Parameter};
-use farm_record::{Report, Resolution};
 use route_table::Route;
 use std::alloc::{AllocError, Global};
+use task_types::{Report, Resolution};
 
 /// The call of a route with these parts of the path for its parameters, percent-encoded, with this query and this body.
 pub(crate) fn route_call(

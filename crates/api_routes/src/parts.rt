@@ -3,7 +3,7 @@ ghost use Rattle.std.specs.Prelude.{◌≡◌, ◌+◌, ◌<◌, ◌≤◌, IfOk
 ghost use Rattle.std.specs.List.{range_with_len};
 ghost use Rattle.percent_encoding.specs.Percent.{percent_decode};
 ghost use Rattle.farm_text.specs.Slug.{slug_of};
-ghost use Rattle.task_defs.specs.Forms.{IsIdentifier, queue_name};
+ghost use Rattle.task_types.specs.Forms.{IsIdentifier, queue_name};
 ghost use Rattle.task_defs.specs.Values.{IsQueue};
 ghost use Rattle.call_rules.specs.HookNames.{IsHookGroupId, IsHookId};
 ghost use Rattle.api_routes.specs.Calls as calls;
@@ -11,12 +11,11 @@ ghost use Rattle.api_routes.specs.Named.{named_of};
 
 use call_rules::{HookGroupId, HookId};
 use farm_asks::question::Parameter;
-use farm_record::RunName;
 use farm_text::{SlugId, Text};
 use itoa::Buffer;
 use percent_encoding::percent_decode;
 use std::alloc::{AllocError, Global};
-use task_defs::TaskQueue;
+use task_types::{RunName, TaskQueue};
 
 /// A part of a path, percent-decoded.
 pub(crate) fn decoded(alloc: Global, part: &[u8]) -> Result<Vec<u8>, AllocError>

@@ -3,13 +3,13 @@ ghost use Rattle.std.specs.Prelude.{◌≡◌, ◌↔◌, ◌≤◌, ℕ, pos, L
 ghost use Rattle.farm_text.specs.Doc.{document, entries_of};
 ghost use Rattle.farm_text.specs.Document.{get, object, members_of, text as plain_text};
 ghost use Rattle.task_defs.specs.Documents.{text_of};
-ghost use Rattle.farm_record.specs.declared.change.Report.{Report as Reported};
+ghost use Rattle.task_types.specs.declared.change.Report.{Report as Reported};
 ghost use Rattle.api_routes.specs.Bodies.{AsksFor, SaysReason};
 ghost use Rattle.api_routes.specs.Said.{wanted_of, request_members, exception_of};
 
-use farm_record::Report;
 use farm_text::Doc;
 use std::collections::BTreeMap;
+use task_types::Report;
 
 /// What is to stand at a key.
 #[derive(Clone, Copy)]

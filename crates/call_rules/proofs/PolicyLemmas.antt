@@ -14,7 +14,7 @@ use Rattle.scope_sets.specs.Expressions.{Expression, one, view}
 use Rattle.scope_sets.specs.declared.expressions.Expr.{Expr, One, the_lemmas}
 use Rattle.call_rules.specs.HookNames.{IsHookByte, IsHookGroupId, IsHookId}
 use Rattle.call_rules.specs.Texts.{is_printable, are_printable}
-use Rattle.task_defs.specs.Forms.{IsIdentifierByte, IsProjectByte, IsIdentifier, IsProject}
+use Rattle.task_types.specs.Forms.{IsIdentifierByte, IsProjectByte, IsIdentifier, IsProject}
 
 -- ---- printable texts
 

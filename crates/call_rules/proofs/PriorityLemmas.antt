@@ -6,12 +6,12 @@ use Rattle.std.proofs.lemmas.List.Elements.{All-append, All-cons}
 use Rattle.scope_sets.specs.Scopes.{IsPrintable}
 use Rattle.scope_sets.specs.Expressions.{Expression, one, all_of, any_of, members_of, view, holds, all_hold, some_holds}
 use Rattle.scope_sets.specs.declared.expressions.Expr.{Expr}
-use Rattle.task_defs.specs.Forms.{queue_name}
-use Rattle.task_defs.specs.Choices.{priority_name, priorities}
-use Rattle.task_defs.specs.declared.choices.Priority.{Priority}
-use Rattle.task_defs.specs.declared.choices.Priority.TheVariants.{Highest, VeryHigh, High, Medium, Low, VeryLow, Lowest}
-use Rattle.task_defs.specs.declared.names.TaskQueue.{TaskQueue}
-use Rattle.task_defs.specs.declared.task_def.TaskDef.{TaskDef}
+use Rattle.task_types.specs.Forms.{queue_name}
+use Rattle.task_types.specs.Choices.{priority_name, priorities}
+use Rattle.task_types.specs.declared.choices.Priority.{Priority}
+use Rattle.task_types.specs.declared.choices.Priority.TheVariants.{Highest, VeryHigh, High, Medium, Low, VeryLow, Lowest}
+use Rattle.task_types.specs.declared.names.TaskQueue.{TaskQueue}
+use Rattle.task_types.specs.declared.task_def.TaskDef.{TaskDef}
 use Rattle.call_rules.specs.Policy.{rank, from_highest, create_scope, create_policy}
 use Rattle.call_rules.proofs.PolicyLemmas.{printable}
 

@@ -1,6 +1,6 @@
 -- The names of hooks (their forms are this project's own).
 use Rattle.std.specs.Prelude.{◌≡◌, ℕ, ◌⊎◌, List, ◌∷◌, ◌++◌}
-use Rattle.task_defs.specs.Forms.{HasForm, IsIdentifierByte}
+use Rattle.task_types.specs.Forms.{HasForm, IsIdentifierByte}
 
 -- the class `[A-Za-z0-9_/-]`
 abbrev pub IsHookByte : ℕ → Type 0

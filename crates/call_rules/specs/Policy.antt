@@ -3,12 +3,12 @@ use Rattle.std.specs.Prelude.{ℕ, nat_le, List, [], ◌∷◌, ◌++◌, map, c
 use Rattle.std.specs.List.{filter}
 use Rattle.farm_text.specs.Slug.{slug_text}
 use Rattle.scope_sets.specs.Expressions.{Expression, one, all_of, any_of, no_members, members_of}
-use Rattle.task_defs.specs.Choices.{priority_name, priorities}
-use Rattle.task_defs.specs.Forms.{queue_name}
-use Rattle.task_defs.specs.declared.choices.Priority.{Priority}
-use Rattle.task_defs.specs.declared.choices.Priority.TheVariants.{Highest, VeryHigh, High, Medium, Low, VeryLow, Lowest}
-use Rattle.task_defs.specs.declared.names.TaskQueue.{TaskQueue}
-use Rattle.task_defs.specs.declared.task_def.TaskDef.{TaskDef}
+use Rattle.task_types.specs.Choices.{priority_name, priorities}
+use Rattle.task_types.specs.Forms.{queue_name}
+use Rattle.task_types.specs.declared.choices.Priority.{Priority}
+use Rattle.task_types.specs.declared.choices.Priority.TheVariants.{Highest, VeryHigh, High, Medium, Low, VeryLow, Lowest}
+use Rattle.task_types.specs.declared.names.TaskQueue.{TaskQueue}
+use Rattle.task_types.specs.declared.task_def.TaskDef.{TaskDef}
 use Rattle.call_rules.specs.HookNames.{hook_name}
 use Rattle.call_rules.specs.declared.calls.Call.{Call}
 use Rattle.call_rules.specs.declared.calls.Call.TheVariants.{Ping, Task, Status, ListTaskGroup, ListDependentTasks, PendingTasks, CreateTask, ClaimWork, ReclaimTask, ResolveRun, ScheduleTask, RerunTask, CancelTask, TriggerHook}

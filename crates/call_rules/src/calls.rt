@@ -14,7 +14,7 @@ use crate::work::{claim_scopes, reclaim_scope, resolve_scope};
 use farm_text::SlugId;
 use scope_sets::Expr;
 use std::alloc::{AllocError, Global};
-use task_defs::{Identifier, TaskDef, TaskQueue};
+use task_types::{Identifier, TaskDef, TaskQueue};
 
 /// A call, with what its scopes name.
 #[derive(Clone, Copy)]

@@ -2,14 +2,14 @@
 ghost use Rattle.std.specs.Prelude.{◌≡◌, ◌∷◌, ◌++◌, map, codes, All, string_bytes, IfOk, OnOk};
 ghost use Rattle.scope_sets.specs.Scopes.{IsPrintable};
 ghost use Rattle.scope_sets.specs.Expressions.{view, one, any_of, members_of};
-ghost use Rattle.task_defs.specs.Choices.{priority_name};
-ghost use Rattle.task_defs.specs.Forms.{queue_name};
+ghost use Rattle.task_types.specs.Choices.{priority_name};
+ghost use Rattle.task_types.specs.Forms.{queue_name};
 ghost use Rattle.call_rules.specs.Policy as table;
 
 use crate::scopes::scope_of;
 use scope_sets::{Expr, Scope};
 use std::alloc::{AllocError, Global};
-use task_defs::{Priority, Route, TaskDef, TaskQueue};
+use task_types::{Priority, Route, TaskDef, TaskQueue};
 
 /// What creating a task of this definition asks.
 pub fn create_policy(alloc: Global, def: &TaskDef) -> Result<Expr, AllocError>

@@ -1,6 +1,6 @@
 //! The names of hooks.
 ghost use Rattle.std.specs.Prelude.{◌≡◌, ◌↔◌, IsTrue, IsSome, IfSome};
-ghost use Rattle.task_defs.specs.Forms.{IsIdentifierByte};
+ghost use Rattle.task_types.specs.Forms.{IsIdentifierByte};
 ghost use Rattle.call_rules.specs.HookNames.{IsHookByte, IsHookGroupId, IsHookId};
 
 use farm_text::Text;

@@ -9,7 +9,7 @@ use crate::scopes::{joined, scope_of};
 use farm_text::SlugId;
 use scope_sets::Expr;
 use std::alloc::{AllocError, Global};
-use task_defs::TaskDef;
+use task_types::TaskDef;
 
 /// The scopes of scheduleTask, of which one is asked.
 pub fn schedule_scopes(alloc: Global, id: SlugId, def: &TaskDef) -> Result<Expr, AllocError>

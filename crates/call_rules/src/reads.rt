@@ -9,7 +9,7 @@ use crate::work::pair_scope;
 use farm_text::SlugId;
 use scope_sets::Expr;
 use std::alloc::{AllocError, Global};
-use task_defs::TaskQueue;
+use task_types::TaskQueue;
 
 /// The scope of a task's definition.
 pub fn task_scope(alloc: Global, id: SlugId) -> Result<Expr, AllocError>

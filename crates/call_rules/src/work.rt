@@ -10,7 +10,7 @@ use farm_text::SlugId;
 use itoa::Buffer;
 use scope_sets::{Expr, Scope};
 use std::alloc::{AllocError, Global};
-use task_defs::{Identifier, TaskQueue};
+use task_types::{Identifier, TaskQueue};
 
 /// The scopes of claimWork: to take work of the queue, as the worker of this group and id.
 pub fn claim_scopes(

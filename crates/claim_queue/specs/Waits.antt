@@ -3,8 +3,8 @@ use Rattle.std.specs.Prelude.{ℕ, ◌+◌, ◌-◌, max, Bool, false, ◌&&◌,
 use Rattle.std.specs.Option.{option_map_or}
 use Rattle.std.specs.List.{list_any, count_by, reduce}
 use Rattle.std.specs.Str.{bytes_eq}
-use Rattle.task_defs.specs.declared.choices.Priority.{Priority}
-use Rattle.task_defs.specs.declared.choices.Priority.TheVariants.{Highest, VeryHigh, High, Medium, Low, VeryLow, Lowest}
+use Rattle.task_types.specs.declared.choices.Priority.{Priority}
+use Rattle.task_types.specs.declared.choices.Priority.TheVariants.{Highest, VeryHigh, High, Medium, Low, VeryLow, Lowest}
 use Rattle.claim_queue.specs.declared.queues.Queue.{Queue}
 use Rattle.claim_queue.specs.Held.{up_to, held_from}
 

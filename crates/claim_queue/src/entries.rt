@@ -4,7 +4,7 @@ ghost use Rattle.claim_queue.specs.Waits.{rank};
 ghost use Rattle.claim_queue.specs.WaitHeaps.{entry_turn};
 
 use crate::turns::Turn;
-use task_defs::Priority;
+use task_types::Priority;
 
 /// A row that waits: the place of its queue, its priority, and the number that it drew.
 #[derive(Clone, Copy)]

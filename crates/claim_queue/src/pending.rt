@@ -21,7 +21,7 @@ use std::alloc::{AllocError, Global};
 use std::collections::BTreeMap;
 use std::marker::Model;
 use std::sync::ledger::Ledger;
-use task_defs::Priority;
+use task_types::Priority;
 
 /// Rows that wait for a worker, each in its queue.
 ///

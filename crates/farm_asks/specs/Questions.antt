@@ -1,6 +1,6 @@
 -- What a farm is asked: a call as it was asked, and what is known of it (the Taskcluster reference; the names of parameters are those of its routes, but for `queue`).
 use Rattle.std.specs.Prelude.{ℕ, List, codes}
-use Rattle.farm_record.specs.declared.change.Kind.TheVariants.{Create}
+use Rattle.task_types.specs.declared.change.Kind.TheVariants.{Create}
 use Rattle.farm_record.specs.Records.{IsSaid}
 use Rattle.farm_asks.specs.declared.question.Call.{Call}
 use Rattle.farm_asks.specs.declared.question.Call.TheVariants.{CreateTask}

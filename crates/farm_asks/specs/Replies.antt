@@ -6,8 +6,8 @@ use Rattle.farm_text.specs.Document.{Document, boolean, whole, text, object, Mem
 use Rattle.farm_asks.specs.Expressions.{document_of}
 use Rattle.run_states.specs.Rows.{Row}
 use Rattle.task_statuses.specs.Statuses.{status_of}
-use Rattle.task_defs.specs.Forms.{queue_name}
-use Rattle.task_defs.specs.declared.names.TaskQueue.{TaskQueue}
+use Rattle.task_types.specs.Forms.{queue_name}
+use Rattle.task_types.specs.declared.names.TaskQueue.{TaskQueue}
 use Rattle.farm_asks.specs.declared.question.BodyFault.{BodyFault}
 use Rattle.farm_asks.specs.declared.question.BodyFault.TheVariants.{NotJson, NotWhole, NoDefinition, NoWork, NoReason, NoPayload}
 use Rattle.farm_asks.specs.declared.reply.Answer.{Answer}

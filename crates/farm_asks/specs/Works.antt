@@ -2,9 +2,9 @@
 -- a body has is this project's profile).
 use Rattle.std.specs.Prelude.{ℕ, ◌-◌, pos, List, [], ◌∷◌, ◌++◌, map, length, codes, Option, Some, None, option_and_then, slice_get}
 use Rattle.farm_text.specs.Document.{Document, null, whole, text, array, object, items_of, members_of}
-use Rattle.farm_record.specs.declared.change.Change.{Change}
-use Rattle.farm_record.specs.declared.change.Kind.{Kind}
-use Rattle.farm_record.specs.declared.change.Kind.TheVariants.{Claim as TakesRuns, Reclaim}
+use Rattle.task_types.specs.declared.change.Change.{Change}
+use Rattle.task_types.specs.declared.change.Kind.{Kind}
+use Rattle.task_types.specs.declared.change.Kind.TheVariants.{Claim as TakesRuns, Reclaim}
 use Rattle.run_states.specs.declared.run.Claim.{Claim}
 use Rattle.run_states.specs.Rows.{Row}
 use Rattle.task_statuses.specs.Statuses.{moment_doc, definition_of, status_of}

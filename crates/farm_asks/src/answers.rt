@@ -20,13 +20,12 @@ use crate::question::BodyFault;
 use crate::reply::Answer;
 use crate::status_code::StatusCode;
 use call_rules::{HookName, hook_name, run_name};
-use farm_record::RunName;
 use farm_text::{Doc, Entries, SlugId, Text};
 use hawk_auth::AuthFault;
 use run_states::TaskRow;
 use scope_sets::Expr;
 use std::alloc::{AllocError, Global};
-use task_defs::TaskQueue;
+use task_types::{RunName, TaskQueue};
 
 /// A call is done, with this body.
 pub fn ok(body: Text) -> Answer

@@ -10,8 +10,8 @@ use farm_text::Text;
 use json::Writer;
 use run_states::TaskRow;
 use std::alloc::{AllocError, Global};
-use task_defs::TaskDef;
 use task_statuses::{number_member, text_member, write_definition, write_status};
+use task_types::TaskDef;
 
 /// The text of the body that tells the status of a task.
 pub fn status_text(alloc: Global, row: &TaskRow) -> Result<Text, AllocError>

@@ -4,11 +4,11 @@ ghost use Rattle.farm_text.specs.declared.moment.TheConstants.{LAST_TOLD_MOMENT}
 ghost use Rattle.farm_asks.specs.Questions.{IsSaidCall};
 
 use call_rules::HookName;
-use farm_record::{Creation, Resolution, RunName};
 use farm_text::{Moment, SlugId, Text};
 use octets::Bytes;
 use std::marker::Model;
-use task_defs::{DefFault, Identifier, Object, TaskQueue};
+use task_defs::DefFault;
+use task_types::{Creation, Identifier, Object, Resolution, RunName, TaskQueue};
 
 /// A parameter of a target, by its name in the route or the query.
 #[derive(Clone, Copy, Debug, PartialEq, Eq)]
@@ -163,7 +163,7 @@ pub struct Question {
 
 impl Model for Question {
     ghost use Rattle.std.specs.Coded.{codes};
-    ghost use Rattle.task_defs.specs.Codes.{members_code};
+    ghost use Rattle.task_types.specs.Codes.{members_code};
     ghost use Rattle.hook_book.specs.Codes.{document_code};
     ghost use Rattle.std.specs.Prelude.{◌≤◌};
     ghost use Rattle.farm_text.specs.declared.moment.TheConstants.{LAST_TOLD_MOMENT};

@@ -11,12 +11,12 @@ ghost use Rattle.farm_asks.specs.Tellings.{told_by};
 ghost use Rattle.farm_asks.specs.Works as works;
 
 use crate::bodies::write_status_body;
-use farm_record::Kind;
 use farm_text::Text;
 use json::Writer;
 use run_states::{Claim, TaskRow};
 use std::alloc::{AllocError, Global};
 use task_statuses::{moment_member, number_member, write_definition, write_status, write_worker};
+use task_types::Kind;
 
 /// What of a planned change is told.
 #[derive(Clone, Copy, Debug, PartialEq, Eq)]

@@ -6,18 +6,18 @@ use Rattle.farm_text.specs.Reading.{IsJson, unwhole}
 use Rattle.farm_text.specs.Slug.{slug_of}
 use Rattle.call_rules.specs.declared.hook_names.HookName.{HookName}
 use Rattle.task_defs.specs.Definitions.{Says, rules}
-use Rattle.task_defs.specs.Forms.{queue_name}
+use Rattle.task_types.specs.Forms.{queue_name}
 use Rattle.task_defs.specs.declared.fault.DefFault.{DefFault}
-use Rattle.task_defs.specs.declared.names.TaskQueue.{TaskQueue}
+use Rattle.task_types.specs.declared.names.TaskQueue.{TaskQueue}
 use Rattle.task_defs.proofs.OneLemmas.{fault_one, no_fault}
-use Rattle.task_defs.proofs.QueueLemmas.{queue_name_same}
+use Rattle.task_types.proofs.QueueNameLemmas.{queue_name_same}
 use Rattle.run_states.specs.Reasons.{resolved_name}
 use Rattle.task_index.specs.Changes.{reason_of}
-use Rattle.farm_record.specs.declared.change.Creation.{Creation}
-use Rattle.farm_record.specs.declared.change.Report.{Report}
-use Rattle.farm_record.specs.declared.change.Report.TheVariants.{Completed, Failed, Superseded, WorkerShutdown, MalformedPayload, ResourceUnavailable, InternalError, IntermittentTask}
-use Rattle.farm_record.specs.declared.change.Resolution.{Resolution}
-use Rattle.farm_record.specs.declared.change.RunName.{RunName}
+use Rattle.task_types.specs.declared.change.Creation.{Creation}
+use Rattle.task_types.specs.declared.change.Report.{Report}
+use Rattle.task_types.specs.declared.change.Report.TheVariants.{Completed, Failed, Superseded, WorkerShutdown, MalformedPayload, ResourceUnavailable, InternalError, IntermittentTask}
+use Rattle.task_types.specs.declared.change.Resolution.{Resolution}
+use Rattle.task_types.specs.declared.change.RunName.{RunName}
 use Rattle.farm_asks.specs.declared.question.BodyFault.{BodyFault}
 use Rattle.farm_asks.specs.declared.question.BodyFault.TheVariants.{NotJson, NotWhole, NoDefinition, NoWork, NoReason, NoPayload}
 use Rattle.farm_asks.specs.declared.question.Call.{Call}

@@ -5,7 +5,7 @@ use Rattle.farm_text.proofs.OneMomentLemmas.{IsDateTime-one}
 use Rattle.task_defs.specs.Definitions.{Says}
 use Rattle.task_defs.specs.Parts.{IsOnlyAt}
 use Rattle.task_defs.specs.Rules.{MomentAt, IsExpires}
-use Rattle.task_defs.specs.declared.task_def.TaskDef.{TaskDef}
+use Rattle.task_types.specs.declared.task_def.TaskDef.{TaskDef}
 use Rattle.task_defs.proofs.DefinitionLemmas.{definition_one}
 use Rattle.task_defs.proofs.TimeLemmas.{only_same}
 

@@ -14,7 +14,7 @@ use Rattle.command_line.specs.Words.{disk_of}
 use Rattle.disk_journal.specs.Records.{Opens}
 use Rattle.disk_journal.specs.declared.fault.OpenFault.{OpenFault}
 use Rattle.disk_journal.specs.declared.fault.OpenFault.TheVariants as faults
-use Rattle.farm_record.specs.declared.change.Change.{Change}
+use Rattle.task_types.specs.declared.change.Change.{Change}
 use Rattle.task_index.specs.Contents.{Contents, no_contents}
 use Rattle.farm_core.specs.Opened.{IsFarmDamaged, Replays}
 use Rattle.farm_core.specs.Records.{AreRecords}

@@ -5,7 +5,7 @@ use Rattle.disk_journal.specs.declared.fault.OpenFault.{OpenFault}
 use Rattle.disk_journal.specs.declared.fault.OpenFault.TheVariants as faults
 use Rattle.history.specs.Asks.{AsksInTurn, LeadsAlone}
 use Rattle.history.specs.Histories.{end_state}
-use Rattle.farm_record.specs.declared.change.Change.{Change}
+use Rattle.task_types.specs.declared.change.Change.{Change}
 use Rattle.task_index.specs.Contents.{Contents}
 use Rattle.farm_core.specs.Farm.{HoldsHistory, state_of}
 use Rattle.farm_core.specs.Opened.{IsFarmDamaged}

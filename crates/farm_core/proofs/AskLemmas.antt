@@ -5,7 +5,7 @@ use Rattle.std.specs.Option.{option_to_list}
 use Rattle.history.specs.Histories.{end_state}
 use Rattle.disk_base.specs.Contents.{Contents as Disk}
 use Rattle.farm_text.specs.declared.moment.TheConstants.{LAST_TOLD_MOMENT}
-use Rattle.farm_record.specs.declared.change.Change.{Change}
+use Rattle.task_types.specs.declared.change.Change.{Change}
 use Rattle.farm_record.specs.Records.{tick_at}
 use Rattle.farm_asks.specs.declared.config.Config.{Config}
 use Rattle.farm_asks.specs.declared.reply.Asked.{Asked}

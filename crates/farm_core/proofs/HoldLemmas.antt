@@ -8,7 +8,7 @@ use Rattle.history.proofs.HistoriesLemmas.{end_state-append}
 use Rattle.disk_base.specs.Contents.{Contents as Disk}
 use Rattle.disk_journal.specs.Images.{IsImage}
 use Rattle.disk_journal.proofs.AppendLemmas.{ready_image}
-use Rattle.farm_record.specs.declared.change.Change.{Change}
+use Rattle.task_types.specs.declared.change.Change.{Change}
 use Rattle.task_index.specs.Contents.{Contents}
 use Rattle.farm_asks.specs.declared.config.Config.{Config}
 use Rattle.farm_asks.specs.declared.reply.Asked.{Asked}

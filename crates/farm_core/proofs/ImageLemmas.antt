@@ -5,7 +5,7 @@ use Rattle.std.proofs.lemmas.Grind.{flat_map-append}
 use Rattle.history.specs.Histories.{IsLegal, end_state, Leads}
 use Rattle.history.proofs.HistoriesLemmas.{IsLegal-front, IsLegal-back}
 use Rattle.disk_base.specs.Contents.{Contents as Disk, LeftNow}
-use Rattle.farm_record.specs.declared.change.Change.{Change}
+use Rattle.task_types.specs.declared.change.Change.{Change}
 use Rattle.task_index.specs.Contents.{Contents}
 use Rattle.farm_asks.specs.Questions.{Asking}
 use Rattle.farm_machine.specs.Entry.{Entry, tick, call, finished, out_of_memory, disk_failed, was_halted}

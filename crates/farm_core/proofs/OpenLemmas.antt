@@ -7,7 +7,7 @@ use Rattle.disk_journal.specs.Records.{sized, records, Opens, placed}
 use Rattle.disk_journal.specs.Images.{IsWithin}
 use Rattle.disk_journal.proofs.LawLemmas.{opens_one, opens_whole, image_opens, within_image}
 use Rattle.disk_journal.proofs.RecordLemmas.{length-sized}
-use Rattle.farm_record.specs.declared.change.Change.{Change}
+use Rattle.task_types.specs.declared.change.Change.{Change}
 use Rattle.farm_record.specs.Records.{IsRecord}
 use Rattle.task_index.specs.Contents.{Contents, no_contents}
 use Rattle.farm_machine.specs.Replay.{may_replay, after_replay, replayed, IsTried}

@@ -1,7 +1,7 @@
 -- A call that is planned may be finished.
 use Rattle.std.proofs.Common.{◌≡◌, ◌≤◌, true, Option, Some, None, IfSome, option_map, refl, subst, arith}
 use Rattle.farm_text.specs.declared.moment.TheConstants.{LAST_TOLD_MOMENT}
-use Rattle.farm_record.specs.declared.change.Change.{Change}
+use Rattle.task_types.specs.declared.change.Change.{Change}
 use Rattle.task_index.specs.Changes.{may_apply}
 use Rattle.task_index.specs.Contents.{Contents}
 use Rattle.task_index.specs.Plans as tasks

@@ -5,7 +5,7 @@ use Rattle.disk_base.specs.Contents.{Contents}
 use Rattle.disk_journal.specs.Keeping.{IsReady, Keeps}
 use Rattle.disk_journal.specs.Records.{records}
 use Rattle.disk_journal.proofs.KeepsLemmas.{Keeps-none, Keeps-then, few-records}
-use Rattle.farm_record.specs.declared.change.Change.{Change}
+use Rattle.task_types.specs.declared.change.Change.{Change}
 use Rattle.farm_record.specs.Records.{IsRecord}
 use Rattle.farm_core.specs.Records.{AreRecords, KeepsRecords}
 

@@ -8,7 +8,7 @@ use Rattle.disk_base.proofs.StopsLemmas.{StopsLeave-weaker}
 use Rattle.disk_journal.specs.Images.{IsImage, IsWithin}
 use Rattle.disk_journal.proofs.KeepsLemmas.{within-more}
 use Rattle.disk_journal.proofs.LawLemmas.{empty_image}
-use Rattle.farm_record.specs.declared.change.Change.{Change}
+use Rattle.task_types.specs.declared.change.Change.{Change}
 use Rattle.task_index.specs.Contents.{Contents, no_contents}
 use Rattle.farm_machine.specs.Entry.{Entry}
 use Rattle.farm_machine.specs.Replay.{records_by, records_of}

@@ -2,7 +2,7 @@
 use Rattle.std.specs.Prelude.{◌≡◌, ℕ, ◌+◌, true, false, Bool, List, [], ◌∷◌, length, Option, Result, Ok, Err}
 use Rattle.std.specs.Option.{option_to_list}
 use Rattle.disk_base.specs.Contents.{Contents as Disk}
-use Rattle.farm_record.specs.declared.change.Change.{Change}
+use Rattle.task_types.specs.declared.change.Change.{Change}
 use Rattle.farm_record.specs.Records.{tick_at}
 use Rattle.task_index.specs.Contents.{Contents}
 use Rattle.task_index.specs.Due.{is_due}

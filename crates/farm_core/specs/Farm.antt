@@ -2,7 +2,7 @@
 use Rattle.std.specs.Prelude.{◌≡◌, ℕ, ◌+◌, ◌≤◌, true, false, Bool, ◌⊎◌, List, [], ◌∷◌, ◌++◌, length}
 use Rattle.causes.specs.Causes.{Rose}
 use Rattle.disk_base.specs.Contents.{Contents as Disk}
-use Rattle.farm_record.specs.declared.change.Change.{Change}
+use Rattle.task_types.specs.declared.change.Change.{Change}
 use Rattle.history.specs.Asks.{IsAsk}
 use Rattle.history.specs.Histories.{entries, end_state, Leads}
 use Rattle.farm_asks.specs.declared.config.Config.{Config}

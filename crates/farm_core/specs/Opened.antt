@@ -5,7 +5,7 @@ use Rattle.disk_journal.specs.Images.{IsWithin}
 use Rattle.disk_journal.specs.Keeping.{IsReady}
 use Rattle.disk_journal.specs.Opening.{IsStill, ClosesGate}
 use Rattle.disk_journal.specs.Records.{records, Opens, IsDamaged, IsDamagedBehind}
-use Rattle.farm_record.specs.declared.change.Change.{Change}
+use Rattle.task_types.specs.declared.change.Change.{Change}
 use Rattle.farm_record.specs.Records.{IsRecord}
 use Rattle.task_index.specs.Contents.{Contents, no_contents}
 use Rattle.farm_machine.specs.Replay.{may_replay, replayed}

@@ -3,7 +3,7 @@ use Rattle.std.specs.Prelude.{◌≡◌, ℕ, Bool, false, List, [], ◌∷◌, 
 use Rattle.disk_base.specs.Contents.{Contents, LeftNow}
 use Rattle.disk_journal.specs.Images.{IsWithin}
 use Rattle.disk_journal.specs.Keeping.{IsReady, Keeps}
-use Rattle.farm_record.specs.declared.change.Change.{Change}
+use Rattle.task_types.specs.declared.change.Change.{Change}
 use Rattle.farm_record.specs.Records.{IsRecord}
 use Rattle.history.specs.Histories.{end_state}
 use Rattle.farm_asks.specs.Questions.{Asking}

@@ -1,7 +1,7 @@
 //! The two parts of an ask of a farm over a disk: what is due is kept and resolved, and the call is judged, kept and made.
 ghost use Rattle.std.specs.Prelude.{◌≡◌, ◌+◌, ◌≤◌, true, false, length, Some, None, IfOk, OnOk, OnErr, MatchOption};
 ghost use Rattle.causes.specs.Causes.{HasCause};
-ghost use Rattle.farm_record.specs.declared.change.Change.{Change};
+ghost use Rattle.task_types.specs.declared.change.Change.{Change};
 ghost use Rattle.farm_record.specs.Records.{IsRecord};
 ghost use Rattle.farm_text.specs.declared.moment.TheConstants.{LAST_TOLD_MOMENT};
 ghost use Rattle.farm_machine.specs.Changes.{moment_of as moment_by};

@@ -30,7 +30,7 @@ pub struct Bare {
 
 impl Model for Bare {
     ghost use Rattle.std.specs.Coded.{codes};
-    ghost use Rattle.task_defs.specs.Codes.{members_code};
+    ghost use Rattle.task_types.specs.Codes.{members_code};
     ghost use Rattle.hook_book.specs.Codes.{document_code};
     ghost use Rattle.farm_machine.specs.State.{State, working};
 

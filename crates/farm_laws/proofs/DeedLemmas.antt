@@ -1,6 +1,6 @@
 -- What calls change: nothing, or what their row or their run says.
 use Rattle.std.proofs.Common.{ℕ, Bool, true, false, List, Option, Some, None}
-use Rattle.farm_record.specs.declared.change.Change.{Change}
+use Rattle.task_types.specs.declared.change.Change.{Change}
 use Rattle.run_states.specs.Rows.{Row}
 use Rattle.farm_machine.specs.Case.{Case, of_row, of_run}
 

@@ -7,7 +7,7 @@ use Rattle.std.proofs.lemmas.List.Folds.{list_any-append}
 use Rattle.farm_text.specs.declared.moment.TheConstants.{LAST_TOLD_MOMENT}
 use Rattle.run_states.specs.Rows.{Row, claim_due, due_moments}
 use Rattle.run_states.proofs.ClaimLemmas.{claim-open, open-due}
-use Rattle.farm_record.specs.declared.change.Change.{Change}
+use Rattle.task_types.specs.declared.change.Change.{Change}
 use Rattle.task_index.specs.Contents.{Contents, row_with}
 use Rattle.task_index.specs.Due.{all_due_moments, is_due}
 use Rattle.task_index.specs.Changes.{may_be, may_apply}

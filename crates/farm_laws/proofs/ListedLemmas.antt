@@ -9,10 +9,10 @@ use Rattle.call_rules.specs.declared.hook_names.HookName.{HookName}
 use Rattle.hook_book.specs.Hooks.{HookData}
 use Rattle.run_states.specs.Rows.{Row}
 use Rattle.task_index.specs.Contents.{row_with}
-use Rattle.task_defs.specs.declared.choices.Priority.{Priority}
-use Rattle.task_defs.specs.declared.choices.Priority.TheVariants.{Highest, VeryHigh, High, Medium, Low, VeryLow, Lowest}
-use Rattle.task_defs.specs.declared.names.TaskQueue.{TaskQueue}
-use Rattle.task_defs.specs.declared.task_def.TaskDef.{TaskDef}
+use Rattle.task_types.specs.declared.choices.Priority.{Priority}
+use Rattle.task_types.specs.declared.choices.Priority.TheVariants.{Highest, VeryHigh, High, Medium, Low, VeryLow, Lowest}
+use Rattle.task_types.specs.declared.names.TaskQueue.{TaskQueue}
+use Rattle.task_types.specs.declared.task_def.TaskDef.{TaskDef}
 use Rattle.farm_asks.specs.declared.question.Call.{Call}
 use Rattle.farm_asks.specs.declared.question.Call.TheVariants.{NoRoute, BadParameter, BadBody, Ping, Task, Status, ListTaskGroup, ListDependentTasks, PendingTasks, CreateTask, ClaimWork, ReclaimTask, ReportRun, ScheduleTask, RerunTask, CancelTask, TriggerHook}
 use Rattle.farm_machine.specs.Calls.TriggerHook.{hook_at, of_hook}

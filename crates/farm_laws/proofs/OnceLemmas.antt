@@ -7,8 +7,8 @@ use Rattle.history.proofs.HistoriesLemmas.{end_state-append, IsLegal-back}
 use Rattle.scope_sets.specs.Expressions.{Expression, holds, missing}
 use Rattle.call_rules.specs.Policy.{create_policy}
 use Rattle.farm_text.specs.Document.{document_text}
-use Rattle.farm_record.specs.declared.change.Change.{Change}
-use Rattle.farm_record.specs.declared.change.Creation.{Creation}
+use Rattle.task_types.specs.declared.change.Change.{Change}
+use Rattle.task_types.specs.declared.change.Creation.{Creation}
 use Rattle.run_states.specs.Rows.{Row, new_row}
 use Rattle.run_states.specs.Later.{RowsLater}
 use Rattle.run_states.proofs.LaterLemmas.{RowsLater-refl, RowsLater-trans}

@@ -5,11 +5,11 @@ use Rattle.std.proofs.lemmas.Bool.{and_parts, eqb-true}
 use Rattle.std.proofs.lemmas.List.Sums.{sum_by-cons}
 use Rattle.std.proofs.lemmas.Slice.Eq.{bytes_eq-Decides}
 use Rattle.history.specs.Histories.{IsLegal, end_state}
-use Rattle.farm_record.specs.declared.change.Change.{Change}
-use Rattle.farm_record.specs.declared.change.Kind.{Kind}
-use Rattle.farm_record.specs.declared.change.Kind.TheVariants.{Tick, Create, Schedule, Rerun, Cancel, Claim as TakesRuns, Reclaim, Resolve}
-use Rattle.farm_record.specs.declared.change.Resolution.{Resolution}
-use Rattle.farm_record.specs.declared.change.RunName.{RunName}
+use Rattle.task_types.specs.declared.change.Change.{Change}
+use Rattle.task_types.specs.declared.change.Kind.{Kind}
+use Rattle.task_types.specs.declared.change.Kind.TheVariants.{Tick, Create, Schedule, Rerun, Cancel, Claim as TakesRuns, Reclaim, Resolve}
+use Rattle.task_types.specs.declared.change.Resolution.{Resolution}
+use Rattle.task_types.specs.declared.change.RunName.{RunName}
 use Rattle.run_states.specs.declared.reasons.ReasonCreated.{ReasonCreated}
 use Rattle.run_states.specs.declared.reasons.ReasonResolved.{ReasonResolved}
 use Rattle.run_states.specs.declared.run.Outcome.{Outcome}

@@ -2,7 +2,7 @@
 use Rattle.std.proofs.Common.{◌≡◌, ℕ, zero, suc, Bool, true, false, List, [], ◌∷◌, ◌++◌, Option, Some, None, option_and_then, slice_get, bytes_eq, refl, subst}
 use Rattle.history.specs.Histories.{IsLegal, end_state}
 use Rattle.history.proofs.HistoriesLemmas.{end_state-append}
-use Rattle.farm_record.specs.declared.change.RunName.{RunName}
+use Rattle.task_types.specs.declared.change.RunName.{RunName}
 use Rattle.run_states.specs.declared.run.Outcome.{Outcome}
 use Rattle.run_states.specs.declared.run.Run.{Run}
 use Rattle.run_states.specs.Rows.{Row}

@@ -1,16 +1,16 @@
 -- What a task serves those that wait for it, nothing takes back.
 use Rattle.std.proofs.Common.{◌≡◌, ℕ, zero, suc, Bool, true, false, List, [], ◌∷◌, length, bytes_eq, Option, Some, None, refl, ap, ◌∙◌}
 use Rattle.std.specs.List.{list_any}
-use Rattle.task_defs.specs.declared.choices.Requires.{Requires}
-use Rattle.task_defs.specs.declared.choices.Requires.TheVariants.{AllCompleted}
+use Rattle.task_types.specs.declared.choices.Requires.{Requires}
+use Rattle.task_types.specs.declared.choices.Requires.TheVariants.{AllCompleted}
 use Rattle.run_states.specs.Rows.{Row, loses_claim, exceeded}
 use Rattle.run_states.specs.Moves.{run_again, expired}
 use Rattle.run_states.specs.Serving.{serves}
 use Rattle.run_states.specs.Later.{RowsLater}
 use Rattle.run_states.proofs.LaterLemmas.{again-later, exceeded-later, expired-later}
 use Rattle.run_states.proofs.ServeLemmas.{completed-stays, serves-again, serves-exceeded, serves-expired}
-use Rattle.farm_record.specs.declared.change.Change.{Change}
-use Rattle.farm_record.specs.declared.change.Kind.TheVariants.{Rerun}
+use Rattle.task_types.specs.declared.change.Change.{Change}
+use Rattle.task_types.specs.declared.change.Kind.TheVariants.{Rerun}
 use Rattle.task_index.specs.Contents.{Contents}
 use Rattle.task_index.specs.Ready.{id_serves, settled}
 use Rattle.task_index.specs.Due.{all_due_moments, first_due, meets_deadline, change_first, resolved_at, after_first, turn, turns, advance}

@@ -1,10 +1,10 @@
 -- What replays from no tasks: no task is ready, none was scheduled twice, each has an id of its own, and what was created stands.
 use Rattle.std.proofs.Common.{◌≡◌, ℕ, Bool, true, false, cond, List, [], ◌∷◌, ◌++◌, Some, None, refl, ap, sym, subst, ◌∙◌}
 use Rattle.std.specs.List.{IsDistinct}
-use Rattle.farm_record.specs.declared.change.Change.{Change}
-use Rattle.farm_record.specs.declared.change.Creation.{Creation}
-use Rattle.farm_record.specs.declared.change.Kind.{Kind}
-use Rattle.farm_record.specs.declared.change.Kind.TheVariants.{Tick, Create, Schedule, Rerun, Cancel, Claim as TakesRuns, Reclaim, Resolve}
+use Rattle.task_types.specs.declared.change.Change.{Change}
+use Rattle.task_types.specs.declared.change.Creation.{Creation}
+use Rattle.task_types.specs.declared.change.Kind.{Kind}
+use Rattle.task_types.specs.declared.change.Kind.TheVariants.{Tick, Create, Schedule, Rerun, Cancel, Claim as TakesRuns, Reclaim, Resolve}
 use Rattle.run_states.specs.Later.{RowsLater}
 use Rattle.run_states.specs.Rows.{Row}
 use Rattle.task_index.specs.Changes.{creating, may_apply, applied}

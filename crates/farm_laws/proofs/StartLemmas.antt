@@ -17,10 +17,10 @@ use Rattle.run_states.specs.Reasons.{retry_after}
 use Rattle.run_states.specs.Runs.{taken, kept, ended, pending_run, change_last, change_at}
 use Rattle.run_states.specs.Rows.{Row, is_unscheduled, is_resolved, is_pending, is_running_at, loses_claim, runs_finished, finished, exceeded, first_run, scheduled, new_row}
 use Rattle.run_states.specs.Moves.{retried, followed, closed, claimed, reclaimed, resolved, expired, canceled, may_rerun, run_again}
-use Rattle.farm_record.specs.declared.change.Change.{Change}
-use Rattle.farm_record.specs.declared.change.Kind.{Kind}
-use Rattle.farm_record.specs.declared.change.Kind.TheVariants.{Tick, Create, Schedule, Rerun, Cancel, Claim as TakesRuns, Reclaim, Resolve}
-use Rattle.farm_record.specs.declared.change.RunName.{RunName}
+use Rattle.task_types.specs.declared.change.Change.{Change}
+use Rattle.task_types.specs.declared.change.Kind.{Kind}
+use Rattle.task_types.specs.declared.change.Kind.TheVariants.{Tick, Create, Schedule, Rerun, Cancel, Claim as TakesRuns, Reclaim, Resolve}
+use Rattle.task_types.specs.declared.change.RunName.{RunName}
 use Rattle.task_index.specs.Contents.{Contents, HaveOwnIds}
 use Rattle.task_index.specs.Ready.{is_ready, started, settled}
 use Rattle.task_index.specs.Due.{all_due_moments, first_due, meets_deadline, change_first, resolved_at, after_first, turn, turns, advance}

@@ -2,12 +2,12 @@
 ghost use Rattle.std.specs.Prelude.{◌≡◌, ◌<◌, ◌≤◌, ◌+◌, ◌++◌, ◌&&◌, ℕ, List, Option, max, map, length, is_none, true, false, Some};
 ghost use Rattle.run_states.specs.Rows.{Row, claim_due, new_row, scheduled};
 ghost use Rattle.run_states.specs.Later.{RowsLater};
-ghost use Rattle.farm_record.specs.declared.change.Change.{Change};
-ghost use Rattle.farm_record.specs.declared.change.Creation.{Creation};
-ghost use Rattle.farm_record.specs.declared.change.Kind.{Kind};
-ghost use Rattle.farm_record.specs.declared.change.Kind.TheVariants.{Schedule, Rerun};
-ghost use Rattle.task_defs.specs.declared.choices.Requires.{Requires};
-ghost use Rattle.task_defs.specs.declared.choices.Requires.TheVariants.{AllCompleted};
+ghost use Rattle.task_types.specs.declared.change.Change.{Change};
+ghost use Rattle.task_types.specs.declared.change.Creation.{Creation};
+ghost use Rattle.task_types.specs.declared.change.Kind.{Kind};
+ghost use Rattle.task_types.specs.declared.change.Kind.TheVariants.{Schedule, Rerun};
+ghost use Rattle.task_types.specs.declared.choices.Requires.{Requires};
+ghost use Rattle.task_types.specs.declared.choices.Requires.TheVariants.{AllCompleted};
 ghost use Rattle.task_index.specs.Contents.{Contents, row_with, HaveOwnIds};
 ghost use Rattle.task_index.specs.Ready.{id_serves, is_ready, has_ready, settled_row, settled};
 ghost use Rattle.task_index.specs.Due.{all_due_moments, is_due, first_due, change_first, resolved_at, advance};

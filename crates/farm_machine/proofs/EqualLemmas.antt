@@ -3,8 +3,8 @@ use Rattle.std.proofs.Common.{◌≡◌, ◌⊎◌, ℕ, refl, ap, inl, inr, ari
 use Rattle.std.proofs.lemmas.Bool.{cases_lt}
 use Rattle.std.specs.Coded.{Coded, codes}
 use base.Stored.{Gv, gnil, gnum, gcons}
-use Rattle.task_defs.specs.Codes.{members_code}
-use Rattle.task_defs.specs.declared.task_def.TaskDef.{TaskDef}
+use Rattle.task_types.specs.Codes.{members_code}
+use Rattle.task_types.specs.declared.task_def.TaskDef.{TaskDef}
 
 num_decided : (a b : ℕ) → (gnum a ≡ gnum b) ⊎ ¬ (gnum a ≡ gnum b)
 num_decided a b = elim (cases_lt a b) [

@@ -7,8 +7,8 @@ use Rattle.scope_sets.specs.Expressions.{Expression, missing}
 use Rattle.role_expand.specs.Cycles.{IsAccepted}
 use Rattle.call_rules.specs.Policy.{create_policy, hook_start}
 use Rattle.call_rules.specs.declared.hook_names.HookName.{HookName}
-use Rattle.farm_record.specs.declared.change.Creation.{Creation}
-use Rattle.farm_record.specs.declared.change.Kind.TheVariants.{Create}
+use Rattle.task_types.specs.declared.change.Creation.{Creation}
+use Rattle.task_types.specs.declared.change.Kind.TheVariants.{Create}
 use Rattle.farm_record.specs.Records.{IsSaid}
 use Rattle.hawk_auth.proofs.SomeLemmas.{expands}
 use Rattle.hook_fire.specs.Firing.{IsFired}
@@ -19,7 +19,7 @@ use Rattle.hook_fire.proofs.FiringLemmas.{Laws, one_answer}
 use Rattle.hook_fire.proofs.SomeFiring.{some_firing}
 use Rattle.jsone_render.proofs.OneRendering.{one_rendering}
 use Rattle.task_defs.specs.Definitions.{Says, rules}
-use Rattle.task_defs.specs.declared.task_def.TaskDef.{TaskDef}
+use Rattle.task_types.specs.declared.task_def.TaskDef.{TaskDef}
 use Rattle.task_defs.proofs.OneLemmas.{fault_one, no_fault}
 use Rattle.farm_asks.specs.declared.config.Config.{Config}
 use Rattle.farm_asks.specs.declared.question.Call.TheVariants.{TriggerHook}

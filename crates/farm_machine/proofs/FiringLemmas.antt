@@ -13,8 +13,8 @@ use Rattle.scope_sets.specs.Expressions.{Expression, missing}
 use Rattle.call_rules.specs.HookNames.{hook_name}
 use Rattle.call_rules.specs.Policy.{create_policy, trigger_policy, hook_start}
 use Rattle.call_rules.specs.declared.hook_names.HookName.{HookName}
-use Rattle.farm_record.specs.declared.change.Creation.{Creation}
-use Rattle.task_defs.specs.declared.task_def.TaskDef.{TaskDef}
+use Rattle.task_types.specs.declared.change.Creation.{Creation}
+use Rattle.task_types.specs.declared.task_def.TaskDef.{TaskDef}
 use Rattle.farm_asks.specs.declared.config.Config.{Config}
 use Rattle.farm_machine.specs.declared.firing.Firing.{Firing}
 use Rattle.farm_asks.specs.declared.question.Trigger.{Trigger}

@@ -2,8 +2,8 @@
 use Rattle.std.proofs.Common.{◌≡◌, ℕ, min, Bool, true, false, List, ◌∷◌, ◌++◌, length, Option, Some, None, is_none, option_and_then, bytes_eq, nat_le, nat_lt, if◌then◌else◌, refl, sym, ap, ◌∙◌, inl, inr, arith}
 use Rattle.std.specs.Option.{option_map_or}
 use Rattle.std.proofs.lemmas.Bool.{and_from, leb-false, lt-ltb}
-use Rattle.farm_record.specs.declared.change.Creation.{Creation}
-use Rattle.farm_record.specs.declared.change.Kind.TheVariants.{Create}
+use Rattle.task_types.specs.declared.change.Creation.{Creation}
+use Rattle.task_types.specs.declared.change.Kind.TheVariants.{Create}
 use Rattle.run_states.specs.Rows.{Row}
 use Rattle.task_index.specs.Changes.{kept_scheduler, waits_well, may_join}
 use Rattle.task_index.specs.Contents.{row_with}

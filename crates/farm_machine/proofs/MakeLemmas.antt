@@ -1,8 +1,8 @@
 -- What is answered where a change is planned, and where the farm is full for it.
 use Rattle.std.proofs.Common.{◌≡◌, ◌&&◌, ℕ, min, nat_le, true, false, length, Some, None, Result, Ok, Err, IfOk, List, refl, ap, ◌∙◌, subst}
 use Rattle.farm_text.specs.Document.{Document, document_text}
-use Rattle.farm_record.specs.declared.change.Change.{Change}
-use Rattle.farm_record.specs.declared.change.Kind.{Kind}
+use Rattle.task_types.specs.declared.change.Change.{Change}
+use Rattle.task_types.specs.declared.change.Kind.{Kind}
 use Rattle.run_states.specs.Rows.{Row}
 use Rattle.task_index.specs.Changes.{applied}
 use Rattle.task_index.specs.Contents.{Contents}

@@ -3,10 +3,10 @@ use Rattle.std.proofs.Common.{◌≡◌, ℕ, ◌<◌, ◌≤◌, ◌+◌, min, 
 use Rattle.std.proofs.lemmas.Bool.{le-leb, leb-false, lt-ltb}
 use Rattle.farm_text.specs.Document.{document_text}
 use Rattle.farm_text.specs.declared.moment.TheConstants.{LAST_TOLD_MOMENT}
-use Rattle.farm_record.specs.declared.change.Kind.{Kind}
-use Rattle.farm_record.specs.declared.change.Kind.TheVariants.{Schedule, Rerun, Cancel, Claim as TakesRuns, Reclaim, Resolve}
-use Rattle.farm_record.specs.declared.change.Resolution.{Resolution}
-use Rattle.farm_record.specs.declared.change.RunName.{RunName}
+use Rattle.task_types.specs.declared.change.Kind.{Kind}
+use Rattle.task_types.specs.declared.change.Kind.TheVariants.{Schedule, Rerun, Cancel, Claim as TakesRuns, Reclaim, Resolve}
+use Rattle.task_types.specs.declared.change.Resolution.{Resolution}
+use Rattle.task_types.specs.declared.change.RunName.{RunName}
 use Rattle.run_states.specs.Rows.{Row, is_unscheduled, is_resolved, is_running_at}
 use Rattle.run_states.specs.Moves.{ended_for_at}
 use Rattle.task_index.specs.Changes.{reason_of, may_keep, are_first, may_be, may_apply}

@@ -6,7 +6,7 @@ use Rattle.farm_asks.specs.declared.config.Config.{Config}
 use Rattle.farm_asks.specs.declared.question.Caller.{Caller}
 use Rattle.farm_asks.specs.declared.reply.Answer.{Answer}
 use Rattle.farm_asks.specs.Access.{Access, Has, Refused, HasAccess}
-use Rattle.farm_record.specs.declared.change.Kind.{Kind}
+use Rattle.task_types.specs.declared.change.Kind.{Kind}
 use Rattle.task_index.specs.Contents.{Contents}
 use Rattle.task_index.specs.Plans as tasks
 use Rattle.farm_machine.specs.declared.judged.Judged.{Judged}

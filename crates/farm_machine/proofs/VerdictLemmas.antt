@@ -2,13 +2,13 @@
 use Rattle.std.proofs.Common.{◌≡◌, ◌⊎◌, ℕ, ◌≤◌, Bool, true, false, List, ◌++◌, length, Option, Some, None, Ok, Err, not, ◌&&◌, nat_le, nat_lt, refl, inl, inr}
 use Rattle.hawk_auth.specs.Clients.{IsBook}
 use Rattle.role_expand.specs.Cycles.{IsAccepted}
-use Rattle.farm_record.specs.declared.change.Creation.{Creation}
+use Rattle.task_types.specs.declared.change.Creation.{Creation}
 use Rattle.run_states.specs.Rows.{Row, is_unscheduled, is_resolved, is_running_at}
 use Rattle.run_states.specs.Moves.{ended_for_at}
 use Rattle.task_index.specs.Changes.{reason_of}
 use Rattle.task_index.specs.Contents.{row_with}
 use Rattle.farm_rows.specs.Waits.{missing_dependency, early_dependency}
-use Rattle.task_defs.specs.declared.task_def.TaskDef.{TaskDef}
+use Rattle.task_types.specs.declared.task_def.TaskDef.{TaskDef}
 use Rattle.farm_asks.specs.declared.question.Call.{Call}
 use Rattle.farm_asks.specs.declared.question.Call.TheVariants.{NoRoute, BadParameter, BadBody, Ping, Task, Status, ListTaskGroup, ListDependentTasks, PendingTasks, CreateTask, ClaimWork, ReclaimTask, ReportRun, ScheduleTask, RerunTask, CancelTask, TriggerHook}
 use Rattle.farm_asks.specs.declared.reply.Answer.{Answer}

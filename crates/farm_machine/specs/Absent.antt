@@ -1,6 +1,6 @@
 -- Where a run is not there; for private clauses.
 use Rattle.std.specs.Prelude.{Option}
-use Rattle.farm_record.specs.declared.change.RunName.{RunName}
+use Rattle.task_types.specs.declared.change.RunName.{RunName}
 use Rattle.farm_asks.specs.declared.reply.Answer.{Answer}
 use Rattle.farm_machine.specs.Case.{Setting, on_run, passing}
 

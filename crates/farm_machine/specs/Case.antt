@@ -4,8 +4,8 @@ use Rattle.scope_sets.specs.Expressions.{Expression, all_of, no_members}
 use Rattle.farm_text.specs.Document.{Document, null}
 use Rattle.farm_text.specs.Slug.{slug_text}
 use Rattle.call_rules.specs.Policy.{run_name}
-use Rattle.farm_record.specs.declared.change.Change.{Change}
-use Rattle.farm_record.specs.declared.change.Kind.{Kind}
+use Rattle.task_types.specs.declared.change.Change.{Change}
+use Rattle.task_types.specs.declared.change.Kind.{Kind}
 use Rattle.run_states.specs.Rows.{Row}
 use Rattle.task_index.specs.Contents.{Contents, row_with}
 use Rattle.task_index.specs.Plans.{named_rows}

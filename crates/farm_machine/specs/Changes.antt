@@ -1,6 +1,6 @@
 -- The moment of a call, and what the tables keep after it.
 use Rattle.std.specs.Prelude.{ℕ, max, Option, Some, None}
-use Rattle.farm_record.specs.declared.change.Change.{Change}
+use Rattle.task_types.specs.declared.change.Change.{Change}
 use Rattle.task_index.specs.Changes.{applied}
 use Rattle.task_index.specs.Contents.{Contents}
 use Rattle.farm_asks.specs.Questions.{Asking}

@@ -1,6 +1,6 @@
 -- What comes of a hook that is triggered, as the program tells of it; for private clauses.
 use Rattle.std.specs.Prelude.{Option, Some, None, Ok, Err}
-use Rattle.farm_record.specs.declared.change.Creation.{Creation}
+use Rattle.task_types.specs.declared.change.Creation.{Creation}
 use Rattle.farm_machine.specs.declared.firing.Firing.{Firing}
 use Rattle.farm_machine.specs.declared.firing.Firing.TheVariants.{Makes, Refuses}
 use Rattle.farm_asks.specs.declared.reply.Answer.{Answer}

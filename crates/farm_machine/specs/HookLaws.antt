@@ -6,7 +6,7 @@ use Rattle.call_rules.specs.Policy.{create_policy, trigger_policy}
 use Rattle.farm_text.specs.Document.{object}
 use Rattle.hook_fire.specs.Firing.{Defines}
 use Rattle.hook_book.specs.Hooks.{HookData}
-use Rattle.task_defs.specs.declared.task_def.TaskDef.{TaskDef}
+use Rattle.task_types.specs.declared.task_def.TaskDef.{TaskDef}
 use Rattle.farm_asks.specs.declared.question.Call.TheVariants.{TriggerHook}
 use Rattle.farm_asks.specs.declared.question.Trigger.{Trigger}
 use Rattle.farm_asks.specs.declared.reply.Answer.{Answer}

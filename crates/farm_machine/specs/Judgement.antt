@@ -1,6 +1,6 @@
 -- What a call is answered, and what it changes.
 use Rattle.std.specs.Prelude.{Option, None}
-use Rattle.farm_record.specs.declared.change.Change.{Change}
+use Rattle.task_types.specs.declared.change.Change.{Change}
 use Rattle.farm_asks.specs.declared.reply.Answer.{Answer}
 
 -- what a call is answered, and what it changes

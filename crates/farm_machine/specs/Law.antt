@@ -1,6 +1,6 @@
 -- What a history of a farm begins from.
 use Rattle.std.specs.Prelude.{ℕ, List}
-use Rattle.farm_record.specs.declared.change.Change.{Change}
+use Rattle.task_types.specs.declared.change.Change.{Change}
 use Rattle.farm_machine.specs.State.{State}
 
 -- the state that a history begins from, and of the disk, if there is one, the changes whose records it held and how many of its calls had failed

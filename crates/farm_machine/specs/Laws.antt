@@ -4,16 +4,16 @@ use Rattle.scope_sets.specs.Expressions.{Expression, holds, missing, HasNoEmptyA
 use Rattle.scope_sets.specs.Scopes.{star}
 use Rattle.history.specs.Histories.{IsLegal, end_state}
 use Rattle.call_rules.specs.Policy.{create_policy}
-use Rattle.farm_record.specs.declared.change.Change.{Change}
-use Rattle.farm_record.specs.declared.change.Creation.{Creation}
-use Rattle.farm_record.specs.declared.change.Kind.{Kind}
-use Rattle.farm_record.specs.declared.change.Kind.TheVariants.{Create}
+use Rattle.task_types.specs.declared.change.Change.{Change}
+use Rattle.task_types.specs.declared.change.Creation.{Creation}
+use Rattle.task_types.specs.declared.change.Kind.{Kind}
+use Rattle.task_types.specs.declared.change.Kind.TheVariants.{Create}
 use Rattle.farm_text.specs.Document.{object, document_text}
 use Rattle.hook_fire.specs.Firing.{IsFired}
 use Rattle.hook_book.specs.Hooks.{HookData}
 use Rattle.hook_fire.specs.declared.fault.FireFault.{FireFault}
 use Rattle.hook_fire.specs.declared.fault.FireFault.TheVariants.{NoMemory}
-use Rattle.task_defs.specs.declared.task_def.TaskDef.{TaskDef}
+use Rattle.task_types.specs.declared.task_def.TaskDef.{TaskDef}
 use Rattle.run_states.specs.Rows.{Row}
 use Rattle.task_index.specs.Changes.{creating}
 use Rattle.task_index.specs.Contents.{Contents, row_with}

@@ -6,9 +6,9 @@ use Rattle.farm_asks.specs.declared.config.Config.{Config}
 use Rattle.farm_asks.specs.declared.question.Caller.{Caller}
 use Rattle.farm_asks.specs.declared.reply.Answer.{Answer}
 use Rattle.farm_asks.specs.Access.{Has, Refused, HasAccess}
-use Rattle.farm_record.specs.declared.change.Change.{Change}
-use Rattle.farm_record.specs.declared.change.Kind.{Kind}
-use Rattle.farm_record.specs.declared.change.Kind.TheVariants.{Create}
+use Rattle.task_types.specs.declared.change.Change.{Change}
+use Rattle.task_types.specs.declared.change.Kind.{Kind}
+use Rattle.task_types.specs.declared.change.Kind.TheVariants.{Create}
 use Rattle.farm_machine.specs.Case.{Setting, Deed, Rule, Case, passing}
 use Rattle.farm_machine.specs.Changes.{changed}
 use Rattle.farm_machine.specs.Judgement.{Judgement, only_answer}

@@ -1,14 +1,14 @@
 -- What holds of tasks that wait for others in every history of a farm: none is left ready, and none is scheduled twice.
 use Rattle.std.specs.Prelude.{◌≡◌, ℕ, true, false, List, ◌++◌, map, Some}
 use Rattle.history.specs.Histories.{end_state}
-use Rattle.farm_record.specs.declared.change.Change.{Change}
-use Rattle.farm_record.specs.declared.change.Kind.TheVariants.{Schedule}
+use Rattle.task_types.specs.declared.change.Change.{Change}
+use Rattle.task_types.specs.declared.change.Kind.TheVariants.{Schedule}
 use Rattle.run_states.specs.Rows.{Row}
 use Rattle.task_index.specs.Changes.{after_kind}
 use Rattle.task_index.specs.Contents.{Contents, HaveOwnIds}
 use Rattle.task_index.specs.Ready.{is_ready, id_serves, has_ready}
 use Rattle.farm_rows.specs.Starts.{starts, more_starts, starts_once, may_start, starts_by}
-use Rattle.task_defs.specs.declared.choices.Requires.{Requires}
+use Rattle.task_types.specs.declared.choices.Requires.{Requires}
 use Rattle.farm_machine.specs.Changes.{changed}
 use Rattle.farm_machine.specs.Entry.{Entry}
 use Rattle.farm_machine.specs.Replay.{Restores}

@@ -2,8 +2,8 @@
 use Rattle.std.specs.Prelude.{◌≡◌, ℕ, List, [], ◌∷◌, Option, Some, None, IfSome}
 use Rattle.scope_sets.specs.Expressions.{missing}
 use Rattle.farm_text.specs.Document.{document_text}
-use Rattle.farm_record.specs.declared.change.Change.{Change}
-use Rattle.farm_record.specs.declared.change.Kind.{Kind}
+use Rattle.task_types.specs.declared.change.Change.{Change}
+use Rattle.task_types.specs.declared.change.Kind.{Kind}
 use Rattle.task_index.specs.Contents.{Contents}
 use Rattle.task_index.specs.Plans as tasks
 use Rattle.farm_asks.specs.declared.config.Config.{Config}

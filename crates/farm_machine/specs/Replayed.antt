@@ -1,7 +1,7 @@
 -- How a tick is replayed in the code; for private clauses.
 use Rattle.std.specs.Prelude.{◌≡◌, ℕ, Bool, true, false}
-use Rattle.farm_record.specs.declared.change.Kind.{Kind}
-use Rattle.farm_record.specs.declared.change.Kind.TheVariants.{Tick}
+use Rattle.task_types.specs.declared.change.Kind.{Kind}
+use Rattle.task_types.specs.declared.change.Kind.TheVariants.{Tick}
 use Rattle.task_index.specs.Contents.{Contents}
 use Rattle.task_index.specs.Due.{advance}
 use Rattle.farm_machine.specs.Replay.{may_tick}

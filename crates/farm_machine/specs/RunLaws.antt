@@ -2,11 +2,11 @@
 -- counted with the records that the farm was opened from.
 use Rattle.std.specs.Prelude.{◌≡◌, ℕ, ◌+◌, ◌<◌, ◌≤◌, Bool, ◌&&◌, ◌==◌, List, ◌∷◌, ◌++◌, sum_by, count_by, Option, Some, None, is_some, option_and_then, slice_get, bytes_eq, if◌then◌else◌}
 use Rattle.history.specs.Histories.{IsLegal, end_state}
-use Rattle.farm_record.specs.declared.change.Change.{Change}
-use Rattle.farm_record.specs.declared.change.Kind.{Kind}
-use Rattle.farm_record.specs.declared.change.Kind.TheVariants.{Claim as TakesRuns, Resolve}
-use Rattle.farm_record.specs.declared.change.Resolution.{Resolution}
-use Rattle.farm_record.specs.declared.change.RunName.{RunName}
+use Rattle.task_types.specs.declared.change.Change.{Change}
+use Rattle.task_types.specs.declared.change.Kind.{Kind}
+use Rattle.task_types.specs.declared.change.Kind.TheVariants.{Claim as TakesRuns, Resolve}
+use Rattle.task_types.specs.declared.change.Resolution.{Resolution}
+use Rattle.task_types.specs.declared.change.RunName.{RunName}
 use Rattle.run_states.specs.declared.run.Claim.{Claim}
 use Rattle.run_states.specs.declared.run.Outcome.{Outcome}
 use Rattle.run_states.specs.declared.run.Run.{Run}

@@ -1,7 +1,7 @@
 -- One step of a farm: which entries may come, the state after one, and its reply.
 use Rattle.std.specs.Prelude.{◌≡◌, ◌⊎◌, ℕ, ◌≤◌, List, [], ◌∷◌, true, false, Option, Some, None, IfSome, if◌then◌else◌}
 use Rattle.history.specs.Rules.{Rules}
-use Rattle.farm_record.specs.declared.change.Change.{Change}
+use Rattle.task_types.specs.declared.change.Change.{Change}
 use Rattle.farm_record.specs.Records.{tick_at}
 use Rattle.farm_text.specs.declared.moment.TheConstants.{LAST_TOLD_MOMENT}
 use Rattle.farm_asks.specs.declared.reply.Asked.{Asked}

@@ -1,6 +1,6 @@
 -- The record of what a call changes: its text, which is read again where some document says the definition of a task that it makes.
 use Rattle.std.specs.Prelude.{ℕ, List, Option, Some, None}
-use Rattle.farm_record.specs.declared.change.Change.{Change}
+use Rattle.task_types.specs.declared.change.Change.{Change}
 use Rattle.farm_record.specs.Records.{IsSpelled, IsRecord, IsSaid}
 use Rattle.task_index.specs.Plans.{Planned}
 

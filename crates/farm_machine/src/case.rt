@@ -9,11 +9,11 @@ ghost use Rattle.farm_machine.specs.Deeds.{IsDeed, IsReady};
 use crate::tables::Tables;
 use farm_asks::config::Config;
 use farm_asks::reply::Answer;
-use farm_record::Kind;
 use farm_text::{Moment, SlugId, Text};
 use scope_sets::Expr;
 use std::alloc::{AllocError, Global};
 use std::marker::Model;
+use task_types::Kind;
 
 /// How many seconds a claim lasts at most, whatever a configuration says: a day.
 const LONGEST_CLAIM: u32 = 86_400;
@@ -29,7 +29,7 @@ pub(crate) struct Scene<'a> {
 
 impl<'a> Model for Scene<'a> {
     ghost use Rattle.std.specs.Coded.{codes};
-    ghost use Rattle.task_defs.specs.Codes.{members_code};
+    ghost use Rattle.task_types.specs.Codes.{members_code};
     ghost use Rattle.hook_book.specs.Codes.{document_code};
     ghost use Rattle.farm_machine.specs.Case.{Setting};
     ghost use Rattle.farm_machine.specs.State.{working};

@@ -11,11 +11,11 @@ use call_rules::{HookName, create_policy, hook_scope};
 use farm_asks::answers;
 use farm_asks::question::{BodyFault, Trigger};
 use farm_asks::reply::Answer;
-use farm_record::Creation;
 use hook_fire::{FireFault, fire};
 use role_expand::ExpandFault;
 use scope_sets::{ScopeSet, missing};
 use std::alloc::{AllocError, Global};
+use task_types::Creation;
 
 /// What comes of a hook that is triggered.
 #[derive(Drop)]

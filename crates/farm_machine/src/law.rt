@@ -19,7 +19,7 @@ pub struct States {}
 
 impl Model for States {
     ghost use Rattle.std.specs.Coded.{codes};
-    ghost use Rattle.task_defs.specs.Codes.{members_code};
+    ghost use Rattle.task_types.specs.Codes.{members_code};
     ghost use Rattle.hook_book.specs.Codes.{document_code};
     ghost use Rattle.farm_machine.specs.State.{State, empty_state, no_config};
 
@@ -35,7 +35,7 @@ pub struct Entries {}
 
 impl Model for Entries {
     ghost use Rattle.std.specs.Coded.{codes};
-    ghost use Rattle.task_defs.specs.Codes.{members_code};
+    ghost use Rattle.task_types.specs.Codes.{members_code};
     ghost use Rattle.hook_book.specs.Codes.{document_code};
     ghost use Rattle.farm_machine.specs.Entry.{Entry, tick};
 
@@ -51,7 +51,7 @@ pub struct Openings {}
 
 impl Model for Openings {
     ghost use Rattle.std.specs.Coded.{codes};
-    ghost use Rattle.task_defs.specs.Codes.{members_code};
+    ghost use Rattle.task_types.specs.Codes.{members_code};
     ghost use Rattle.hook_book.specs.Codes.{document_code};
     ghost use Rattle.std.specs.Prelude.{[]};
     ghost use Rattle.farm_machine.specs.Law.{Opening};

@@ -5,8 +5,8 @@ ghost use Rattle.farm_machine.specs.Absent.{absent_run};
 use crate::case::Scene;
 use farm_asks::answers;
 use farm_asks::reply::Answer;
-use farm_record::RunName;
 use std::alloc::{AllocError, Global};
+use task_types::RunName;
 
 /// The answer where the task of a run does not stand, or has no run of this number.
 pub(crate) fn absent_run(

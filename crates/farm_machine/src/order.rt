@@ -22,12 +22,13 @@ use farm_asks::config::Config;
 use farm_asks::question::Caller;
 use farm_asks::reply::Answer;
 use farm_asks::works::{Telling, telling_of, told};
-use farm_record::{Change, Kind, write_record};
+use farm_record::write_record;
 use farm_rows::TaskPlan;
 use farm_text::{Moment, SlugId};
 use run_states::TaskRow;
 use scope_sets::{ScopeSet, missing};
 use std::alloc::{AllocError, Global};
+use task_types::{Change, Kind};
 
 /// How many tasks a farm has at most, whatever its configuration says.
 const MOST_TASKS: u32 = 1_000_000;

@@ -1,6 +1,6 @@
 //! A call that is judged, with the reply and all the memory that its change takes.
 ghost use Rattle.std.specs.Prelude.{◌≡◌, Some, None, MatchOption};
-ghost use Rattle.farm_record.specs.declared.change.Change.{Change};
+ghost use Rattle.task_types.specs.declared.change.Change.{Change};
 ghost use Rattle.farm_record.specs.Records.{IsRecord};
 
 use crate::judged::Judged;
@@ -17,7 +17,7 @@ pub struct Plan {
 impl Model for Plan {
     ghost use Rattle.std.specs.Prelude.{◌≤◌, option_map};
     ghost use Rattle.std.specs.Coded.{codes};
-    ghost use Rattle.task_defs.specs.Codes.{members_code};
+    ghost use Rattle.task_types.specs.Codes.{members_code};
     ghost use Rattle.farm_text.specs.declared.moment.TheConstants.{LAST_TOLD_MOMENT};
     ghost use Rattle.farm_machine.specs.Planned.{Planned, judgement_of};
     ghost use Rattle.farm_machine.specs.Written.{AreRecorded};

@@ -6,9 +6,9 @@ ghost use Rattle.farm_machine.specs.Replay.{may_tick, may_replay, after_replay, 
 ghost use Rattle.farm_machine.specs.Replayed.{is_tick, IsTicked};
 
 use crate::tables::{Tables, due, tick};
-use farm_record::{Change, Kind};
 use farm_text::{LAST_TOLD_MOMENT, Moment};
 use std::alloc::{AllocError, Global};
+use task_types::{Change, Kind};
 
 /// Makes a change that a record tells, and says whether it may come there. Where it may not, and where memory runs out, the tables stay
 /// as they were.

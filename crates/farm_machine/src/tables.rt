@@ -15,14 +15,13 @@ ghost use Rattle.farm_machine.specs.contracts.tables.Tables.{the_row};
 ghost use Rattle.farm_machine.specs.Calls.CreateTask.{scheduler_besides};
 ghost use Rattle.farm_machine.specs.Changes.{reached};
 
-use farm_record::{Change, Creation, RunName};
 use farm_rows::{Summary, TaskPlan, TaskTables, one_name_is_one_queue, tables_cross_threads};
 use farm_text::{Moment, SlugId};
 use run_states::TaskRow;
 use std::alloc::{AllocError, Global};
 use std::marker::Model;
-use task_defs::{Identifier, TaskQueue};
 use task_index::lists::{Page, TaskList};
+use task_types::{Change, Creation, Identifier, RunName, TaskQueue};
 
 /// What a farm keeps: its tasks in the order of their creation, the last moment, and the next number.
 #[derive(Drop)]
@@ -32,7 +31,7 @@ pub struct Tables {
 
 impl Model for Tables {
     ghost use Rattle.std.specs.Coded.{codes};
-    ghost use Rattle.task_defs.specs.Codes.{members_code};
+    ghost use Rattle.task_types.specs.Codes.{members_code};
     ghost use Rattle.task_index.specs.Contents.{Contents};
 
     ghost Value = { Contents };

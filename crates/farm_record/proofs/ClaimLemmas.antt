@@ -4,9 +4,9 @@ use Rattle.std.specs.Str.{IsUtf8}
 use Rattle.std.proofs.lemmas.Str.{IsUtf8-from_ascii}
 use Rattle.std.proofs.lemmas.Bool.{cases_lt}
 use Rattle.std.proofs.lemmas.List.{get_or_past}
-use Rattle.task_defs.specs.Forms.{IsIdentifier, IsIdentifierByte}
-use Rattle.farm_record.specs.declared.change.Claim.{Claim}
-use Rattle.farm_record.specs.declared.change.RunName.{RunName}
+use Rattle.task_types.specs.Forms.{IsIdentifier, IsIdentifierByte}
+use Rattle.task_types.specs.declared.change.Claim.{Claim}
+use Rattle.task_types.specs.declared.change.RunName.{RunName}
 use Rattle.farm_record.specs.declared.unread.Unread.{Unread}
 use Rattle.farm_record.specs.declared.unread.Unread.TheVariants.{NotARecord, NoMemory}
 use Rattle.farm_record.specs.Fields.{IsClaim, claim_text}

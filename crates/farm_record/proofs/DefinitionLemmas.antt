@@ -12,9 +12,9 @@ use Rattle.task_defs.specs.Keys.{KeyBreaks}
 use Rattle.task_defs.specs.Values.{members_or_none}
 use Rattle.task_defs.specs.Definitions.{IsFullForm, Says, full_form, text_list, rules}
 use Rattle.task_defs.specs.declared.fault.DefFault.{DefFault}
-use Rattle.task_defs.specs.declared.task_def.TaskDef.{TaskDef}
+use Rattle.task_types.specs.declared.task_def.TaskDef.{TaskDef}
 use Rattle.task_defs.proofs.FullLemmas.{fit_in, members_nest, texts_nest}
-use Rattle.farm_record.specs.declared.change.Creation.{Creation}
+use Rattle.task_types.specs.declared.change.Creation.{Creation}
 use Rattle.farm_record.specs.declared.unread.Unread.TheVariants.{NotARecord}
 use Rattle.farm_record.specs.Records.{IsDefinitionText}
 use Rattle.farm_record.specs.Reading.{Reads, Refuses}

@@ -1,11 +1,11 @@
 -- Which kind of change has which number, and what is read of it.
 use Rattle.std.proofs.Common.{◌≡◌, ℕ, List, Some, Ok, Err, refl, sym, ap, ◌∙◌, arith}
-use Rattle.farm_record.specs.declared.change.Claim.{Claim}
-use Rattle.farm_record.specs.declared.change.Creation.{Creation}
-use Rattle.farm_record.specs.declared.change.Kind.{Kind}
-use Rattle.farm_record.specs.declared.change.Kind.TheVariants as kinds
-use Rattle.farm_record.specs.declared.change.Reclaim.{Reclaim}
-use Rattle.farm_record.specs.declared.change.Resolution.{Resolution}
+use Rattle.task_types.specs.declared.change.Claim.{Claim}
+use Rattle.task_types.specs.declared.change.Creation.{Creation}
+use Rattle.task_types.specs.declared.change.Kind.{Kind}
+use Rattle.task_types.specs.declared.change.Kind.TheVariants as kinds
+use Rattle.task_types.specs.declared.change.Reclaim.{Reclaim}
+use Rattle.task_types.specs.declared.change.Resolution.{Resolution}
 use Rattle.farm_record.specs.declared.unread.Unread.{Unread}
 use Rattle.farm_record.specs.declared.unread.Unread.TheVariants.{NotARecord, NoMemory}
 use Rattle.farm_record.specs.Records.{HasFields, IsDefinitionText}

@@ -9,13 +9,13 @@ use Rattle.farm_text.specs.Slug.{IsUuid4}
 use Rattle.farm_text.specs.Document.{Document, data_of, document_text}
 use Rattle.farm_text.specs.Reading.{IsJson}
 use Rattle.task_defs.specs.Definitions.{IsFullForm, Says}
-use Rattle.task_defs.specs.declared.task_def.TaskDef.{TaskDef}
-use Rattle.farm_record.specs.declared.change.Change.{Change}
-use Rattle.farm_record.specs.declared.change.Claim.{Claim}
-use Rattle.farm_record.specs.declared.change.Creation.{Creation}
-use Rattle.farm_record.specs.declared.change.Kind.{Kind}
-use Rattle.farm_record.specs.declared.change.Kind.TheVariants as kinds
-use Rattle.farm_record.specs.declared.change.RunName.{RunName}
+use Rattle.task_types.specs.declared.task_def.TaskDef.{TaskDef}
+use Rattle.task_types.specs.declared.change.Change.{Change}
+use Rattle.task_types.specs.declared.change.Claim.{Claim}
+use Rattle.task_types.specs.declared.change.Creation.{Creation}
+use Rattle.task_types.specs.declared.change.Kind.{Kind}
+use Rattle.task_types.specs.declared.change.Kind.TheVariants as kinds
+use Rattle.task_types.specs.declared.change.RunName.{RunName}
 use Rattle.farm_record.specs.Fields.{moment_text, sized, IsRun, run_text, IsClaim, claim_text, report_number}
 use Rattle.farm_record.specs.Records.{kind_number, HasFields, IsDefinitionText, IsRecord}
 use Rattle.farm_record.specs.Reading.{byte_at, moment_at, id_at, claim_at, reclaim_at, resolution_at, creation_at}

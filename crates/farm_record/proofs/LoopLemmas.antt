@@ -1,7 +1,7 @@
 -- Reading names one after the other, as a loop does.
 use Rattle.std.proofs.Common.{◌≡◌, ℕ, suc, ◌-◌, ◌+◌, ◌≤◌, ◌<◌, true, false, eqb, List, [], ◌∷◌, ◌++◌, length, Option, Some, None, refl, sym, ap, ◌∙◌, append_assoc, arith}
 use Rattle.std.proofs.lemmas.List.{append-nil}
-use Rattle.farm_record.specs.declared.change.RunName.{RunName}
+use Rattle.task_types.specs.declared.change.RunName.{RunName}
 use Rattle.farm_record.specs.declared.unread.Unread.{Unread}
 use Rattle.farm_record.specs.declared.unread.Unread.TheVariants.{NotARecord, NoMemory}
 use Rattle.farm_record.specs.Reading.{◌>>=◌, Fails, all_of, run_at, names_at}

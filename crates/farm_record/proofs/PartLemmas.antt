@@ -8,11 +8,11 @@ use Rattle.std.proofs.lemmas.List.Concat.{flat_map-cons}
 use Rattle.std.proofs.lemmas.Bool.{eqb-true}
 use Rattle.std.proofs.lemmas.Option.{none-some}
 use Rattle.farm_text.specs.Slug.{IsUuid4}
-use Rattle.farm_record.specs.declared.change.Reclaim.{Reclaim}
-use Rattle.farm_record.specs.declared.change.Report.{Report}
-use Rattle.farm_record.specs.declared.change.Report.TheVariants as reports
-use Rattle.farm_record.specs.declared.change.Resolution.{Resolution}
-use Rattle.farm_record.specs.declared.change.RunName.{RunName}
+use Rattle.task_types.specs.declared.change.Reclaim.{Reclaim}
+use Rattle.task_types.specs.declared.change.Report.{Report}
+use Rattle.task_types.specs.declared.change.Report.TheVariants as reports
+use Rattle.task_types.specs.declared.change.Resolution.{Resolution}
+use Rattle.task_types.specs.declared.change.RunName.{RunName}
 use Rattle.farm_record.specs.declared.unread.Unread.{Unread}
 use Rattle.farm_record.specs.declared.unread.Unread.TheVariants.{NotARecord, NoMemory}
 use Rattle.farm_record.specs.Fields.{IsMoment, moment_text, sized, IsRun, run_text, AreRuns, runs_text, IsReclaim, reclaim_text, report_number, IsResolution, resolution_text}

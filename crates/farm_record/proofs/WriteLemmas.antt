@@ -1,7 +1,7 @@
 -- What is written, joined.
 use Rattle.std.proofs.Common.{◌≡◌, ℕ, List, [], ◌∷◌, ◌++◌, ap, ◌∙◌, append_assoc}
-use Rattle.farm_record.specs.declared.change.Kind.{Kind}
-use Rattle.farm_record.specs.declared.change.Kind.TheVariants as kinds
+use Rattle.task_types.specs.declared.change.Kind.{Kind}
+use Rattle.task_types.specs.declared.change.Kind.TheVariants as kinds
 use Rattle.farm_record.specs.Records.{HasFields, IsFullText, IsDefinitionText, IsSaid}
 use Rattle.farm_record.specs.Writing.{IsWrittenText}
 

@@ -3,13 +3,13 @@ use Rattle.std.specs.Prelude.{ℕ, ◌<◌, ◌≤◌, List, [], ◌∷◌, ◌+
 use Rattle.std.specs.List.{flat_map, AllByRecursion}
 use Rattle.std.specs.Int.{w32, w64, to_be_bytes}
 use Rattle.farm_text.specs.Slug.{IsUuid4}
-use Rattle.task_defs.specs.Forms.{IsIdentifier}
-use Rattle.farm_record.specs.declared.change.Claim.{Claim}
-use Rattle.farm_record.specs.declared.change.Reclaim.{Reclaim}
-use Rattle.farm_record.specs.declared.change.Report.{Report}
-use Rattle.farm_record.specs.declared.change.Report.TheVariants as reports
-use Rattle.farm_record.specs.declared.change.Resolution.{Resolution}
-use Rattle.farm_record.specs.declared.change.RunName.{RunName}
+use Rattle.task_types.specs.Forms.{IsIdentifier}
+use Rattle.task_types.specs.declared.change.Claim.{Claim}
+use Rattle.task_types.specs.declared.change.Reclaim.{Reclaim}
+use Rattle.task_types.specs.declared.change.Report.{Report}
+use Rattle.task_types.specs.declared.change.Report.TheVariants as reports
+use Rattle.task_types.specs.declared.change.Resolution.{Resolution}
+use Rattle.task_types.specs.declared.change.RunName.{RunName}
 
 -- a moment that there is: up to the last millisecond of the year 9999
 abbrev pub IsMoment : ℕ → Type 0

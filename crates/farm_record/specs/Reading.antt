@@ -2,12 +2,12 @@
 use Rattle.std.specs.Prelude.{◌≡◌, ◌==◌, ◌&&◌, ℕ, zero, suc, List, [], ◌∷◌, length, take, drop, Option, Some, None, Result, Ok, Err, nat_lt, nat_le, if◌then◌else◌}
 use Rattle.std.specs.Int.{Width, w32, w64, byte_len, from_be_bytes}
 use Rattle.farm_text.specs.Slug.{is_uuid4}
-use Rattle.farm_record.specs.declared.change.Kind.{Kind}
-use Rattle.farm_record.specs.declared.change.Reclaim.{Reclaim}
-use Rattle.farm_record.specs.declared.change.Report.{Report}
-use Rattle.farm_record.specs.declared.change.Report.TheVariants as reports
-use Rattle.farm_record.specs.declared.change.Resolution.{Resolution}
-use Rattle.farm_record.specs.declared.change.RunName.{RunName}
+use Rattle.task_types.specs.declared.change.Kind.{Kind}
+use Rattle.task_types.specs.declared.change.Reclaim.{Reclaim}
+use Rattle.task_types.specs.declared.change.Report.{Report}
+use Rattle.task_types.specs.declared.change.Report.TheVariants as reports
+use Rattle.task_types.specs.declared.change.Resolution.{Resolution}
+use Rattle.task_types.specs.declared.change.RunName.{RunName}
 use Rattle.farm_record.specs.declared.unread.Unread.{Unread}
 use Rattle.farm_record.specs.declared.unread.Unread.TheVariants.{NotARecord, NoMemory}
 use Rattle.farm_record.specs.Records.{kind_number, HasFields, IsDefinitionText}

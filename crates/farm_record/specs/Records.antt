@@ -4,10 +4,10 @@ use Rattle.farm_text.specs.Slug.{IsUuid4}
 use Rattle.farm_text.specs.Document.{Document, data_of, document_text}
 use Rattle.farm_text.specs.Reading.{IsJson, unwhole}
 use Rattle.task_defs.specs.Definitions.{IsFullForm, Says}
-use Rattle.farm_record.specs.declared.change.Change.{Change}
-use Rattle.farm_record.specs.declared.change.Creation.{Creation}
-use Rattle.farm_record.specs.declared.change.Kind.{Kind}
-use Rattle.farm_record.specs.declared.change.Kind.TheVariants as kinds
+use Rattle.task_types.specs.declared.change.Change.{Change}
+use Rattle.task_types.specs.declared.change.Creation.{Creation}
+use Rattle.task_types.specs.declared.change.Kind.{Kind}
+use Rattle.task_types.specs.declared.change.Kind.TheVariants as kinds
 use Rattle.farm_record.specs.Fields.{IsMoment, moment_text, sized, IsClaim, claim_text, IsReclaim, reclaim_text, IsResolution, resolution_text}
 
 -- the number of a kind of change

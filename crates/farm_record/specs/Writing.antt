@@ -1,7 +1,7 @@
 -- What is written of a definition, for private clauses.
 use Rattle.std.specs.Prelude.{ℕ, List}
-use Rattle.farm_record.specs.declared.change.Creation.{Creation}
-use Rattle.farm_record.specs.declared.change.Kind.TheVariants as kinds
+use Rattle.task_types.specs.declared.change.Creation.{Creation}
+use Rattle.task_types.specs.declared.change.Kind.TheVariants as kinds
 use Rattle.farm_record.specs.Records.{IsFullText, IsDefinitionText, IsSaid}
 
 -- the text of its full form, from which it can be read where some document says it

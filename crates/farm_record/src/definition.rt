@@ -8,9 +8,10 @@ use crate::unread::Unread;
 use farm_text::{Doc, ReadFault, SlugId, a_text_is_of_one_document};
 use std::alloc::{AllocError, Global};
 use task_defs::{
-    DefError, TaskDef, a_full_form_says_its_definition, read_task, the_fault_is_one,
+    DefError, a_full_form_says_its_definition, full_text_of, read_task, the_fault_is_one,
     the_full_form_is_one,
 };
+use task_types::TaskDef;
 
 /// The definition whose text this is, for the task of this id.
 pub(crate) fn definition(alloc: Global, id: SlugId, text: &[u8]) -> Result<TaskDef, Unread>
@@ -39,7 +40,7 @@ pub(crate) fn definition(alloc: Global, id: SlugId, text: &[u8]) -> Result<TaskD
         }
     };
     drop(doc);
-    match def.full_text(alloc) {
+    match full_text_of(alloc, &def) {
         Ok(full) => {
             if is_same(full.as_bytes(), text) {
                 Ok(def)

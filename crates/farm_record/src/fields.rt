@@ -3,9 +3,9 @@ ghost use Rattle.std.specs.Prelude.{◌≡◌, length, IfOk};
 ghost use Rattle.std.specs.Int.{w32, w64};
 ghost use Rattle.farm_record.specs.Reading.{Gives, byte_at, number_at, moment_in, front_at, id_in, sized_at, report_in};
 
-use crate::change::Report;
 use crate::unread::Unread;
 use farm_text::{Moment, SlugId};
+use task_types::Report;
 
 /// A byte.
 #[tactic(auto, unfolding(crate::specs::Reading::byte_at))]

@@ -1,11 +1,11 @@
 //! The kind of a change, read.
 ghost use Rattle.farm_record.specs.Reading.{Reads, IsKind};
 
-use crate::change::{Creation, Kind};
 use crate::definition::definition;
 use crate::parts::{claim, creation_parts, reclaim, resolution, whole_id};
 use crate::unread::Unread;
 use std::alloc::Global;
+use task_types::{Creation, Kind};
 
 fn tick(fields: &[u8]) -> Result<Kind, Unread>
     ensures { Reads (IsKind 1 fields.now) result }

@@ -1,7 +1,7 @@
 //! Laws of records. The functions do nothing: their contracts are the laws.
 ghost use Rattle.std.specs.Prelude.{◌≡◌, ◌≤◌, ℕ, List, [], ◌++◌, length};
 ghost use Rattle.farm_record.specs.Records.{IsRecord};
-ghost use Rattle.farm_record.specs.declared.change.Change.{Change};
+ghost use Rattle.task_types.specs.declared.change.Change.{Change};
 
 use farm_text::a_text_is_of_one_document;
 use task_defs::{equal_full_forms_are_of_equal_definitions, the_full_form_is_one};

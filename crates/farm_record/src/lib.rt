@@ -1,24 +1,20 @@
-//! The changes of the tasks, and the record of each: the bytes that a journal keeps of it.
+//! The record of a change of the tasks: the bytes that a journal keeps of it.
 //!
 //! `specs/Records.antt` says which bytes are the record of which change. Each change has one record, and no record begins another.
 #![tactic(auto)]
 
-mod change;
 mod definition;
 mod fields;
 mod kinds;
 mod laws;
 mod parts;
 mod reading;
-mod run_names;
 mod runs;
 mod unread;
 mod writing;
 
-pub use change::{Change, Claim, Creation, Kind, Reclaim, Report, Resolution, RunName};
 pub use laws::{
     a_change_has_one_record, a_record_is_of_one_change, no_record_begins_another, records_are_short,
 };
 pub use reading::read_record;
-pub use run_names::RunNames;
 pub use writing::{tick_record, write_record};

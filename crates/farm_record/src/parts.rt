@@ -1,18 +1,16 @@
 //! What the fields of each kind of change are made of, read.
 ghost use Rattle.std.specs.Prelude.{◌≡◌};
-ghost use Rattle.task_defs.specs.Forms.{IsIdentifier};
+ghost use Rattle.task_types.specs.Forms.{IsIdentifier};
 ghost use Rattle.farm_record.specs.Fields.{IsClaim, claim_text};
 ghost use Rattle.farm_record.specs.Reading.{Gives, Reads, all_of, id_at, claim_at, reclaim_at, resolution_at, creation_at};
 
-use crate::change::{Claim, Reclaim, Resolution};
 use crate::fields::{byte_of, id, moment, report, sized_of, u64_of, uuid_of};
-use crate::run_names::RunNames;
 use crate::runs::runs_of;
 use crate::unread::Unread;
 use farm_text::{Moment, SlugId, Text};
 use std::alloc::Global;
 use std::str;
-use task_defs::Identifier;
+use task_types::{Claim, Identifier, Reclaim, Resolution, RunNames};
 
 /// An id and nothing behind it.
 #[tactic(auto, unfolding(crate::specs::Reading::id_at))]

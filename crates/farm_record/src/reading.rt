@@ -2,13 +2,13 @@
 ghost use Rattle.std.specs.Prelude.{◌≡◌, ◌↔◌, Some, IfOk};
 ghost use Rattle.farm_record.specs.Records.{IsRecord};
 ghost use Rattle.farm_record.specs.Reading.{Reads};
-ghost use Rattle.farm_record.specs.declared.change.Change.{Change as AnyChange};
+ghost use Rattle.task_types.specs.declared.change.Change.{Change as AnyChange};
 
-use crate::change::Change;
 use crate::fields::{byte_of, moment, u64_of};
 use crate::kinds::kind;
 use crate::unread::Unread;
 use std::alloc::{AllocError, Global};
+use task_types::Change;
 
 fn change(alloc: Global, bytes: &[u8]) -> Result<Change, Unread>
     ensures { Reads (λ change. IsRecord change bytes.now) result }

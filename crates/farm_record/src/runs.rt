@@ -2,11 +2,10 @@
 ghost use Rattle.std.specs.Prelude.{◌≡◌, [], ◌∷◌, ◌++◌, length, IfOk};
 ghost use Rattle.farm_record.specs.Reading.{Gives, all_of, run_at, names_at, runs_at};
 
-use crate::change::RunName;
 use crate::fields::{byte_of, id, u32_of, uuid_of};
-use crate::run_names::RunNames;
 use crate::unread::Unread;
 use std::alloc::{AllocError, Global};
+use task_types::{RunName, RunNames};
 
 /// A run's name.
 #[tactic(auto, unfolding(crate::specs::Reading::run_at, crate::specs::Reading::id_at))]

@@ -2,17 +2,16 @@
 ghost use Rattle.std.specs.Prelude.{◌≡◌, ◌<◌, ◌++◌, ◌∷◌, [], ℕ, List, length, OnOk, IfOk};
 ghost use Rattle.std.specs.List.{flat_map};
 ghost use Rattle.std.specs.Int.{w32, to_be_bytes};
-ghost use Rattle.farm_record.specs.declared.change.Kind.TheVariants as kinds;
+ghost use Rattle.task_types.specs.declared.change.Kind.TheVariants as kinds;
 ghost use Rattle.farm_record.specs.Fields.{IsMoment, moment_text, sized, run_text, AreRuns, runs_text, IsClaim, claim_text, IsReclaim, reclaim_text, report_number, IsResolution, resolution_text};
 ghost use Rattle.farm_record.specs.Records.{kind_number, HasFields, IsSpelled, IsRecord, IsSaid, tick_at};
 ghost use Rattle.farm_record.specs.Writing.{IsWrittenText};
 ghost use Rattle.farm_text.specs.Slug.{IsUuid4};
 
-use crate::change::{Change, Claim, Creation, Kind, Reclaim, Report, Resolution, RunName};
-use crate::run_names::RunNames;
 use farm_text::{Moment, SlugId};
 use std::alloc::{AllocError, Global};
-use task_defs::a_full_form_says_its_definition;
+use task_defs::{a_full_form_says_its_definition, full_text_of};
+use task_types::{Change, Claim, Creation, Kind, Reclaim, Report, Resolution, RunName, RunNames};
 
 /// Writes an id: its sixteen bytes.
 fn put_id(out: &mut Vec<u8>, id: SlugId) -> Result<(), AllocError>
@@ -114,7 +113,7 @@ fn put_creation(alloc: Global, out: &mut Vec<u8>, creation: &Creation) -> Result
     ensures { OnOk result ((fields : List ℕ) × HasFields IsWrittenText (kinds.Create creation.now) fields × (out.new.items ≡ out.old.items ++ fields)) }
 {
     a_full_form_says_its_definition();
-    let text = creation.definition.full_text(alloc)?;
+    let text = full_text_of(alloc, &creation.definition)?;
     put_id(out, creation.id)?;
     put_sized(out, text.as_bytes())?;
     Ok(())

@@ -4,14 +4,14 @@ use Rattle.std.specs.List.{AllByRecursion, last_or}
 use Rattle.std.specs.Option.{option_map_or, option_to_list}
 use Rattle.std.proofs.lemmas.Bool.{and_parts}
 use Rattle.std.proofs.lemmas.Slice.Eq.{bytes_eq-Decides}
-use Rattle.task_defs.specs.declared.names.TaskQueue.{TaskQueue}
+use Rattle.task_types.specs.declared.names.TaskQueue.{TaskQueue}
 use Rattle.run_states.specs.declared.run.Run.{Run}
 use Rattle.run_states.specs.Runs.{is_pending_run, is_running_run}
 use Rattle.run_states.specs.Rows.{Row, is_unscheduled, is_resolved, is_pending, is_running_at, has_ended, scheduled}
 use Rattle.run_states.specs.Moves.{may_rerun, run_again, canceled, reclaimed, resolved}
 use Rattle.run_states.specs.Later.{RowsLater}
 use Rattle.run_states.proofs.LaterLemmas.{scheduled-later, again-later, canceled-later, reclaimed-later, resolved-later}
-use Rattle.farm_record.specs.declared.change.RunName.{RunName}
+use Rattle.task_types.specs.declared.change.RunName.{RunName}
 use Rattle.farm_rows.specs.declared.plan.Deed.{Deed}
 use Rattle.farm_rows.specs.declared.plan.Deed.TheVariants.{Create, Schedule, Rerun, Cancel, Claim as TakesRuns, Reclaim, Resolve}
 use Rattle.task_index.specs.Contents.{Contents, row_with, HaveOwnIds}

@@ -9,7 +9,7 @@ use Rattle.run_states.specs.declared.reasons.ReasonResolved.TheVariants.{Cancele
 use Rattle.run_states.specs.declared.run.Claim.{Claim as RunClaim}
 use Rattle.run_states.specs.Rows.{Row, is_unscheduled, is_running_at, scheduled}
 use Rattle.run_states.specs.Moves.{may_rerun, run_again, canceled, claimed, reclaimed, resolved}
-use Rattle.farm_record.specs.declared.change.RunName.{RunName}
+use Rattle.task_types.specs.declared.change.RunName.{RunName}
 use Rattle.farm_rows.specs.declared.plan.Deed.{Deed}
 use Rattle.farm_rows.specs.declared.plan.Deed.TheVariants.{Create, Schedule, Rerun, Cancel, Claim as TakesRuns, Reclaim, Resolve}
 use Rattle.task_index.specs.Contents.{Contents, row_with}

@@ -1,9 +1,9 @@
 -- A task that is created: as it stands once it has settled.
 use Rattle.std.proofs.Common.{◌≡◌, ℕ, ◌+◌, Bool, true, false, cond, List, [], ◌∷◌, ◌++◌, length, count_by, refl, ap, sym, ◌∙◌, arith}
 use Rattle.std.proofs.lemmas.List.Sums.{sum_by_push}
-use Rattle.task_defs.specs.declared.task_def.TaskDef.{TaskDef}
+use Rattle.task_types.specs.declared.task_def.TaskDef.{TaskDef}
 use Rattle.run_states.specs.Rows.{Row, new_row, scheduled}
-use Rattle.farm_record.specs.declared.change.Creation.{Creation}
+use Rattle.task_types.specs.declared.change.Creation.{Creation}
 use Rattle.task_index.specs.Contents.{Contents}
 use Rattle.task_index.specs.Ready.{is_ready, has_ready, settled_row, settled}
 use Rattle.task_index.specs.Changes.{creating, applied}

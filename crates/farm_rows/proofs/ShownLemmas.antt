@@ -5,14 +5,14 @@ use Rattle.std.specs.Option.{option_map_or}
 use Rattle.std.proofs.lemmas.Bool.{and_parts, eqb-false}
 use Rattle.std.proofs.lemmas.Map.Keys.{IsDistinct-head, IsDistinct-tail}
 use Rattle.std.proofs.lemmas.Slice.Eq.{bytes_eq-Decides}
-use Rattle.task_defs.specs.declared.names.TaskQueue.{TaskQueue}
+use Rattle.task_types.specs.declared.names.TaskQueue.{TaskQueue}
 use Rattle.run_states.specs.declared.run.Claim.{Claim}
 use Rattle.run_states.specs.declared.run.Run.{Run}
 use Rattle.run_states.specs.Runs.{is_pending_run}
 use Rattle.run_states.specs.Rows.{Row, is_pending, scheduled}
 use Rattle.run_states.specs.Moves.{run_again, canceled, claimed, reclaimed, resolved}
 use Rattle.run_states.proofs.LaterLemmas.{scheduled-later, again-later, claimed-later, canceled-later, reclaimed-later, resolved-later}
-use Rattle.farm_record.specs.declared.change.RunName.{RunName}
+use Rattle.task_types.specs.declared.change.RunName.{RunName}
 use Rattle.farm_rows.specs.declared.plan.Deed.{Deed}
 use Rattle.farm_rows.specs.declared.plan.Deed.TheVariants.{Create, Schedule, Rerun, Cancel, Claim as TakesRuns, Reclaim, Resolve}
 use Rattle.task_index.specs.Contents.{Contents, row_with, HaveOwnIds}

@@ -10,7 +10,7 @@ use Rattle.std.proofs.lemmas.List.{take_more}
 use Rattle.std.proofs.Math.ListN.{length-append}
 use Rattle.farm_text.specs.declared.moment.TheConstants.{LAST_TOLD_MOMENT}
 use Rattle.run_states.specs.Rows.{Row, new_row, due_moments}
-use Rattle.farm_record.specs.declared.change.Creation.{Creation}
+use Rattle.task_types.specs.declared.change.Creation.{Creation}
 use Rattle.task_index.specs.Contents.{Contents, row_with, HaveOwnIds}
 use Rattle.task_index.specs.Ready.{is_ready, settled_row}
 use Rattle.task_index.proofs.Settling.{one_if}

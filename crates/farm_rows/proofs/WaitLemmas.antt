@@ -4,7 +4,7 @@ use Rattle.std.specs.List.{list_all}
 use Rattle.std.specs.Option.{option_map_or}
 use Rattle.std.proofs.lemmas.Bool.{ltb-true, ltb-false, leb-true, leb-false}
 use Rattle.run_states.specs.Rows.{Row}
-use Rattle.farm_record.specs.declared.change.Creation.{Creation}
+use Rattle.task_types.specs.declared.change.Creation.{Creation}
 use Rattle.task_index.specs.Contents.{row_with}
 use Rattle.task_index.specs.Changes.{waits_well}
 use Rattle.farm_rows.specs.Waits.{is_missing, is_early, missing_dependency, early_dependency}

@@ -3,9 +3,9 @@ use Rattle.std.specs.Prelude.{ℕ, List, [], ◌∷◌, length, replicate, Optio
 use Rattle.run_states.specs.declared.run.Claim.{Claim as RunClaim}
 use Rattle.run_states.specs.Rows.{Row, scheduled}
 use Rattle.run_states.specs.Moves.{run_again, canceled, reclaimed, resolved}
-use Rattle.farm_record.specs.declared.change.Change.{Change}
-use Rattle.farm_record.specs.declared.change.Kind.{Kind}
-use Rattle.farm_record.specs.declared.change.Kind.TheVariants as kinds
+use Rattle.task_types.specs.declared.change.Change.{Change}
+use Rattle.task_types.specs.declared.change.Kind.{Kind}
+use Rattle.task_types.specs.declared.change.Kind.TheVariants as kinds
 use Rattle.task_index.specs.Contents.{row_with}
 use Rattle.task_index.specs.Due.{draws}
 use Rattle.task_index.specs.Changes.{change_row, reason_of, claim_of, all_claimed}

@@ -4,8 +4,8 @@ use Rattle.std.specs.List.{list_all}
 use Rattle.run_states.specs.declared.reasons.ReasonCreated.{ReasonCreated}
 use Rattle.run_states.specs.declared.reasons.ReasonCreated.TheVariants.{Scheduled}
 use Rattle.run_states.specs.Rows.{Row, is_unscheduled}
-use Rattle.farm_record.specs.declared.change.Kind.{Kind}
-use Rattle.farm_record.specs.declared.change.Kind.TheVariants.{Tick, Create, Schedule}
+use Rattle.task_types.specs.declared.change.Kind.{Kind}
+use Rattle.task_types.specs.declared.change.Kind.TheVariants.{Tick, Create, Schedule}
 use Rattle.task_index.specs.Changes.{has_id}
 
 -- a run that is made for this reason is made as its task is scheduled

@@ -3,7 +3,7 @@
 use Rattle.std.specs.Prelude.{ℕ, Bool, false, not, ◌&&◌, nat_lt, List, find, Option, is_none, bytes_eq}
 use Rattle.std.specs.Option.{option_map_or}
 use Rattle.run_states.specs.Rows.{Row}
-use Rattle.farm_record.specs.declared.change.Creation.{Creation}
+use Rattle.task_types.specs.declared.change.Creation.{Creation}
 use Rattle.task_index.specs.Contents.{row_with}
 
 -- a task that the new one waits for is not the task itself, and does not stand

@@ -4,11 +4,10 @@ ghost use Rattle.task_index.specs.Changes.{claim_of};
 ghost use Rattle.farm_rows.specs.Deeds.{claims_of};
 
 use crate::plan::Deed;
-use farm_record::Claim;
 use farm_text::{Moment, Text};
 use run_states::Claim as RunClaim;
 use std::alloc::{AllocError, Global};
-use task_defs::Identifier;
+use task_types::{Claim, Identifier};
 
 /// A claim for each run, which begins at this moment.
 fn copies(alloc: Global, at: Moment, claim: &Claim) -> Result<Vec<RunClaim>, AllocError>

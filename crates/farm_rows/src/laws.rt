@@ -2,12 +2,12 @@
 ghost use Rattle.std.specs.Prelude.{◌≡◌, List, count_by};
 ghost use Rattle.std.specs.Thread.{IsSend};
 ghost use Rattle.run_states.specs.Rows.{Row};
-ghost use Rattle.task_defs.specs.Forms.{queue_name};
+ghost use Rattle.task_types.specs.Forms.{queue_name};
 ghost use Rattle.farm_rows.specs.contracts.tables.TaskTables.{the_row};
 ghost use Rattle.task_index.specs.Picks.{waits_in, waits_under};
 
 use run_states::rows_cross_threads;
-use task_defs::TaskQueue;
+use task_types::TaskQueue;
 
 /// The tasks that wait under the name of a queue are as many as wait in it: an identifier has no slash, so one name is one queue.
 pub fn one_name_is_one_queue(queue: &TaskQueue)

@@ -7,10 +7,10 @@ ghost use Rattle.task_index.specs.Due.{draws};
 ghost use Rattle.task_index.specs.Changes.{change_row, reason_of};
 ghost use Rattle.task_index.specs.Indexed.{IsIndexOf};
 
-use farm_record::{Reclaim, Report, Resolution};
 use farm_text::{Moment, SlugId};
 use run_states::{Claim as RunClaim, ReasonResolved, RunRoom, TaskRow};
 use task_index::index::Index;
+use task_types::{Reclaim, Report, Resolution};
 
 /// The task becomes pending, where it is unscheduled.
 pub(crate) fn schedule(rows: &mut [TaskRow], index: &mut Index, id: SlugId, at: Moment, number: u64)

@@ -2,13 +2,13 @@
 ghost use Rattle.std.specs.Prelude.{◌≡◌, IfOk};
 ghost use Rattle.farm_rows.specs.Deeds.{run_room_of};
 
-use farm_record::{Claim, Reclaim, Resolution};
 use farm_text::{Moment, SlugId};
 use run_states::{Claim as RunClaim, RunRoom, TaskRow};
 use std::alloc::{AllocError, Global};
 use std::marker::Model;
 use std::slice;
 use task_index::place_lists::room::Room;
+use task_types::{Claim, Reclaim, Resolution};
 
 /// What is changed.
 #[derive(Drop)]
@@ -41,7 +41,7 @@ pub struct TaskPlan {
 impl Model for TaskPlan {
     ghost use Rattle.std.specs.Prelude.{◌≡◌};
     ghost use Rattle.std.specs.Coded.{codes};
-    ghost use Rattle.task_defs.specs.Codes.{members_code};
+    ghost use Rattle.task_types.specs.Codes.{members_code};
     ghost use Rattle.task_index.specs.Plans.{Planned};
     ghost use Rattle.farm_rows.specs.Deeds.{claims_of, run_room_of, planned_of};
 

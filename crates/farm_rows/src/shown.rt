@@ -8,12 +8,12 @@ ghost use Rattle.farm_rows.specs.Deeds.{kind_of, rows_after};
 use crate::copies::claims;
 use crate::plan::{Deed, run_room};
 use crate::work::make;
-use farm_record::RunName;
 use farm_text::{Moment, SlugId};
 use run_states::TaskRow;
 use std::alloc::{AllocError, Global};
 use task_index::index::Index;
 use task_index::rows::Rows;
+use task_types::RunName;
 
 /// The tasks that a change of tasks that stand names, as they will be, where a new run has this number.
 pub(crate) fn shown(

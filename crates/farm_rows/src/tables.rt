@@ -22,12 +22,10 @@ use crate::summary::{Summary, summary_of};
 use crate::turns::resolve_due;
 use crate::waits::{early_dependency, missing_dependency, waits_well};
 use crate::work::change;
-use farm_record::{Change, Creation, Kind, RunName};
 use farm_text::{LAST_TOLD_MOMENT, Moment, SlugId, Text};
 use run_states::{Claim as RunClaim, RunRoom, TaskRow};
 use std::alloc::{AllocError, Global};
 use std::marker::Model;
-use task_defs::{Identifier, TaskQueue};
 use task_index::checks::{
     is_running, kept_scheduler, may_cancel, may_join, may_keep, may_rerun, may_schedule,
 };
@@ -41,6 +39,7 @@ use task_index::place_lists::coming::keep_listed;
 use task_index::place_lists::room::Room;
 use task_index::room::add;
 use task_index::rows::Rows;
+use task_types::{Change, Creation, Identifier, Kind, RunName, TaskQueue};
 
 /// The tasks of a farm in the order of their creation, the last moment that was reached, and the number that the next pending run
 /// draws.
@@ -58,7 +57,7 @@ pub struct TaskTables {
 impl Model for TaskTables {
     ghost use Rattle.std.specs.Prelude.{vec_capacity};
     ghost use Rattle.std.specs.Coded.{codes};
-    ghost use Rattle.task_defs.specs.Codes.{members_code};
+    ghost use Rattle.task_types.specs.Codes.{members_code};
     ghost use Rattle.task_index.specs.Contents.{Contents};
     ghost use Rattle.task_index.specs.Indexed.{AreTables};
 

@@ -5,9 +5,9 @@ ghost use Rattle.task_index.specs.Contents.{row_with};
 ghost use Rattle.task_index.specs.Changes.{waits_well};
 ghost use Rattle.farm_rows.specs.Waits.{is_missing, is_early, missing_dependency, early_dependency};
 
-use farm_record::Creation;
 use farm_text::{Moment, SlugId};
 use task_index::rows::Rows;
+use task_types::Creation;
 
 /// Whether each task that a new one waits for stands, and expires no earlier than its deadline; or is the task itself.
 pub(crate) fn waits_well(rows: &Rows<'_>, creation: &Creation) -> bool

@@ -8,11 +8,11 @@ ghost use Rattle.task_index.specs.Indexed.{IsIndexOf};
 
 use crate::moves::{cancel, claim, drawn, reclaim, rerun, resolve, schedule};
 use crate::plan::Deed;
-use farm_record::{Claim, Resolution};
 use farm_text::{Moment, SlugId};
 use run_states::{Claim as RunClaim, RunRoom, TaskRow};
 use task_index::index::Index;
 use task_index::settle::settle;
+use task_types::{Claim, Resolution};
 
 /// Makes a change of the tasks that stand, and answers how many numbers it draws.
 pub(crate) fn make(

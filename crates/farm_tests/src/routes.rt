@@ -3,7 +3,6 @@ use api_routes::{call_of, caller_of, own_reply, reply_head};
 use call_rules::HookName;
 use farm_asks::question::{BodyFault, Call, Caller, PageRequest};
 use farm_asks::reply::Reply;
-use farm_record::RunName;
 use farm_rows::reason_of;
 use farm_text::SlugId;
 use http_wire::{Message, Wire};
@@ -11,7 +10,7 @@ use octets::Bytes;
 use route_table::Table;
 use std::alloc::{AllocError, Global};
 use std::test::Fail;
-use task_defs::TaskQueue;
+use task_types::{RunName, TaskQueue};
 
 mod bodies;
 mod targets;

@@ -2,7 +2,7 @@
 use Rattle.std.specs.Prelude.{◌≡◌, List, [], ◌∷◌, refl}
 use Rattle.std.specs.Coded.{Coded, code_by, coded⊎, coded_ℕ, coded_ℤ, coded_bool, coded_list}
 use Rattle.farm_text.specs.Document.{Document, null}
-use Rattle.task_defs.specs.Codes.{Piece, Part, a_document, document_before, parts_of, document-back}
+use Rattle.task_types.specs.Codes.{Piece, Part, a_document, document_before, parts_of, document-back}
 
 -- the document that stands first
 abbrev pub first_document : List Part → Document

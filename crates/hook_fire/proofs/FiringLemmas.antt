@@ -8,7 +8,7 @@ use Rattle.jsone_render.specs.Outcomes.{Outcome, given, faulted, too_much}
 use Rattle.jsone_render.specs.Templates.{IsRendered}
 use Rattle.jsone_render.specs.declared.faults.TemplateFault.{TemplateFault}
 use Rattle.task_defs.specs.declared.fault.DefFault.{DefFault}
-use Rattle.task_defs.specs.declared.task_def.TaskDef.{TaskDef}
+use Rattle.task_types.specs.declared.task_def.TaskDef.{TaskDef}
 use Rattle.task_defs.specs.Faults.{IsFault}
 use Rattle.task_defs.specs.Rules.{MomentAt, IsExpires}
 use Rattle.task_defs.specs.Definitions.{Says, rules}

@@ -5,13 +5,13 @@ use Rattle.std.proofs.lemmas.Bool.{false≢true}
 use Rattle.farm_text.specs.Slug.{slug_of}
 use Rattle.farm_text.specs.Document.{Document, null, boolean, whole, text, array, object, get}
 use Rattle.jsone_eval.proofs.Existence.{Exists, here, follow}
-use Rattle.task_defs.specs.declared.names.TaskQueue.{TaskQueue}
-use Rattle.task_defs.specs.declared.objects.Metadata.{Metadata}
+use Rattle.task_types.specs.declared.names.TaskQueue.{TaskQueue}
+use Rattle.task_types.specs.declared.objects.Metadata.{Metadata}
 use Rattle.task_defs.specs.declared.fault.DefFault.{DefFault}
-use Rattle.task_defs.specs.declared.task_def.TaskDef.{TaskDef}
+use Rattle.task_types.specs.declared.task_def.TaskDef.{TaskDef}
 use Rattle.task_defs.specs.Definitions.{IsQueueOf, IsDefinition, Says, rules}
 use Rattle.task_defs.specs.Faults.{Holds, IsFault, AllHold}
-use Rattle.task_defs.specs.Forms.{IsIdentifier}
+use Rattle.task_types.specs.Forms.{IsIdentifier}
 use Rattle.task_defs.specs.Keys.{KeyBreaks, has}
 use Rattle.task_defs.specs.Rules.{MomentAt, IsExpires, IsMetadata, metadata_doc, QueueBreaks, MomentBreaks, MetadataBreaks}
 use Rattle.task_defs.specs.Values.{IsTextOf, Ill, IsQueue, IsMoment, text_or, texts_in, slug_or, requires_in, priority_in, retries_in, members_or_none}

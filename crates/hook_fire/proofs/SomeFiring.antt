@@ -7,7 +7,7 @@ use Rattle.jsone_eval.proofs.Existence.{Exists, here, follow}
 use Rattle.jsone_eval.proofs.SomeMoment.{moment_text}
 use Rattle.jsone_render.specs.Outcomes.{Outcome, given, faulted, too_much}
 use Rattle.jsone_render.proofs.SomeRendering.{some_rendering}
-use Rattle.task_defs.specs.declared.task_def.TaskDef.{TaskDef}
+use Rattle.task_types.specs.declared.task_def.TaskDef.{TaskDef}
 use Rattle.hook_fire.specs.declared.fault.FireFault.{FireFault}
 use Rattle.hook_fire.specs.declared.fault.FireFault.TheVariants.{Template, TooMuchWork, Definition, NoMemory}
 use Rattle.hook_fire.specs.Contexts.{IsContext, context_of}

@@ -6,7 +6,7 @@ use Rattle.jsone_render.specs.Templates.{IsRendered}
 use Rattle.task_defs.specs.Faults.{IsFault}
 use Rattle.task_defs.specs.Definitions.{Says, rules}
 use Rattle.task_defs.specs.declared.fault.DefFault.{DefFault}
-use Rattle.task_defs.specs.declared.task_def.TaskDef.{TaskDef}
+use Rattle.task_types.specs.declared.task_def.TaskDef.{TaskDef}
 use Rattle.hook_fire.specs.Contexts.{IsContext}
 use Rattle.hook_fire.specs.Defaults.{HasDefaults}
 use Rattle.hook_fire.specs.declared.fault.FireFault.{FireFault}

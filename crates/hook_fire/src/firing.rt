@@ -11,7 +11,8 @@ use farm_text::{Doc, Moment, SlugId};
 use hook_book::Hook;
 use jsone_render::{RenderFault, render};
 use std::alloc::Global;
-use task_defs::{DefError, TaskDef, read_task};
+use task_defs::{DefError, read_task};
+use task_types::TaskDef;
 
 /// The definition of the task of the drawn id that the hook makes when it is fired at this moment with this payload: its template rendered,
 /// with its defaults, read as a definition. Else the first fault of the template, that it costs too much, or the least rule that the definition breaks.

@@ -6,7 +6,7 @@ ghost use Rattle.farm_text.specs.Document.{Document};
 ghost use Rattle.task_defs.specs.Definitions.{Says, rules};
 ghost use Rattle.task_defs.specs.Faults.{IsFault};
 ghost use Rattle.task_defs.specs.declared.fault.DefFault.{DefFault};
-ghost use Rattle.task_defs.specs.declared.task_def.TaskDef.{TaskDef};
+ghost use Rattle.task_types.specs.declared.task_def.TaskDef.{TaskDef};
 ghost use Rattle.hook_fire.specs.Firing.{IsFired};
 ghost use Rattle.hook_fire.specs.declared.fault.FireFault.{FireFault};
 ghost use Rattle.hook_fire.specs.declared.fault.FireFault.TheVariants.{NoMemory};

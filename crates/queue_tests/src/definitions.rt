@@ -1,7 +1,8 @@
 //! Definitions that were worked by hand, in full form or with the first rule that they break.
 use farm_text::{Doc, SlugId};
 use std::alloc::{AllocError, Global};
-use task_defs::{DefError, TaskDef, read_task, same};
+use task_defs::{DefError, full_text_of, read_task};
+use task_types::{TaskDef, same};
 
 mod limits;
 
@@ -244,7 +245,7 @@ fn what_is_said_of_faults(rt: HostRuntime) {
 
 /// Whether the full form of a definition has this text in it.
 fn has_part(alloc: Global, def: &TaskDef, part: &str) -> bool {
-    match def.full_text(alloc) {
+    match full_text_of(alloc, &def) {
         Ok(text) => text.as_str().contains(part),
         Err(_) => false,
     }

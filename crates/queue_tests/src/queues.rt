@@ -8,7 +8,7 @@ use std::marker::Brand;
 use std::process::Abort;
 use std::sync::ledger::{Blank, Ledger};
 use std::test::Fail;
-use task_defs::Priority;
+use task_types::Priority;
 
 fn moment(millis: u64) -> Moment {
     Moment::from_millis(millis).unwrap_or(Moment::FIRST)

@@ -3,7 +3,8 @@ use farm_text::{Doc, Moment, SlugId, Text};
 use hook_book::Hook;
 use hook_fire::{FireFault, fire};
 use std::alloc::{AllocError, Global};
-use task_defs::TaskDef;
+use task_defs::full_text_of;
+use task_types::TaskDef;
 
 const DRAWN: &[u8] = b"AAAAAAAAQACAAAAAAAAAAg";
 
@@ -47,7 +48,7 @@ fn hook_of(alloc: Global, template: &str) -> Option<Hook> {
 
 /// Whether the full form of a definition has this text in it.
 fn has_part(alloc: Global, def: &TaskDef, part: &str) -> bool {
-    match def.full_text(alloc) {
+    match full_text_of(alloc, &def) {
         Ok(text) => text.as_str().contains(part),
         Err(_) => false,
     }

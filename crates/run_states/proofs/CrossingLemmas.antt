@@ -2,7 +2,7 @@
 use denote.Param.Send.{IsSend, IsSync, sendable, view_send}
 use denote.Param.SendFields.{declared_send}
 use Rattle.std.proofs.Crossing.{crosses}
-use Rattle.task_defs.specs.contracts.task_def.TaskDef as defs
+use Rattle.task_types.specs.contracts.task_def.TaskDef as defs
 use Rattle.run_states.specs.contracts.row.TaskRow.{the_row}
 use Rattle.run_states.specs.contracts.row.TaskRow.TheInside.{the_type as inside_type}
 

@@ -2,7 +2,7 @@
 use Rattle.std.specs.Prelude.{ℕ, min, nat_le, Bool, false, List, [], ◌∷◌, ◌++◌, Option, Some, None, option_map, option_and_then, is_none, is_some, slice_get, if◌then◌else◌}
 use Rattle.std.specs.Option.{option_map_or, option_to_list}
 use Rattle.std.specs.List.{last_or}
-use Rattle.task_defs.specs.declared.task_def.TaskDef.{TaskDef}
+use Rattle.task_types.specs.declared.task_def.TaskDef.{TaskDef}
 use Rattle.run_states.specs.declared.run.Run.{Run}
 use Rattle.run_states.specs.declared.reasons.ReasonCreated.TheVariants.{Scheduled}
 use Rattle.run_states.specs.declared.reasons.ReasonResolved.{ReasonResolved}

@@ -4,7 +4,7 @@ ghost use Rattle.std.specs.Prelude.{◌≡◌, ◌≤◌, length, vec_len, vec_c
 use crate::run::{Claim, Run};
 use farm_text::Text;
 use std::alloc::{AllocError, Global};
-use task_defs::Identifier;
+use task_types::Identifier;
 
 /// The same runs, which are at most 50, with room for so many.
 pub(crate) fn copies(alloc: Global, runs: &[Run], room: usize) -> Result<Vec<Run>, AllocError>

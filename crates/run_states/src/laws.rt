@@ -1,7 +1,7 @@
 //! Laws of a task: the functions do nothing, and their contracts are the laws.
 ghost use Rattle.std.specs.Prelude.{◌≡◌, ℕ, List, true, false};
 ghost use Rattle.std.specs.Thread.{IsSend};
-ghost use Rattle.task_defs.specs.declared.choices.Requires.{Requires};
+ghost use Rattle.task_types.specs.declared.choices.Requires.{Requires};
 ghost use Rattle.run_states.specs.contracts.row.TaskRow.{the_row};
 ghost use Rattle.run_states.specs.declared.reasons.ReasonResolved.{ReasonResolved};
 ghost use Rattle.run_states.specs.declared.run.Claim.{Claim};
@@ -11,7 +11,7 @@ ghost use Rattle.run_states.specs.Moves.{claimed, reclaimed, resolved, expired, 
 ghost use Rattle.run_states.specs.Later.{RowLater, RowsLater};
 ghost use Rattle.run_states.specs.Serving.{was_completed, serves};
 
-use task_defs::definitions_cross_threads;
+use task_types::definitions_cross_threads;
 
 /// Whatever happens to a task, its runs stay, made as they were made, with their claims, of which only the end moves, and once they have
 /// an outcome unchanged.

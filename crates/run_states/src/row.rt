@@ -10,7 +10,7 @@ use farm_text::{Moment, SlugId};
 use std::alloc::{AllocError, Global};
 use std::marker::Model;
 use std::sync::Arc;
-use task_defs::TaskDef;
+use task_types::TaskDef;
 
 /// How many runs a task has at most.
 pub const MOST_RUNS: usize = 50;
@@ -34,7 +34,7 @@ pub struct TaskRow {
 impl Model for TaskRow {
     ghost use Rattle.std.specs.Prelude.{◌+◌, ◌<◌, ◌≤◌, vec_len, vec_capacity};
     ghost use Rattle.std.specs.Coded.{codes};
-    ghost use Rattle.task_defs.specs.Codes.{members_code};
+    ghost use Rattle.task_types.specs.Codes.{members_code};
     ghost use Rattle.std.specs.Arc.{arc_value};
     ghost use Rattle.run_states.specs.Rows.{Row};
 

@@ -4,7 +4,7 @@ ghost use Rattle.run_states.specs.Runs.{run_state, open_state, is_pending_run, i
 
 use crate::reasons::{ReasonCreated, ReasonResolved, RunState};
 use farm_text::Moment;
-use task_defs::Identifier;
+use task_types::Identifier;
 
 /// The claim of a worker on a run.
 #[derive(Drop)]

@@ -6,7 +6,7 @@ ghost use Rattle.run_states.specs.Serving.{is_by_rerun, is_completed, is_rerun, 
 use crate::reasons::{ReasonCreated, ReasonResolved};
 use crate::row::TaskRow;
 use crate::run::Run;
-use task_defs::Requires;
+use task_types::Requires;
 
 impl TaskRow {
     /// Whether a run of the task completed, whatever came behind it.

@@ -3,18 +3,18 @@ use Rattle.std.proofs.Common.{◌≡◌, ℕ, ◌<◌, ◌↔◌, Bool, true, fa
 use Rattle.std.proofs.lemmas.Bool.{false≢true}
 use Rattle.farm_text.specs.Document.{Document, text, get, document_text}
 use Rattle.farm_text.proofs.MomentLemmas.{IsMomentText-one}
-use Rattle.task_defs.specs.declared.names.TaskQueue.{TaskQueue}
-use Rattle.task_defs.specs.declared.objects.Metadata.{Metadata}
-use Rattle.task_defs.specs.declared.task_def.TaskDef.{TaskDef}
+use Rattle.task_types.specs.declared.names.TaskQueue.{TaskQueue}
+use Rattle.task_types.specs.declared.objects.Metadata.{Metadata}
+use Rattle.task_types.specs.declared.task_def.TaskDef.{TaskDef}
 use Rattle.task_defs.specs.declared.fault.DefError.{DefError}
 use Rattle.task_defs.specs.declared.fault.DefError.TheVariants.{Fault, NoMemory}
-use Rattle.task_defs.specs.Forms.{queue_name}
+use Rattle.task_types.specs.Forms.{queue_name}
 use Rattle.task_defs.specs.Faults.{Tells, Refuses}
 use Rattle.task_defs.specs.Rules.{At, IsExpires, metadata_doc}
 use Rattle.task_defs.specs.Definitions.{IsDefinition, IsFullForm, IsQueueOf, IsTooLong, Says, full_form, rules}
 use Rattle.task_defs.specs.Parts.{IsOnlyAt, HeadHolds, TermsHold, SpanHolds, RestHolds, IsOnlyDefinition, IsLongForm}
 use Rattle.task_defs.proofs.TimeLemmas.{only_same}
-use Rattle.task_defs.proofs.QueueLemmas.{queue_name_same}
+use Rattle.task_types.proofs.QueueNameLemmas.{queue_name_same}
 use Rattle.task_defs.proofs.FaultLemmas.{first_one, tells_first}
 
 some_text : (a b : List ℕ) → Some (text a) ≡ Some (text b) → a ≡ b

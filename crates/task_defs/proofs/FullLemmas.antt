@@ -9,17 +9,18 @@ use Rattle.std.specs.Cmp.Lexicographic.{slice_cmp}
 use Rattle.farm_text.specs.Slug.{IsUuid4, IsSlug, slug_text, slug_of}
 use Rattle.serde_json.specs.Data.{items_depth}
 use Rattle.farm_text.specs.Document.{Document, null, boolean, whole, text, array, object, items_of, Members, no_members, member, member_at, get, items_data}
-use Rattle.task_defs.specs.Forms.{IsIdentifier, IsIdentifierByte, IsProject, IsProjectByte}
-use Rattle.task_defs.specs.Choices.{priority_name, priority_of, requires_name, requires_of}
+use Rattle.task_types.specs.Forms.{IsIdentifier, IsIdentifierByte, IsProject, IsProjectByte}
+use Rattle.task_types.specs.Choices.{priority_name, priority_of, requires_name, requires_of}
 use Rattle.task_defs.specs.Documents.{nesting}
-use Rattle.task_defs.specs.Values.{IsTextOf, Ill, IsTextList, IsRetries, AreTags, text_or, texts_in, slug_or, retries_in, members_or_none}
+use Rattle.task_defs.specs.Values.{IsTextOf, Ill, IsTextList, IsRetries, text_or, texts_in, slug_or, retries_in, members_or_none}
+use Rattle.task_types.specs.Maps.{AreTags}
 use Rattle.task_defs.specs.Keys.{has, is_among, may_stand, IsUnfit, KeyBreaks}
 use Rattle.task_defs.specs.Faults.{Holds}
 use Rattle.task_defs.specs.Definitions.{text_list}
-use Rattle.task_defs.specs.declared.choices.Priority.{Priority}
-use Rattle.task_defs.specs.declared.choices.Priority.TheVariants.{Highest, VeryHigh, High, Medium, Low, VeryLow, Lowest}
-use Rattle.task_defs.specs.declared.choices.Requires.{Requires}
-use Rattle.task_defs.specs.declared.choices.Requires.TheVariants.{AllCompleted, AllResolved}
+use Rattle.task_types.specs.declared.choices.Priority.{Priority}
+use Rattle.task_types.specs.declared.choices.Priority.TheVariants.{Highest, VeryHigh, High, Medium, Low, VeryLow, Lowest}
+use Rattle.task_types.specs.declared.choices.Requires.{Requires}
+use Rattle.task_types.specs.declared.choices.Requires.TheVariants.{AllCompleted, AllResolved}
 use Rattle.task_defs.proofs.KeyLemmas.{same_key, bytes_same, or_cases}
 use Rattle.task_defs.proofs.TextLemmas.{texts_in_list}
 use Rattle.task_defs.proofs.IdLemmas.{uuid_of, slugs_back}

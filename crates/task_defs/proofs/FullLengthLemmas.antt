@@ -3,14 +3,14 @@ use Rattle.std.proofs.Common.{◌≡◌, ℕ, ◌+◌, ◌*◌, ◌≤◌, List,
 use Rattle.farm_text.specs.Slug.{slug_text}
 use Rattle.farm_text.specs.Moment.{IsMomentText}
 use Rattle.farm_text.specs.Document.{Document, text, whole, object, Members, no_members, member, document_text}
-use Rattle.task_defs.specs.Forms.{queue_name}
-use Rattle.task_defs.specs.Choices.{priority_name, requires_name}
+use Rattle.task_types.specs.Forms.{queue_name}
+use Rattle.task_types.specs.Choices.{priority_name, requires_name}
 use Rattle.task_defs.specs.Rules.{metadata_doc}
 use Rattle.task_defs.specs.Definitions.{text_list, full_form, IsFullForm}
 use Rattle.task_defs.specs.Lengths.{Covers}
-use Rattle.task_defs.specs.declared.names.TaskQueue.{TaskQueue}
-use Rattle.task_defs.specs.declared.objects.Metadata.{Metadata}
-use Rattle.task_defs.specs.declared.task_def.TaskDef.{TaskDef}
+use Rattle.task_types.specs.declared.names.TaskQueue.{TaskQueue}
+use Rattle.task_types.specs.declared.objects.Metadata.{Metadata}
+use Rattle.task_types.specs.declared.task_def.TaskDef.{TaskDef}
 use Rattle.task_defs.proofs.LengthLemmas.{members_size, member_size, map_size, quoted_size}
 
 -- the bytes of a document's text

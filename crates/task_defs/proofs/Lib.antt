@@ -11,5 +11,4 @@ pub mod FullLemmas
 pub mod FullLengthLemmas
 pub mod SaysLemmas
 pub mod LengthLemmas
-pub mod CrossingLemmas
 pub mod WritingLemmas

@@ -7,11 +7,12 @@ use Rattle.farm_text.specs.Moment.{IsMomentText}
 use Rattle.farm_text.specs.DateTime.{IsDateTime}
 use Rattle.farm_text.specs.Document.{Document, text, whole as whole_number, object, Members, get}
 use Rattle.farm_text.proofs.SlugLemmas.{slug_of_uuid}
-use Rattle.task_defs.specs.declared.task_def.TaskDef.{TaskDef}
-use Rattle.task_defs.specs.Forms.{IsIdentifier, IsProject, IsRoute, queue_name}
-use Rattle.task_defs.specs.Choices.{priority_name, priority_of, requires_name, requires_of}
-use Rattle.task_defs.specs.Documents.{nesting, members_in}
-use Rattle.task_defs.specs.Values.{IsTextOf, Ill, IsTextList, IsScope, IsRetries, AreTags, text_or, texts_in, members_or_none}
+use Rattle.task_types.specs.declared.task_def.TaskDef.{TaskDef}
+use Rattle.task_types.specs.Forms.{IsIdentifier, IsProject, IsRoute, queue_name}
+use Rattle.task_types.specs.Choices.{priority_name, priority_of, requires_name, requires_of}
+use Rattle.task_defs.specs.Documents.{nesting}
+use Rattle.task_types.specs.Maps.{members_in, AreTags}
+use Rattle.task_defs.specs.Values.{IsTextOf, Ill, IsTextList, IsScope, IsRetries, text_or, texts_in, members_or_none}
 use Rattle.task_defs.specs.Keys.{may_stand, required, KeyBreaks}
 use Rattle.task_defs.specs.Faults.{Holds}
 use Rattle.task_defs.specs.Rules.{IsExpires, Disagree, QueueBreaks, NameBreaks, GroupBreaks, DependenciesBreak, RequiresBreaks, RoutesBreak, PriorityBreaks, RetriesBreak, MomentBreaks, DeadlineBreaks, ExpiresBreaks, ScopesBreak, MetadataBreaks}

@@ -10,8 +10,8 @@ use Rattle.farm_text.specs.Written.{ReadsBack, ItemsReadBack, IsWhole, AreWhole,
 use Rattle.farm_text.proofs.DocLemmas.{tokens_of, AreWhole-item, MembersWhole-member}
 use Rattle.task_defs.specs.Rules.{metadata_doc}
 use Rattle.task_defs.specs.Definitions.{text_list, full_form, IsFullForm}
-use Rattle.task_defs.specs.declared.objects.Metadata.{Metadata}
-use Rattle.task_defs.specs.declared.task_def.TaskDef.{TaskDef}
+use Rattle.task_types.specs.declared.objects.Metadata.{Metadata}
+use Rattle.task_types.specs.declared.task_def.TaskDef.{TaskDef}
 use Rattle.task_defs.specs.Writing.{Pairs, member_tokens, AllReadBack, AllWhole, IsWritten, AreWritten, FirstAreWritten, first_members, work_members, owner_members, right_members, place_members}
 
 -- ---- one member

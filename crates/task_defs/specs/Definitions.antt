@@ -4,14 +4,14 @@ use Rattle.std.specs.List.{filter_map}
 use Rattle.farm_text.specs.Slug.{slug_text, slug_of}
 use Rattle.farm_text.specs.Moment.{IsMomentText}
 use Rattle.farm_text.specs.Document.{Document, text, whole, array, object, items_of, members_of, get, document_text}
-use Rattle.task_defs.specs.Forms.{IsIdentifier, queue_name}
-use Rattle.task_defs.specs.Choices.{priority_name, requires_name}
+use Rattle.task_types.specs.Forms.{IsIdentifier, queue_name}
+use Rattle.task_types.specs.Choices.{priority_name, requires_name}
 use Rattle.task_defs.specs.Values.{text_or, texts_in, slug_or, requires_in, priority_in, retries_in, members_or_none}
 use Rattle.task_defs.specs.Faults.{Rule, AllHold}
 use Rattle.task_defs.specs.Keys.{KeyBreaks}
 use Rattle.task_defs.specs.Rules.{MomentAt, IsExpires, metadata_doc, QueueBreaks, NameBreaks, GroupBreaks, DependenciesBreak, RequiresBreaks, RoutesBreak, PriorityBreaks, RetriesBreak, MomentBreaks, DeadlineBreaks, ExpiresBreaks, ScopesBreak, MetadataBreaks}
-use Rattle.task_defs.specs.declared.names.TaskQueue.{TaskQueue}
-use Rattle.task_defs.specs.declared.task_def.TaskDef.{TaskDef}
+use Rattle.task_types.specs.declared.names.TaskQueue.{TaskQueue}
+use Rattle.task_types.specs.declared.task_def.TaskDef.{TaskDef}
 
 -- the queue that the values of `provisionerId`, `taskQueueId` and `workerType` say: that of the second, else of the two parts
 pub record IsQueueOf (provisioner_id queue_id worker_type : Option Document) (queue : TaskQueue) : Type 0 where

@@ -2,7 +2,7 @@
 use Rattle.std.specs.Prelude.{ℕ, List, [], ◌∷◌, Option, Some, None, option_map}
 use Rattle.std.specs.Borrow.{Bor}
 use Rattle.serde_json.specs.Data.{depth}
-use Rattle.farm_text.specs.Document.{Document, text, array, object, Items, no_items, item, Members, no_members, data_of}
+use Rattle.farm_text.specs.Document.{Document, text, array, Items, no_items, item, data_of}
 use Rattle.farm_text.specs.Doc.{document}
 use Rattle.farm_text.specs.declared.doc.Doc.{Doc}
 
@@ -24,11 +24,6 @@ text_of _ = None
 abbrev pub items_in : Document → Option Items
 items_in (array ds) = Some ds
 items_in _ = None
-
--- the members of a document, of which only a map has any
-abbrev pub members_in : Document → Members
-members_in (object ms) = ms
-members_in _ = no_members
 
 -- the document that a borrowed `Doc` stands for, if there is one
 abbrev pub seen : Option (Bor Doc) → Option Document

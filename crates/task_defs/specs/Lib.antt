@@ -1,8 +1,5 @@
-pub mod Forms
-pub mod Choices
 pub mod Documents
 pub mod Values
-pub mod Codes
 pub mod Faults
 pub mod Keys
 pub mod Lesser

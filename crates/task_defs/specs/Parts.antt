@@ -7,7 +7,7 @@ use Rattle.task_defs.specs.Faults.{Holds}
 use Rattle.task_defs.specs.Keys.{KeyBreaks}
 use Rattle.task_defs.specs.Rules.{metadata_doc, QueueBreaks, NameBreaks, GroupBreaks, DependenciesBreak, RequiresBreaks, RoutesBreak, PriorityBreaks, RetriesBreak, MomentBreaks, DeadlineBreaks, ExpiresBreaks, ScopesBreak, MetadataBreaks}
 use Rattle.task_defs.specs.Definitions.{IsDefinition, IsFullForm, IsQueueOf}
-use Rattle.task_defs.specs.declared.task_def.TaskDef.{TaskDef}
+use Rattle.task_types.specs.declared.task_def.TaskDef.{TaskDef}
 use Rattle.farm_text.specs.Document.{Document, text, get, document_text}
 use Rattle.task_defs.specs.Values.{text_or, texts_in, slug_or, requires_in, priority_in, retries_in, members_or_none}
 use Rattle.task_defs.specs.declared.reading.Head.{Head}

@@ -3,10 +3,11 @@ use Rattle.std.specs.Prelude.{◌≡◌, ℕ, ◌+◌, ◌<◌, ◌≤◌, ◌�
 use Rattle.farm_text.specs.Slug.{IsSlug}
 use Rattle.farm_text.specs.DateTime.{IsDateTime}
 use Rattle.farm_text.specs.Document.{Document, text, object, members_of, get}
-use Rattle.task_defs.specs.Forms.{IsIdentifier, IsProject, IsRoute, queue_name}
-use Rattle.task_defs.specs.Choices.{priority_of, requires_of}
-use Rattle.task_defs.specs.Values.{IsTextOf, Ill, IsQueue, IsTextList, IsScope, IsRetries, IsMoment, AreTags}
-use Rattle.task_defs.specs.declared.objects.Metadata.{Metadata}
+use Rattle.task_types.specs.Forms.{IsIdentifier, IsProject, IsRoute, queue_name}
+use Rattle.task_types.specs.Choices.{priority_of, requires_of}
+use Rattle.task_defs.specs.Values.{IsTextOf, Ill, IsQueue, IsTextList, IsScope, IsRetries, IsMoment}
+use Rattle.task_types.specs.Maps.{AreTags}
+use Rattle.task_types.specs.declared.objects.Metadata.{Metadata}
 
 -- this key breaks a rule, for this reason
 abbrev pub At : List ℕ → Type 0 → List ℕ → Type 0

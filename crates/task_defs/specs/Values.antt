@@ -5,14 +5,15 @@ use Rattle.std.specs.Str.{bytes_eq}
 use Rattle.scope_sets.specs.Scopes.{IsPrintable, HasHandedInForm}
 use Rattle.farm_text.specs.Slug.{slug_of}
 use Rattle.farm_text.specs.DateTime.{IsDateTime}
-use Rattle.farm_text.specs.Document.{Document, text, whole, array, object, items_of, Members, no_members, member}
-use Rattle.task_defs.specs.Forms.{IsIdentifier, queue_name}
-use Rattle.task_defs.specs.Choices.{priority_of, requires_of}
-use Rattle.task_defs.specs.Documents.{list_of, text_of, members_in}
-use Rattle.task_defs.specs.declared.choices.Priority.{Priority}
-use Rattle.task_defs.specs.declared.choices.Priority.TheVariants.{Lowest}
-use Rattle.task_defs.specs.declared.choices.Requires.{Requires}
-use Rattle.task_defs.specs.declared.choices.Requires.TheVariants.{AllCompleted}
+use Rattle.farm_text.specs.Document.{Document, text, whole, array, items_of, Members, no_members}
+use Rattle.task_types.specs.Forms.{IsIdentifier, queue_name}
+use Rattle.task_types.specs.Choices.{priority_of, requires_of}
+use Rattle.task_defs.specs.Documents.{list_of, text_of}
+use Rattle.task_types.specs.Maps.{members_in}
+use Rattle.task_types.specs.declared.choices.Priority.{Priority}
+use Rattle.task_types.specs.declared.choices.Priority.TheVariants.{Lowest}
+use Rattle.task_types.specs.declared.choices.Requires.{Requires}
+use Rattle.task_types.specs.declared.choices.Requires.TheVariants.{AllCompleted}
 
 -- a text of this form
 abbrev pub IsTextOf : (List ℕ → Type 0) → Document → Type 0
@@ -56,17 +57,6 @@ IsRetries _ = ⊥
 -- the text of a moment
 abbrev pub IsMoment : List ℕ → Type 0
 IsMoment t = (m : ℕ) × IsDateTime m t
-
--- each value is a text
-abbrev pub AreTexts : Members → Type 0
-AreTexts no_members = Unit {0}
-AreTexts (member k (text t) ms) = AreTexts ms
-AreTexts (member k _ ms) = ⊥
-
--- a map of texts
-abbrev pub AreTags : Document → Type 0
-AreTags (object ms) = AreTexts ms
-AreTags _ = ⊥
 
 -- the text at a key, and where there is none this one
 abbrev pub text_or : List ℕ → Option Document → List ℕ

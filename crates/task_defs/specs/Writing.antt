@@ -9,11 +9,11 @@ use Rattle.farm_text.specs.Moment.{IsMomentText}
 use Rattle.farm_text.specs.Document.{Document, text, whole, object, data_of, document_text}
 use Rattle.farm_text.specs.Reading.{IsJson, unwhole}
 use Rattle.farm_text.specs.Written.{ReadsBack, IsWhole}
-use Rattle.task_defs.specs.Forms.{queue_name}
-use Rattle.task_defs.specs.Choices.{priority_name, requires_name}
+use Rattle.task_types.specs.Forms.{queue_name}
+use Rattle.task_types.specs.Choices.{priority_name, requires_name}
 use Rattle.task_defs.specs.Rules.{metadata_doc}
 use Rattle.task_defs.specs.Definitions.{text_list, IsFullForm}
-use Rattle.task_defs.specs.declared.task_def.TaskDef.{TaskDef}
+use Rattle.task_types.specs.declared.task_def.TaskDef.{TaskDef}
 
 -- the tokens of the document stand behind the old ones, they are read as it, and each number in it is whole
 pub record IsWritten (d : Document) (old new : List Token) : Type 0 where

@@ -2,17 +2,15 @@
 ghost use Rattle.std.specs.Prelude.{◌+◌, map, length, sum};
 ghost use Rattle.farm_text.specs.Slug.{slug_text};
 ghost use Rattle.farm_text.specs.Document.{Document, document_text, text as plain_text};
-ghost use Rattle.task_defs.specs.Forms.{queue_name};
+ghost use Rattle.task_types.specs.Forms.{queue_name};
 ghost use Rattle.task_defs.specs.Rules.{metadata_doc};
 ghost use Rattle.task_defs.specs.Definitions.{text_list, IsFullForm};
 ghost use Rattle.task_defs.specs.Lengths.{Bounds, Covers};
 
 use crate::lengths::{most_bytes, number_bytes, text_bytes};
-use crate::names::{Route, TaskQueue};
-use crate::objects::Metadata;
-use crate::task_def::TaskDef;
 use farm_text::SlugId;
 use scope_sets::Scope;
+use task_types::{Metadata, Route, TaskDef, TaskQueue};
 
 /// What a full form has at most beside its names, lists and maps: the keys and the moments.
 const FRAME_BYTES: usize = 1_500;

@@ -7,88 +7,84 @@ ghost use Rattle.task_defs.specs.Rules.{metadata_doc};
 ghost use Rattle.task_defs.specs.Definitions.{text_list, IsFullForm};
 ghost use Rattle.task_defs.specs.Writing.{IsWritten, IsFullOf, AreWritten, MomentIsWritten, FirstAreWritten, work_members, owner_members, right_members, place_members};
 
-use crate::names::Route;
-use crate::objects::Metadata;
-use crate::task_def::TaskDef;
 use farm_text::{Doc, Moment, SlugId, Text};
 use json::Writer;
 use scope_sets::Scope;
 use std::alloc::{AllocError, Global};
+use task_types::{Metadata, Route, TaskDef};
 
-impl TaskDef {
-    /// The text of the full form: each key, with each moment in 24 bytes, as JSON without spaces.
-    pub fn full_text(&self, alloc: Global) -> Result<Text, AllocError>
-        ensures { IfOk result (IsFullOf self.now) }
-    {
-        let mut out = Writer::new(Vec::with_capacity(alloc, 512)?);
-        self.write_to(alloc, &mut out)?;
-        Ok(Text::from_writer(out))
-    }
+/// The text of the full form: each key, with each moment in 24 bytes, as JSON without spaces.
+pub fn full_text_of(alloc: Global, def: &TaskDef) -> Result<Text, AllocError>
+    ensures { IfOk result (IsFullOf def.now) }
+{
+    let mut out = Writer::new(Vec::with_capacity(alloc, 512)?);
+    write_full_text(alloc, def, &mut out)?;
+    Ok(Text::from_writer(out))
+}
 
-    /// Writes the full form of the definition as JSON without spaces, behind what the writer has.
-    pub fn write_to(&self, alloc: Global, out: &mut Writer) -> Result<(), AllocError>
-        ensures form { OnOk result ((full : Document) × IsFullForm self.now full
-            × IsWritten full out.old.tokens out.new.tokens) }
-        ensures before { out.new.before ≡ out.old.before }
-    {
-        out.begin_object()?;
-        self.write_first(out)?;
-        self.write_work(out)?;
-        self.write_owner(out)?;
-        self.write_rights(out)?;
-        self.write_place(alloc, out)?;
-        out.end_object()
-    }
+/// Writes the full form of the definition as JSON without spaces, behind what the writer has.
+pub fn write_full_text(alloc: Global, def: &TaskDef, out: &mut Writer) -> Result<(), AllocError>
+    ensures form { OnOk result ((full : Document) × IsFullForm def.now full
+        × IsWritten full out.old.tokens out.new.tokens) }
+    ensures before { out.new.before ≡ out.old.before }
+{
+    out.begin_object()?;
+    write_first(def, out)?;
+    write_work(def, out)?;
+    write_owner(def, out)?;
+    write_rights(def, out)?;
+    write_place(alloc, def, out)?;
+    out.end_object()
+}
 
-    fn write_first(&self, out: &mut Writer) -> Result<(), AllocError>
-        ensures ok { OnOk result (FirstAreWritten self.now out.old.tokens out.new.tokens) }
-        ensures before { out.new.before ≡ out.old.before }
-    {
-        write_moment(out, "created", self.created)?;
-        write_moment(out, "deadline", self.deadline)?;
-        write_ids(out, "dependencies", self.dependencies.list())?;
-        write_moment(out, "expires", self.expires)
-    }
+fn write_first(def: &TaskDef, out: &mut Writer) -> Result<(), AllocError>
+    ensures ok { OnOk result (FirstAreWritten def.now out.old.tokens out.new.tokens) }
+    ensures before { out.new.before ≡ out.old.before }
+{
+    write_moment(out, "created", def.created)?;
+    write_moment(out, "deadline", def.deadline)?;
+    write_ids(out, "dependencies", def.dependencies.list())?;
+    write_moment(out, "expires", def.expires)
+}
 
-    fn write_work(&self, out: &mut Writer) -> Result<(), AllocError>
-        ensures ok { OnOk result (AreWritten (work_members self.now) out.old.tokens out.new.tokens) }
-        ensures before { out.new.before ≡ out.old.before }
-    {
-        write_doc(out, "extra", self.extra.as_doc())?;
-        write_metadata(out, &self.metadata)?;
-        write_doc(out, "payload", self.payload.as_doc())?;
-        write_text(out, "priority", self.priority.name())
-    }
+fn write_work(def: &TaskDef, out: &mut Writer) -> Result<(), AllocError>
+    ensures ok { OnOk result (AreWritten (work_members def.now) out.old.tokens out.new.tokens) }
+    ensures before { out.new.before ≡ out.old.before }
+{
+    write_doc(out, "extra", def.extra.as_doc())?;
+    write_metadata(out, &def.metadata)?;
+    write_doc(out, "payload", def.payload.as_doc())?;
+    write_text(out, "priority", def.priority.name())
+}
 
-    fn write_owner(&self, out: &mut Writer) -> Result<(), AllocError>
-        ensures ok { OnOk result (AreWritten (owner_members self.now) out.old.tokens out.new.tokens) }
-        ensures before { out.new.before ≡ out.old.before }
-    {
-        write_text(out, "projectId", self.project_id.as_str())?;
-        write_text(out, "provisionerId", self.queue.provisioner_id.as_str())?;
-        write_text(out, "requires", self.requires_.name())?;
-        write_number(out, "retries", self.retries)
-    }
+fn write_owner(def: &TaskDef, out: &mut Writer) -> Result<(), AllocError>
+    ensures ok { OnOk result (AreWritten (owner_members def.now) out.old.tokens out.new.tokens) }
+    ensures before { out.new.before ≡ out.old.before }
+{
+    write_text(out, "projectId", def.project_id.as_str())?;
+    write_text(out, "provisionerId", def.queue.provisioner_id.as_str())?;
+    write_text(out, "requires", def.requires_.name())?;
+    write_number(out, "retries", def.retries)
+}
 
-    fn write_rights(&self, out: &mut Writer) -> Result<(), AllocError>
-        ensures ok { OnOk result (AreWritten (right_members self.now) out.old.tokens out.new.tokens) }
-        ensures before { out.new.before ≡ out.old.before }
-    {
-        write_routes(out, self.routes.list())?;
-        write_text(out, "schedulerId", self.scheduler_id.as_str())?;
-        write_scopes(out, self.scopes.list())?;
-        write_doc(out, "tags", self.tags.as_doc())
-    }
+fn write_rights(def: &TaskDef, out: &mut Writer) -> Result<(), AllocError>
+    ensures ok { OnOk result (AreWritten (right_members def.now) out.old.tokens out.new.tokens) }
+    ensures before { out.new.before ≡ out.old.before }
+{
+    write_routes(out, def.routes.list())?;
+    write_text(out, "schedulerId", def.scheduler_id.as_str())?;
+    write_scopes(out, def.scopes.list())?;
+    write_doc(out, "tags", def.tags.as_doc())
+}
 
-    fn write_place(&self, alloc: Global, out: &mut Writer) -> Result<(), AllocError>
-        ensures ok { OnOk result (AreWritten (place_members self.now) out.old.tokens out.new.tokens) }
-        ensures before { out.new.before ≡ out.old.before }
-    {
-        let name = self.queue.name(alloc)?;
-        write_slug(out, "taskGroupId", self.task_group_id)?;
-        write_text(out, "taskQueueId", name.as_str())?;
-        write_text(out, "workerType", self.queue.worker_type.as_str())
-    }
+fn write_place(alloc: Global, def: &TaskDef, out: &mut Writer) -> Result<(), AllocError>
+    ensures ok { OnOk result (AreWritten (place_members def.now) out.old.tokens out.new.tokens) }
+    ensures before { out.new.before ≡ out.old.before }
+{
+    let name = def.queue.name(alloc)?;
+    write_slug(out, "taskGroupId", def.task_group_id)?;
+    write_text(out, "taskQueueId", name.as_str())?;
+    write_text(out, "workerType", def.queue.worker_type.as_str())
 }
 
 fn write_text(out: &mut Writer, key: &str, text: &str) -> Result<(), AllocError>

@@ -7,17 +7,16 @@ ghost use Rattle.task_defs.specs.Values.{text_or, members_or_none};
 ghost use Rattle.task_defs.specs.Keys.{KeyBreaks};
 ghost use Rattle.task_defs.specs.Faults.{Holds, Breaks};
 ghost use Rattle.task_defs.specs.Rules.{NameBreaks, MetadataBreaks, IsMetadata, metadata_doc};
-ghost use Rattle.task_defs.specs.declared.objects.Metadata.{Metadata as AnyMetadata};
+ghost use Rattle.task_types.specs.declared.objects.Metadata.{Metadata as AnyMetadata};
 
 use crate::documents::as_text;
 use crate::fault::DefError;
 use crate::keys::value;
-use crate::names::{Identifier, ProjectName};
-use crate::objects::{Metadata, Tags};
 use crate::values;
 use farm_text::{Doc, Text};
 use std::alloc::{AllocError, Global};
 use std::collections::BTreeMap;
+use task_types::{Identifier, Metadata, ProjectName, Tags};
 
 /// Who owns a task, and who schedules it.
 #[derive(Drop)]

@@ -1,16 +1,13 @@
 //! What follows from the definitions. The functions do nothing: each contract is a law.
 ghost use Rattle.std.specs.Prelude.{◌≡◌, ℕ, List};
-ghost use Rattle.std.specs.Thread.{IsSend, IsSync};
 ghost use Rattle.farm_text.specs.Slug.{IsUuid4};
 ghost use Rattle.farm_text.specs.Document.{Document};
 ghost use Rattle.task_defs.specs.Faults.{IsFault};
 ghost use Rattle.task_defs.specs.Definitions.{IsFullForm, Says, rules};
-ghost use Rattle.task_defs.specs.contracts.task_def.TaskDef.{the_row};
 ghost use Rattle.task_defs.specs.declared.fault.DefFault.{DefFault};
-ghost use Rattle.task_defs.specs.declared.task_def.TaskDef.{TaskDef};
+ghost use Rattle.task_types.specs.declared.task_def.TaskDef.{TaskDef};
 ghost use Rattle.task_defs.specs.declared.reading.TheConstants.{LONGEST_DEFINITION};
 
-use crate::objects::{Object, Tags};
 use farm_text::{a_text_has_one_moment, written_moments_are_read_back};
 
 /// The fault of a document is one, and there is none where it says a definition.
@@ -49,22 +46,3 @@ pub fn equal_full_forms_are_of_equal_definitions()
     written_moments_are_read_back();
     a_text_has_one_moment();
 }
-
-/// A definition may go to another thread, and be read by several.
-pub fn definitions_cross_threads()
-    ensures sent { IsSend the_row }
-    ensures shared { IsSync the_row }
-{
-    sends::<Object>();
-    shares::<Object>();
-    sends::<Tags>();
-    shares::<Tags>();
-}
-
-fn sends<T: Send>()
-    ensures { IsSend T.row }
-{}
-
-fn shares<T: Sync>()
-    ensures { IsSync T.row }
-{}

@@ -2,7 +2,7 @@
 ghost use Rattle.std.specs.Prelude.{◌≡◌, ℕ, List, Some, None, codes, IfOk, MatchBool, MatchOption, MatchResult};
 ghost use Rattle.farm_text.specs.Document.{text as plain_text, get};
 ghost use Rattle.farm_text.specs.Doc.{document};
-ghost use Rattle.task_defs.specs.Forms.{IsIdentifier, queue_name};
+ghost use Rattle.task_types.specs.Forms.{IsIdentifier, queue_name};
 ghost use Rattle.task_defs.specs.Documents.{seen};
 ghost use Rattle.task_defs.specs.Values.{IsTextOf, Ill, IsQueue};
 ghost use Rattle.task_defs.specs.Faults.{Holds, Breaks};
@@ -14,9 +14,9 @@ ghost use Rattle.task_defs.specs.Definitions.{IsQueueOf};
 use crate::documents::as_text;
 use crate::fault::DefError;
 use crate::keys::{has, value};
-use crate::names::{Identifier, TaskQueue, is_identifier};
 use farm_text::{Doc, Text};
 use std::alloc::{AllocError, Global};
+use task_types::{Identifier, TaskQueue, is_identifier};
 
 /// A queue's name, cut at its first slash.
 fn cut(name: &str) -> Option<(&str, &str)>

@@ -6,23 +6,23 @@ ghost use Rattle.task_defs.specs.Faults.{Refuses};
 ghost use Rattle.task_defs.specs.Parts.{HeadHolds, TermsHold, SpanHolds, IsHead, AreTerms, IsOnlyAt, IsRest, AreMaps, IsOnlyDefinition, IsLongForm};
 ghost use Rattle.task_defs.specs.Rules.{IsExpires};
 ghost use Rattle.task_defs.specs.Definitions.{Says, rules};
-ghost use Rattle.task_defs.specs.declared.task_def.TaskDef.{TaskDef as TaskDefinition};
+ghost use Rattle.task_types.specs.declared.task_def.TaskDef.{TaskDef as TaskDefinition};
 
-use crate::choices::{Priority, Requires};
 use crate::fault::DefError;
 use crate::full_length::full_form_bytes;
+use crate::full_text::full_text_of;
 use crate::keys::check_keys;
 use crate::labels::{read_labels, read_owners};
-use crate::lists::{Dependencies, Routes, Scopes};
-use crate::names::{Identifier, ProjectName, TaskQueue};
-use crate::objects::{Metadata, Object, Tags};
 use crate::queue::queue;
 use crate::stages;
-use crate::task_def::TaskDef;
 use crate::times::{check_deadline, expires, read_times};
 use crate::values::object;
 use farm_text::{Doc, Moment, SlugId};
 use std::alloc::{AllocError, Global};
+use task_types::{
+    Dependencies, Identifier, Metadata, Object, Priority, ProjectName, Requires, Routes, Scopes,
+    Tags, TaskDef, TaskQueue,
+};
 
 /// The greatest number of bytes of a definition's full form, as JSON without spaces.
 pub const LONGEST_DEFINITION: usize = 8_388_608;
@@ -78,7 +78,7 @@ fn is_too_long(alloc: Global, def: &TaskDef) -> Result<bool, AllocError>
 fn is_form_long(alloc: Global, def: &TaskDef) -> Result<bool, AllocError>
     ensures { IfOk result (λ long. MatchBool long (IsLongForm def.now) (¬ IsLongForm def.now)) }
 {
-    let full = def.full_text(alloc)?;
+    let full = full_text_of(alloc, &def)?;
     Ok(is_long(full.as_str()))
 }
 

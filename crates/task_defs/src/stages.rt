@@ -8,12 +8,11 @@ ghost use Rattle.task_defs.specs.Values.{texts_in, slug_or, requires_in, priorit
 ghost use Rattle.task_defs.specs.Faults.{Holds, Breaks};
 ghost use Rattle.task_defs.specs.Rules.{GroupBreaks, DependenciesBreak, RequiresBreaks, RoutesBreak, PriorityBreaks, RetriesBreak, ScopesBreak};
 
-use crate::choices::{Priority, Requires};
 use crate::fault::DefError;
-use crate::lists::{Dependencies, Routes, Scopes};
 use crate::{texts, values};
 use farm_text::{Doc, SlugId};
 use std::alloc::Global;
+use task_types::{Dependencies, Priority, Requires, Routes, Scopes};
 
 /// The task's group, the task itself if nothing is said.
 pub(crate) fn group(alloc: Global, doc: &Doc, id: SlugId) -> Result<SlugId, DefError>

@@ -5,17 +5,16 @@ ghost use Rattle.std.specs.Str.{bytes_eq};
 ghost use Rattle.farm_text.specs.Slug.{IsSlug, slug_of};
 ghost use Rattle.farm_text.specs.Document.{text as plain_text, array, items_of};
 ghost use Rattle.farm_text.specs.Doc.{document, documents};
-ghost use Rattle.task_defs.specs.Forms.{IsRoute};
+ghost use Rattle.task_types.specs.Forms.{IsRoute};
 ghost use Rattle.task_defs.specs.Documents.{seen};
 ghost use Rattle.task_defs.specs.Values.{IsScope, IsTexts, IsTextList, Ill, Well, texts_in};
 
 use crate::documents::{as_list, as_text};
-use crate::lists::{Dependencies, Routes, Scopes};
-use crate::names::Route;
 use farm_text::{Doc, SlugId, Text};
 use scope_sets::Scope;
 use std::alloc::{AllocError, Global};
 use std::collections::BTreeSet;
+use task_types::{Dependencies, Route, Routes, Scopes};
 
 const MOST_DEPENDENCIES: usize = 100;
 

@@ -5,18 +5,17 @@ ghost use Rattle.std.specs.Str.{bytes_eq};
 ghost use Rattle.farm_text.specs.Slug.{IsSlug, slug_of};
 ghost use Rattle.farm_text.specs.Document.{text as plain_text, array, items_of};
 ghost use Rattle.farm_text.specs.Doc.{document};
-ghost use Rattle.task_defs.specs.Forms.{IsIdentifier, IsProject, IsRoute, queue_name};
-ghost use Rattle.task_defs.specs.Choices.{priority_of, requires_of};
+ghost use Rattle.task_types.specs.Forms.{IsIdentifier, IsProject, IsRoute, queue_name};
+ghost use Rattle.task_types.specs.Choices.{priority_of, requires_of};
 ghost use Rattle.task_defs.specs.Documents.{seen};
-ghost use Rattle.task_defs.specs.Values.{IsTextOf, Ill, Well, IsQueue, IsRetries, IsMoment, AreTags, text_or, texts_in, slug_or, requires_in, priority_in, retries_in, members_or_none};
+ghost use Rattle.task_defs.specs.Values.{IsTextOf, Ill, Well, IsQueue, IsRetries, IsMoment, text_or, texts_in, slug_or, requires_in, priority_in, retries_in, members_or_none};
+ghost use Rattle.task_types.specs.Maps.{AreTags};
 ghost use Rattle.task_defs.specs.Parts.{IsOnlyMoment};
 
-use crate::choices::{Priority, Requires};
 use crate::documents::as_text;
-use crate::names::{Identifier, ProjectName};
-use crate::objects::{Object, Tags};
 use farm_text::{Doc, Moment, SlugId, Text, read_moment};
 use std::alloc::{AllocError, Global};
+use task_types::{Identifier, Object, Priority, ProjectName, Requires, Tags};
 
 /// The name of a project, `none` if nothing is said, or `None` where the value is no such name.
 pub(crate) fn project(alloc: Global, value: Option<&Doc>) -> Result<Option<ProjectName>, AllocError>

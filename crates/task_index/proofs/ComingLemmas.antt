@@ -13,7 +13,7 @@ use Rattle.std.proofs.lemmas.Option.{slice_get_within, slice_get-get_or, get_or_
 use Rattle.std.proofs.Math.ListN.{length-append}
 use Rattle.std.proofs.lemmas.Slice.Eq.{bytes_eq-Decides}
 use Rattle.run_states.specs.Rows.{Row}
-use Rattle.farm_record.specs.declared.change.Creation.{Creation}
+use Rattle.task_types.specs.declared.change.Creation.{Creation}
 use Rattle.task_index.specs.declared.lists.TaskList.TheVariants.{Dependants}
 use Rattle.task_index.specs.Contents.{row_with, HaveOwnIds}
 use Rattle.task_index.specs.Changes.{has_id, waits_well}

@@ -12,11 +12,11 @@ use Rattle.run_states.specs.Rows.{Row, new_row, scheduled}
 use Rattle.run_states.specs.Later.{RowsLater}
 use Rattle.run_states.specs.Moves.{run_again, canceled, claimed, reclaimed, resolved}
 use Rattle.run_states.proofs.LaterLemmas.{RowLater-refl, RowsLater-refl, RowsLater-trans, scheduled-later, again-later, claimed-later, canceled-later, reclaimed-later, resolved-later}
-use Rattle.farm_record.specs.declared.change.Change.{Change}
-use Rattle.farm_record.specs.declared.change.Creation.{Creation}
-use Rattle.farm_record.specs.declared.change.Kind.{Kind}
-use Rattle.farm_record.specs.declared.change.Kind.TheVariants.{Tick, Create, Schedule, Rerun, Cancel, Claim as TakesRuns, Reclaim, Resolve}
-use Rattle.farm_record.specs.declared.change.RunName.{RunName}
+use Rattle.task_types.specs.declared.change.Change.{Change}
+use Rattle.task_types.specs.declared.change.Creation.{Creation}
+use Rattle.task_types.specs.declared.change.Kind.{Kind}
+use Rattle.task_types.specs.declared.change.Kind.TheVariants.{Tick, Create, Schedule, Rerun, Cancel, Claim as TakesRuns, Reclaim, Resolve}
+use Rattle.task_types.specs.declared.change.RunName.{RunName}
 use Rattle.run_states.specs.declared.run.Claim.{Claim as RunClaim}
 use Rattle.task_index.specs.Contents.{Contents, row_with, HaveOwnIds}
 use Rattle.task_index.specs.Ready.{is_ready, has_ready, settled_row, settled}

@@ -8,11 +8,11 @@ use Rattle.std.proofs.lemmas.List.Elements.{filter-append}
 use Rattle.std.proofs.lemmas.List.Folds.{list_any-append}
 use Rattle.std.proofs.Math.Seq.{drop-cons}
 use Rattle.std.proofs.Math.ListN.{length-append}
-use Rattle.task_defs.specs.declared.names.TaskQueue.{TaskQueue}
+use Rattle.task_types.specs.declared.names.TaskQueue.{TaskQueue}
 use Rattle.run_states.specs.declared.run.Claim.{Claim}
 use Rattle.run_states.specs.Rows.{Row}
 use Rattle.run_states.specs.Moves.{claimed}
-use Rattle.farm_record.specs.declared.change.RunName.{RunName}
+use Rattle.task_types.specs.declared.change.RunName.{RunName}
 use Rattle.task_index.specs.Changes.{change_row, all_claimed}
 use Rattle.task_index.specs.Picks.{waits_in, better, without, last_name, picked, pick, picks, names_last, are_picks}
 use Rattle.task_index.specs.Left.{is_taken, left}

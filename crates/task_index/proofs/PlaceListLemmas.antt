@@ -2,7 +2,7 @@
 use Rattle.std.proofs.Common.{◌≡◌, ℕ, suc, ◌+◌, ◌≤◌, Bool, true, false, cond, List, [], ◌∷◌, filter, length, slice_get, bytes_eq, refl, sym, ◌∙◌, ap, arith}
 use Rattle.std.specs.List.{list_any, position, position_from}
 use Rattle.std.proofs.lemmas.Iterator.Adapters.{position_from-zero}
-use Rattle.task_defs.specs.declared.task_def.TaskDef.{TaskDef}
+use Rattle.task_types.specs.declared.task_def.TaskDef.{TaskDef}
 use Rattle.run_states.specs.Rows.{Row}
 use Rattle.run_states.specs.Later.{RowsLater}
 use Rattle.task_index.specs.declared.lists.TaskList.{TaskList}

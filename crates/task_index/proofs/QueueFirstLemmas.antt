@@ -4,7 +4,7 @@ use Rattle.std.specs.Option.{IfSome, option_map_or}
 use Rattle.std.specs.List.{position}
 use Rattle.std.proofs.lemmas.Option.{slice_get-get_or}
 use Rattle.run_states.specs.Rows.{Row}
-use Rattle.farm_record.specs.declared.change.RunName.{RunName}
+use Rattle.task_types.specs.declared.change.RunName.{RunName}
 use Rattle.task_index.specs.Changes.{has_id, are_first}
 use Rattle.task_index.specs.Contents.{row_with}
 use Rattle.task_index.specs.Picks.{are_picks}

@@ -2,9 +2,9 @@
 use Rattle.std.proofs.Common.{◌≡◌, ℕ, suc, ◌+◌, Bool, true, false, not, ◌&&◌, cond, List, [], ◌∷◌, length, filter, fold, Option, Some, None, option_map, option_and_then, refl, sym, ap, ◌∙◌, subst, slice_get, slice_index_or, count_by, bytes_eq, arith}
 use Rattle.std.specs.List.{reduce}
 use Rattle.std.proofs.lemmas.List.Sums.{length-filter}
-use Rattle.task_defs.specs.declared.names.TaskQueue.{TaskQueue}
+use Rattle.task_types.specs.declared.names.TaskQueue.{TaskQueue}
 use Rattle.run_states.specs.Rows.{Row, is_pending}
-use Rattle.farm_record.specs.declared.change.RunName.{RunName}
+use Rattle.task_types.specs.declared.change.RunName.{RunName}
 use Rattle.claim_queue.specs.Held.{held_from}
 use Rattle.claim_queue.specs.Waits.{Waiting, Waits, better, best_of, waits_in as is_in, goes_before as waits_before}
 use Rattle.task_index.specs.Picks.{is_same_queue, waits_in, waits_under, goes_before, better as better_row, pick}

@@ -5,8 +5,8 @@ use Rattle.std.proofs.lemmas.Bool.Decides.{nat_tests}
 use Rattle.std.proofs.lemmas.List.Elements.{recursion_from_All, filter-append}
 use Rattle.std.proofs.lemmas.Slice.Eq.{bytes_eq-Decides}
 use Rattle.std.proofs.Math.ListN.{length-append}
-use Rattle.task_defs.specs.declared.names.TaskQueue.{TaskQueue}
-use Rattle.task_defs.specs.Forms.{IsIdentifierByte, IsIdentifier, queue_name}
+use Rattle.task_types.specs.declared.names.TaskQueue.{TaskQueue}
+use Rattle.task_types.specs.Forms.{IsIdentifierByte, IsIdentifier, queue_name}
 use Rattle.task_index.specs.Picks.{is_same_queue}
 use Rattle.task_index.specs.Queues.{name_of, HasOneSlash}
 

@@ -3,9 +3,9 @@ use Rattle.std.proofs.Common.{◌≡◌, ℕ, ◌+◌, ◌-◌, ◌<◌, Bool, t
 use Rattle.std.specs.Option.{option_map_or}
 use Rattle.std.proofs.lemmas.List.{take_more}
 use Rattle.std.proofs.lemmas.Slice.Eq.{bytes_eq-Decides}
-use Rattle.task_defs.specs.declared.names.TaskQueue.{TaskQueue}
+use Rattle.task_types.specs.declared.names.TaskQueue.{TaskQueue}
 use Rattle.run_states.specs.Rows.{Row}
-use Rattle.farm_record.specs.declared.change.RunName.{RunName}
+use Rattle.task_types.specs.declared.change.RunName.{RunName}
 use Rattle.claim_queue.specs.Waits.{Waits, best_of}
 use Rattle.claim_queue.specs.Walks.{Walk, without}
 use Rattle.task_index.specs.Contents.{HaveOwnIds}

@@ -5,7 +5,7 @@ use Rattle.std.proofs.lemmas.List.Folds.{list_any-append}
 use Rattle.std.proofs.lemmas.Map.Keys.{IsDistinct-head, IsDistinct-tail}
 use Rattle.std.proofs.lemmas.Slice.Eq.{bytes_eq-Decides}
 use Rattle.run_states.specs.Rows.{Row}
-use Rattle.farm_record.specs.declared.change.RunName.{RunName}
+use Rattle.task_types.specs.declared.change.RunName.{RunName}
 use Rattle.claim_queue.specs.Waits.{Waiting, Waits, best_of}
 use Rattle.claim_queue.specs.Walks.{without}
 use Rattle.claim_queue.proofs.HeapLemmas.{same?}

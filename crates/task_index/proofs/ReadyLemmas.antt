@@ -2,7 +2,7 @@
 use Rattle.std.proofs.Common.{◌≡◌, ℕ, ◌+◌, Bool, true, false, ◌&&◌, ◌||◌, cond, List, [], ◌∷◌, ◌++◌, map, length, bytes_eq, count_by, is_none, Some, None, refl, ap, sym, ◌∙◌, arith}
 use Rattle.std.specs.List.{list_any, list_all, last_or}
 use Rattle.std.proofs.lemmas.List.Sums.{sum_by-cons}
-use Rattle.task_defs.specs.declared.choices.Requires.{Requires}
+use Rattle.task_types.specs.declared.choices.Requires.{Requires}
 use Rattle.run_states.specs.declared.run.Run.{Run}
 use Rattle.run_states.specs.Rows.{Row, is_unscheduled, first_run, scheduled, due_moments}
 use Rattle.run_states.specs.Serving.{serves}

@@ -8,14 +8,14 @@ use Rattle.run_states.specs.declared.reasons.ReasonResolved.TheVariants as reaso
 use Rattle.run_states.specs.declared.run.Claim.{Claim as RunClaim}
 use Rattle.run_states.specs.Rows.{Row, is_unscheduled, is_resolved, is_running_at, new_row, scheduled}
 use Rattle.run_states.specs.Moves.{may_rerun, run_again, canceled, claimed, reclaimed, resolved}
-use Rattle.farm_record.specs.declared.change.Change.{Change}
-use Rattle.farm_record.specs.declared.change.Claim.{Claim}
-use Rattle.farm_record.specs.declared.change.Creation.{Creation}
-use Rattle.farm_record.specs.declared.change.Kind.{Kind}
-use Rattle.farm_record.specs.declared.change.Kind.TheVariants.{Tick, Create, Schedule, Rerun, Cancel, Claim as TakesRuns, Reclaim, Resolve}
-use Rattle.farm_record.specs.declared.change.Report.{Report}
-use Rattle.farm_record.specs.declared.change.Report.TheVariants as reports
-use Rattle.farm_record.specs.declared.change.RunName.{RunName}
+use Rattle.task_types.specs.declared.change.Change.{Change}
+use Rattle.task_types.specs.declared.change.Claim.{Claim}
+use Rattle.task_types.specs.declared.change.Creation.{Creation}
+use Rattle.task_types.specs.declared.change.Kind.{Kind}
+use Rattle.task_types.specs.declared.change.Kind.TheVariants.{Tick, Create, Schedule, Rerun, Cancel, Claim as TakesRuns, Reclaim, Resolve}
+use Rattle.task_types.specs.declared.change.Report.{Report}
+use Rattle.task_types.specs.declared.change.Report.TheVariants as reports
+use Rattle.task_types.specs.declared.change.RunName.{RunName}
 use Rattle.task_index.specs.Contents.{Contents, row_with}
 use Rattle.task_index.specs.Ready.{settled}
 use Rattle.task_index.specs.Due.{is_due, change_first, draws, advance}

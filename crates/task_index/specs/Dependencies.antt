@@ -2,8 +2,8 @@
 use Rattle.std.specs.Prelude.{◌≡◌, ℕ, ◌+◌, true, ◌++◌, Bool, List, [], ◌∷◌, Option, Some, None, map, length, slice_get, bytes_eq}
 use Rattle.std.specs.List.{list_any, list_all, position_or_len}
 use Rattle.std.specs.Option.{ForSome}
-use Rattle.task_defs.specs.declared.choices.Requires.{Requires}
-use Rattle.task_defs.specs.declared.choices.Requires.TheVariants.{AllCompleted, AllResolved}
+use Rattle.task_types.specs.declared.choices.Requires.{Requires}
+use Rattle.task_types.specs.declared.choices.Requires.TheVariants.{AllCompleted, AllResolved}
 use Rattle.run_states.specs.Rows.{Row, is_unscheduled}
 use Rattle.run_states.specs.Serving.{was_completed, was_resolved}
 use Rattle.dep_graph.specs.declared.node.Progress.{Progress}

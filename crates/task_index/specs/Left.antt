@@ -2,7 +2,7 @@
 use Rattle.std.specs.Prelude.{Bool, not, List, filter, bytes_eq}
 use Rattle.std.specs.List.{list_any}
 use Rattle.run_states.specs.Rows.{Row}
-use Rattle.farm_record.specs.declared.change.RunName.{RunName}
+use Rattle.task_types.specs.declared.change.RunName.{RunName}
 
 -- a run of the task is among those
 abbrev pub is_taken : List RunName → Row → Bool

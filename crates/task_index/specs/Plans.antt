@@ -3,10 +3,10 @@ use Rattle.std.specs.Prelude.{◌≡◌, ℕ, ◌+◌, ◌≤◌, max, nat_le, t
 use Rattle.std.specs.Option.{option_to_list}
 use Rattle.std.specs.List.{flat_map, AllZip}
 use Rattle.run_states.specs.Rows.{Row}
-use Rattle.farm_record.specs.declared.change.Change.{Change}
-use Rattle.farm_record.specs.declared.change.Creation.{Creation}
-use Rattle.farm_record.specs.declared.change.Kind.{Kind}
-use Rattle.farm_record.specs.declared.change.Kind.TheVariants.{Create, Schedule, Rerun, Cancel, Claim as TakesRuns, Reclaim, Resolve}
+use Rattle.task_types.specs.declared.change.Change.{Change}
+use Rattle.task_types.specs.declared.change.Creation.{Creation}
+use Rattle.task_types.specs.declared.change.Kind.{Kind}
+use Rattle.task_types.specs.declared.change.Kind.TheVariants.{Create, Schedule, Rerun, Cancel, Claim as TakesRuns, Reclaim, Resolve}
 use Rattle.task_index.specs.Changes.{may_apply, applied}
 use Rattle.task_index.specs.Contents.{Contents, row_with}
 use Rattle.task_index.specs.Lists.{listed}

@@ -2,10 +2,10 @@
 use Rattle.std.specs.Prelude.{◌≡◌, ℕ, ◌+◌, ◌<◌, ◌≤◌, ◌==◌, false, List, [], Option, Some, None, map, filter, length, count_by, vec_len, vec_capacity, option_and_then, slice_get, slice_set, slice_index_or, bytes_eq, if◌then◌else◌}
 use Rattle.std.specs.List.{AllByRecursion}
 use Rattle.std.specs.Option.{ForSome}
-use Rattle.task_defs.specs.Forms.{queue_name}
-use Rattle.task_defs.specs.declared.names.TaskQueue.{TaskQueue}
+use Rattle.task_types.specs.Forms.{queue_name}
+use Rattle.task_types.specs.declared.names.TaskQueue.{TaskQueue}
 use Rattle.run_states.specs.Rows.{Row, is_pending}
-use Rattle.farm_record.specs.declared.change.RunName.{RunName}
+use Rattle.task_types.specs.declared.change.RunName.{RunName}
 use Rattle.claim_queue.specs.Waits.{Waiting, Waits, room_in, spare_in}
 use Rattle.task_index.specs.declared.queues.Queues.{Queues}
 use Rattle.task_index.specs.Picks.{number_of}

@@ -3,7 +3,7 @@
 use Rattle.std.specs.Prelude.{ℕ, ◌+◌, Bool, false, ◌&&◌, List, [], ◌∷◌, count_by, if◌then◌else◌}
 use Rattle.std.specs.List.{list_any, list_all}
 use Rattle.std.specs.Option.{option_map_or}
-use Rattle.task_defs.specs.declared.choices.Requires.{Requires}
+use Rattle.task_types.specs.declared.choices.Requires.{Requires}
 use Rattle.run_states.specs.Rows.{Row, is_unscheduled, scheduled}
 use Rattle.run_states.specs.Serving.{serves}
 use Rattle.task_index.specs.Contents.{Contents, row_with}

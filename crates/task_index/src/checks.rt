@@ -5,10 +5,9 @@ ghost use Rattle.run_states.specs.Moves.{may_rerun};
 ghost use Rattle.task_index.specs.Changes.{on_row, may_keep, kept_scheduler, may_join};
 
 use crate::rows::Rows;
-use farm_record::Creation;
 use farm_text::{Moment, SlugId};
 use run_states::{MOST_RUNS, TaskRow};
-use task_defs::Identifier;
+use task_types::{Creation, Identifier};
 
 /// How long a run is kept at most, in milliseconds: a day.
 const LONGEST_CLAIM: u64 = 86_400_000;

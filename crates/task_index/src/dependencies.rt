@@ -9,13 +9,12 @@ pub(crate) mod kept;
 pub(crate) mod noted;
 
 use dep_graph::{Graph, Progress, Requires as Needs};
-use farm_record::Creation;
 use noted::Noted;
 use run_states::TaskRow;
 use slug_places::places::Places;
 use std::alloc::{AllocError, Global};
 use std::marker::Model;
-use task_defs::Requires;
+use task_types::{Creation, Requires};
 
 /// Which tasks wait for which, and which of them are ready; and the room for one task more. Each task has its place for its row.
 #[derive(Drop)]

@@ -33,13 +33,12 @@ use crate::queues::kept::{
 use crate::rows::Rows;
 use crate::settle::ready_place;
 use crate::walks::{deadline_place, first_due, lost_place};
-use farm_record::{Creation, RunName};
 use farm_text::{Moment, SlugId, Text};
 use run_states::TaskRow;
 use slug_places::places::Places;
 use std::alloc::{AllocError, Global};
 use std::collections::BTreeMap;
-use task_defs::TaskQueue;
+use task_types::{Creation, RunName, TaskQueue};
 
 /// What is kept beside the tasks.
 #[derive(Drop)]

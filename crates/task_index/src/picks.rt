@@ -10,11 +10,10 @@ use crate::checks::may_keep;
 use crate::queues::names::is_name_of;
 use crate::rows::Rows;
 use claim_queue::rank;
-use farm_record::{Claim, RunName};
 use farm_text::{Moment, SlugId, Text};
 use run_states::TaskRow;
 use std::alloc::{AllocError, Global};
-use task_defs::TaskQueue;
+use task_types::{Claim, RunName, TaskQueue};
 
 /// Whether a worker may take runs: until a moment that is still to come, at most a day later; and they are 1 to 32, the first of their queue.
 pub fn may_claim(rows: &Rows<'_>, at: Moment, claim: &Claim) -> bool

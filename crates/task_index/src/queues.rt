@@ -13,13 +13,12 @@ mod walks;
 
 use crate::counts::MOST_TASKS;
 use claim_queue::Pending;
-use farm_record::RunName;
 use farm_text::Text;
 use held::{hold, may_hold};
 use names::{is_name_of, name_of};
 use run_states::TaskRow;
 use std::alloc::{AllocError, Global};
-use task_defs::TaskQueue;
+use task_types::{RunName, TaskQueue};
 use walks::{are_firsts, firsts};
 
 /// The tasks that wait for a worker, by their places, each in its queue; and of each task the name of its queue.

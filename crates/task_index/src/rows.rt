@@ -12,10 +12,10 @@ ghost use Rattle.task_index.specs.PlaceLists.{AreListed};
 use crate::index::Index;
 use crate::lists::TaskList;
 use crate::place_lists::PlaceLists;
-use farm_record::RunName;
 use farm_text::SlugId;
 use run_states::TaskRow;
 use std::marker::Model;
+use task_types::RunName;
 
 /// The tasks, which are looked up by what is kept beside them. They are seen as the list of the tasks.
 #[derive(Drop)]
@@ -27,7 +27,7 @@ pub struct Rows<'a> {
 impl<'a> Model for Rows<'a> {
     ghost use Rattle.std.specs.Prelude.{List};
     ghost use Rattle.std.specs.Coded.{codes};
-    ghost use Rattle.task_defs.specs.Codes.{members_code};
+    ghost use Rattle.task_types.specs.Codes.{members_code};
     ghost use Rattle.run_states.specs.Rows.{Row};
     ghost use Rattle.task_index.specs.Indexed.{IsIndexOf};
 

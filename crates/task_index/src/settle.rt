@@ -10,7 +10,7 @@ use crate::index::Index;
 use crate::rows::Rows;
 use farm_text::{Moment, SlugId};
 use run_states::TaskRow;
-use task_defs::Requires;
+use task_types::Requires;
 
 /// Makes each task pending that is ready, in the order of creation, the first with this number. Answers how many there were.
 pub fn settle(rows: &mut [TaskRow], index: &mut Index, at: Moment, first: u64) -> u64

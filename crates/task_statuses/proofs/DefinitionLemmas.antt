@@ -5,7 +5,7 @@ use Rattle.json.specs.Token.{Token}
 use Rattle.farm_text.specs.Document.{Document}
 use Rattle.task_defs.specs.Definitions.{IsFullForm}
 use Rattle.task_defs.specs.Writing.{IsWritten}
-use Rattle.task_defs.specs.declared.task_def.TaskDef.{TaskDef}
+use Rattle.task_types.specs.declared.task_def.TaskDef.{TaskDef}
 use Rattle.task_statuses.specs.Calendar.{moment_text}
 use Rattle.task_statuses.specs.Statuses.{definition_of}
 use Rattle.task_statuses.specs.Tokens.{tokens_of}

@@ -2,9 +2,9 @@
 use Rattle.std.specs.Prelude.{ℕ, pos, List, [], ◌∷◌, ◌++◌, codes, Option, Some, None, option_map}
 use Rattle.farm_text.specs.Document.{Document, whole, text}
 use Rattle.farm_text.specs.Slug.{slug_text}
-use Rattle.task_defs.specs.Forms.{queue_name}
-use Rattle.task_defs.specs.declared.names.TaskQueue.{TaskQueue}
-use Rattle.task_defs.specs.declared.task_def.TaskDef.{TaskDef}
+use Rattle.task_types.specs.Forms.{queue_name}
+use Rattle.task_types.specs.declared.names.TaskQueue.{TaskQueue}
+use Rattle.task_types.specs.declared.task_def.TaskDef.{TaskDef}
 use Rattle.run_states.specs.Rows.{Row, row_state}
 use Rattle.run_states.specs.Runs.{run_state}
 use Rattle.run_states.specs.Reasons.{state_name, created_name, resolved_name}

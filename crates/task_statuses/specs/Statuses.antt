@@ -4,8 +4,8 @@ use Rattle.task_statuses.specs.Calendar.{moment_text}
 use Rattle.farm_text.specs.Document.{Document, whole, text, array, object, Items, no_items, item, members_of}
 use Rattle.farm_text.specs.Slug.{slug_text}
 use Rattle.task_defs.specs.Definitions.{full_form}
-use Rattle.task_defs.specs.Forms.{queue_name}
-use Rattle.task_defs.specs.declared.task_def.TaskDef.{TaskDef}
+use Rattle.task_types.specs.Forms.{queue_name}
+use Rattle.task_types.specs.declared.task_def.TaskDef.{TaskDef}
 use Rattle.run_states.specs.Rows.{Row, row_state}
 use Rattle.run_states.specs.Runs.{run_state}
 use Rattle.run_states.specs.Reasons.{state_name, created_name, resolved_name}

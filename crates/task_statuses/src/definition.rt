@@ -5,7 +5,8 @@ ghost use Rattle.task_statuses.specs.Tokens.{tokens_of};
 
 use json::Writer;
 use std::alloc::{AllocError, Global};
-use task_defs::TaskDef;
+use task_defs::write_full_text;
+use task_types::TaskDef;
 
 /// Writes the definition of a task in full form, with each moment in 24 bytes.
 pub fn write_definition(
@@ -20,5 +21,5 @@ pub fn write_definition(
     let _created = definition.created.millis();
     let _deadline = definition.deadline.millis();
     let _expires = definition.expires.millis();
-    definition.write_to(alloc, out)
+    write_full_text(alloc, definition, out)
 }

@@ -10,7 +10,7 @@ use crate::runs::write_runs;
 use json::Writer;
 use run_states::TaskRow;
 use std::alloc::{AllocError, Global};
-use task_defs::{TaskDef, TaskQueue};
+use task_types::{TaskDef, TaskQueue};
 
 /// Writes the status of a task: its deadline, when it expires, its owners, its queue, the retries that it has left, its runs and its state.
 pub fn write_status(alloc: Global, row: &TaskRow, out: &mut Writer) -> Result<(), AllocError>

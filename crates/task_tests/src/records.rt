@@ -1,11 +1,9 @@
 //! Records against tables that were worked by hand.
 use crate::words::{definition, id, identifier, moment, report};
-use farm_record::{
-    Change, Claim, Creation, Kind, Reclaim, Resolution, RunName, RunNames, read_record,
-    tick_record, write_record,
-};
+use farm_record::{read_record, tick_record, write_record};
 use farm_text::{Moment, SlugId};
 use std::alloc::{AllocError, Global};
+use task_types::{Change, Claim, Creation, Kind, Reclaim, Resolution, RunName, RunNames};
 
 /// The digits of a table, two a byte; all else is left out.
 fn digit(c: u8) -> Option<u8> {

@@ -11,11 +11,11 @@ mod looks;
 mod scripts;
 
 use crate::words::{id_of, identifier, moment, next, numbered, report, truth};
-use farm_record::{Change, Claim, Kind, Reclaim, Resolution, RunName, RunNames};
 use farm_rows::{TaskPlan, TaskTables};
 use farm_text::{LAST_TOLD_MOMENT, SlugId};
 use run_states::{RunState, TaskRow};
 use std::alloc::Global;
+use task_types::{Change, Claim, Kind, Reclaim, Resolution, RunName, RunNames};
 
 /// The first step of some scripts, between empty lines, that comes to something else than it says, or `none`.
 fn other_script<'a>(alloc: Global, scripts: &'a str) -> &'a str {

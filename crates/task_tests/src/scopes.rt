@@ -7,7 +7,7 @@ use call_rules::{
 use farm_text::{SlugId, Text};
 use scope_sets::Expr;
 use std::alloc::{AllocError, Global};
-use task_defs::{Identifier, TaskDef};
+use task_types::{Identifier, TaskDef};
 
 /// A task of priority high with a scope and a route.
 const SCOPED: &str =

@@ -1,9 +1,9 @@
 //! What the words of rows stand for. Here and below `None` is want of memory, or a row that is off its form.
-use farm_record::Report;
 use farm_text::{Doc, Moment, SlugId, Text, read_moment};
 use run_states::{Outcome, Run, TaskRow};
 use std::alloc::Global;
-use task_defs::{Identifier, TaskDef, read_task};
+use task_defs::read_task;
+use task_types::{Identifier, Report, TaskDef};
 
 /// The first word of a text, and what stands behind it.
 pub(crate) fn next(text: &str) -> (&str, &str) {

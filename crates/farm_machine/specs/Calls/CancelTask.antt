@@ -1,7 +1,7 @@
 -- cancelTask: a task is resolved, where it was not (the queue service of the Taskcluster reference).
 use Rattle.std.specs.Prelude.{List, ℕ, [], ◌∷◌}
 use Rattle.call_rules.specs.Policy.{cancel_policy}
-use Rattle.farm_record.specs.declared.change.Kind.TheVariants.{Cancel}
+use Rattle.task_types.specs.declared.change.Kind.TheVariants.{Cancel}
 use Rattle.run_states.specs.Rows.{is_resolved}
 use Rattle.farm_machine.specs.Case.{Setting, Case, on_task, passing, when, changing}
 use Rattle.farm_asks.specs.Replies.{tells_status}

@@ -1,8 +1,8 @@
 -- claimWork: a worker takes the runs of a queue that are next (the queue service of the Taskcluster reference; it answers at once).
 use Rattle.std.specs.Prelude.{ℕ, ◌+◌, min, List, [], ◌∷◌}
 use Rattle.call_rules.specs.Policy.{claim_policy}
-use Rattle.farm_record.specs.declared.change.Kind.TheVariants.{Claim as TakesRuns}
-use Rattle.farm_record.specs.declared.change.RunName.{RunName}
+use Rattle.task_types.specs.declared.change.Kind.TheVariants.{Claim as TakesRuns}
+use Rattle.task_types.specs.declared.change.RunName.{RunName}
 use Rattle.task_index.specs.Picks.{picks}
 use Rattle.farm_asks.specs.declared.question.WorkRequest.{WorkRequest}
 use Rattle.farm_machine.specs.Case.{Setting, Deed, Case, passing, reading, changing}

@@ -1,9 +1,9 @@
 -- createTask: a task is made, once (the queue service of the Taskcluster reference; its rules and their order are this project's profile).
 use Rattle.std.specs.Prelude.{◌≡◌, ℕ, nat_le, true, List, [], ◌∷◌, ◌++◌, Option, Some, None, option_and_then, bytes_eq, if◌then◌else◌}
 use Rattle.call_rules.specs.Policy.{create_policy}
-use Rattle.farm_record.specs.declared.change.Creation.{Creation}
-use Rattle.farm_record.specs.declared.change.Kind.TheVariants.{Create}
-use Rattle.task_defs.specs.declared.task_def.TaskDef.{TaskDef}
+use Rattle.task_types.specs.declared.change.Creation.{Creation}
+use Rattle.task_types.specs.declared.change.Kind.TheVariants.{Create}
+use Rattle.task_types.specs.declared.task_def.TaskDef.{TaskDef}
 use Rattle.run_states.specs.Rows.{Row}
 use Rattle.task_index.specs.Changes.{kept_scheduler}
 use Rattle.task_index.specs.Contents.{row_with}

@@ -2,7 +2,7 @@
 use Rattle.std.specs.Prelude.{count_by}
 use Rattle.call_rules.specs.Policy.{pending_policy}
 use Rattle.task_index.specs.Picks.{waits_in}
-use Rattle.task_defs.specs.declared.names.TaskQueue.{TaskQueue}
+use Rattle.task_types.specs.declared.names.TaskQueue.{TaskQueue}
 use Rattle.farm_machine.specs.Case.{Setting, Case, passing, reading}
 use Rattle.farm_asks.specs.Replies.{pending_body}
 

@@ -1,8 +1,8 @@
 -- reclaimTask: a worker keeps its run until another moment (the queue service of the Taskcluster reference).
 use Rattle.std.specs.Prelude.{◌+◌, not, [], ◌∷◌}
 use Rattle.call_rules.specs.Policy.{reclaim_policy}
-use Rattle.farm_record.specs.declared.change.Kind.TheVariants.{Reclaim}
-use Rattle.farm_record.specs.declared.change.RunName.{RunName}
+use Rattle.task_types.specs.declared.change.Kind.TheVariants.{Reclaim}
+use Rattle.task_types.specs.declared.change.RunName.{RunName}
 use Rattle.run_states.specs.Rows.{is_running_at}
 use Rattle.farm_machine.specs.Case.{Setting, Case, on_run, passing, when, changing}
 use Rattle.farm_asks.specs.Config.{claim_millis}

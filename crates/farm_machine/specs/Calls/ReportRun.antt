@@ -1,8 +1,8 @@
 -- reportCompleted, reportFailed and reportException: a worker tells how its run ended (the queue service of the Taskcluster reference).
 use Rattle.std.specs.Prelude.{not, [], ◌∷◌}
 use Rattle.call_rules.specs.Policy.{resolve_policy}
-use Rattle.farm_record.specs.declared.change.Kind.TheVariants.{Resolve}
-use Rattle.farm_record.specs.declared.change.Resolution.{Resolution}
+use Rattle.task_types.specs.declared.change.Kind.TheVariants.{Resolve}
+use Rattle.task_types.specs.declared.change.Resolution.{Resolution}
 use Rattle.task_index.specs.Changes.{reason_of}
 use Rattle.run_states.specs.Rows.{is_running_at}
 use Rattle.run_states.specs.Moves.{ended_for_at}

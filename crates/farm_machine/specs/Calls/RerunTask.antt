@@ -1,7 +1,7 @@
 -- rerunTask: a resolved task is run again (the queue service of the Taskcluster reference; its rules and their order are this project's profile).
 use Rattle.std.specs.Prelude.{ℕ, nat_le, not, ◌&&◌, List, [], ◌∷◌, length}
 use Rattle.call_rules.specs.Policy.{rerun_policy}
-use Rattle.farm_record.specs.declared.change.Kind.TheVariants.{Rerun}
+use Rattle.task_types.specs.declared.change.Kind.TheVariants.{Rerun}
 use Rattle.run_states.specs.Rows.{Row, is_unscheduled, is_resolved}
 use Rattle.farm_machine.specs.Case.{Setting, Rule, Case, on_task, passing, when, changing}
 use Rattle.farm_asks.specs.Replies.{tells_status, conflict}

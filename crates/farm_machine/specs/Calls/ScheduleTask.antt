@@ -1,7 +1,7 @@
 -- scheduleTask: an unscheduled task becomes pending, whatever it waits for (the queue service of the Taskcluster reference).
 use Rattle.std.specs.Prelude.{List, ℕ, not, [], ◌∷◌}
 use Rattle.call_rules.specs.Policy.{schedule_policy}
-use Rattle.farm_record.specs.declared.change.Kind.TheVariants.{Schedule}
+use Rattle.task_types.specs.declared.change.Kind.TheVariants.{Schedule}
 use Rattle.run_states.specs.Rows.{is_unscheduled}
 use Rattle.farm_machine.specs.Case.{Setting, Case, on_task, passing, when, changing}
 use Rattle.farm_asks.specs.Replies.{tells_status}

@@ -4,7 +4,7 @@ use Rattle.scope_sets.specs.Expressions.{Expression, missing}
 use Rattle.call_rules.specs.HookNames.{hook_name}
 use Rattle.call_rules.specs.Policy.{create_policy, trigger_policy, hook_start}
 use Rattle.call_rules.specs.declared.hook_names.HookName.{HookName}
-use Rattle.farm_record.specs.declared.change.Creation.{Creation}
+use Rattle.task_types.specs.declared.change.Creation.{Creation}
 use Rattle.farm_text.specs.Document.{object}
 use Rattle.hawk_auth.specs.Access.{Access as Admission, Expands}
 use Rattle.hook_fire.specs.Firing.{IsFired}
@@ -12,7 +12,7 @@ use Rattle.hook_book.specs.Hooks.{HookData, hook_named}
 use Rattle.hook_fire.specs.declared.fault.FireFault.{FireFault}
 use Rattle.hook_fire.specs.declared.fault.FireFault.TheVariants.{Template, TooMuchWork, Definition, NoMemory}
 use Rattle.jsone_values.specs.Faults.{rule_of}
-use Rattle.task_defs.specs.declared.task_def.TaskDef.{TaskDef}
+use Rattle.task_types.specs.declared.task_def.TaskDef.{TaskDef}
 use Rattle.farm_asks.specs.declared.config.Config.{Config}
 use Rattle.farm_asks.specs.declared.question.BodyFault.TheVariants.{NoDefinition}
 use Rattle.farm_asks.specs.declared.question.Trigger.{Trigger}

@@ -4,10 +4,10 @@ use crate::case::{Called, Done, Scene};
 use call_rules::cancel_scopes;
 use farm_asks::answers;
 use farm_asks::reply::Answer;
-use farm_record::Kind;
 use farm_text::SlugId;
 use scope_sets::Expr;
 use std::alloc::{AllocError, Global};
+use task_types::Kind;
 
 /// A task is resolved, where it was not.
 #[derive(Clone, Copy)]

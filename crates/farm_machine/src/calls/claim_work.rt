@@ -5,10 +5,10 @@ use call_rules::claim_scopes;
 use farm_asks::question::WorkRequest;
 use farm_asks::reply::Answer;
 use farm_asks::works::{Telling, told};
-use farm_record::{Claim, Kind, RunNames};
 use farm_text::Moment;
 use scope_sets::Expr;
 use std::alloc::{AllocError, Global};
+use task_types::{Claim, Kind, RunNames};
 
 /// How many runs a worker takes together at most.
 const MOST_RUNS: u8 = 32;

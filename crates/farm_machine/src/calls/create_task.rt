@@ -7,10 +7,9 @@ use crate::tables::Tables;
 use call_rules::create_policy;
 use farm_asks::answers;
 use farm_asks::reply::Answer;
-use farm_record::{Creation, Kind};
 use scope_sets::Expr;
 use std::alloc::{AllocError, Global};
-use task_defs::same;
+use task_types::{Creation, Kind, same};
 
 /// A task is made.
 #[derive(Drop)]

@@ -11,7 +11,7 @@ use farm_asks::reply::Answer;
 use farm_text::Text;
 use scope_sets::Expr;
 use std::alloc::{AllocError, Global};
-use task_defs::TaskQueue;
+use task_types::TaskQueue;
 
 /// How many tasks wait in a queue.
 #[derive(Drop)]

@@ -5,9 +5,9 @@ use crate::named::absent_run;
 use call_rules::reclaim_scope;
 use farm_asks::answers;
 use farm_asks::reply::Answer;
-use farm_record::{Kind, Reclaim, RunName};
 use scope_sets::Expr;
 use std::alloc::{AllocError, Global};
+use task_types::{Kind, Reclaim, RunName};
 
 /// A worker keeps its run for longer.
 #[derive(Clone, Copy)]

@@ -5,10 +5,10 @@ use crate::named::absent_run;
 use call_rules::resolve_scope;
 use farm_asks::answers;
 use farm_asks::reply::Answer;
-use farm_record::{Kind, Resolution, RunName};
 use farm_rows::reason_of;
 use scope_sets::Expr;
 use std::alloc::{AllocError, Global};
+use task_types::{Kind, Resolution, RunName};
 
 /// A worker tells how its run ended.
 #[derive(Clone, Copy)]

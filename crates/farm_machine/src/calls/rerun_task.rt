@@ -6,11 +6,11 @@ use crate::case::{Called, Done, Scene};
 use call_rules::rerun_scopes;
 use farm_asks::answers;
 use farm_asks::reply::Answer;
-use farm_record::Kind;
 use farm_text::{Moment, SlugId};
 use run_states::{MOST_RUNS, TaskRow};
 use scope_sets::Expr;
 use std::alloc::{AllocError, Global};
+use task_types::Kind;
 
 /// A resolved task is run again.
 #[derive(Clone, Copy)]

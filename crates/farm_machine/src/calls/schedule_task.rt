@@ -4,10 +4,10 @@ use crate::case::{Called, Done, Scene};
 use call_rules::schedule_scopes;
 use farm_asks::answers;
 use farm_asks::reply::Answer;
-use farm_record::Kind;
 use farm_text::SlugId;
 use scope_sets::Expr;
 use std::alloc::{AllocError, Global};
+use task_types::Kind;
 
 /// An unscheduled task becomes pending, whatever it waits for.
 #[derive(Clone, Copy)]

@@ -3,7 +3,7 @@ ghost use Rattle.std.specs.Prelude.{◌≡◌, true, false, None, IfOk, OnOk, Ma
 ghost use Rattle.task_index.specs.Contents.{row_with, HaveOwnIds};
 ghost use Rattle.task_index.specs.Ready.{has_ready, settled_row};
 ghost use Rattle.task_index.specs.Changes.{creating, may_apply};
-ghost use Rattle.farm_record.specs.declared.change.Kind.TheVariants.{Create};
+ghost use Rattle.task_types.specs.declared.change.Kind.TheVariants.{Create};
 ghost use Rattle.task_index.specs.Plans.{named_rows, FindsRoom, IsPlanOn};
 ghost use Rattle.farm_rows.specs.Deeds.{kind_of, change_of, row_of, claims_of, rows_after};
 
@@ -11,12 +11,12 @@ use crate::copies::claims;
 use crate::plan::{Deed, TaskPlan, run_room};
 use crate::shown::shown;
 use crate::tables::TaskTables;
-use farm_record::{Creation, Kind};
 use farm_text::Moment;
 use run_states::{Claim as RunClaim, TaskRow};
 use std::alloc::{AllocError, Global};
 use task_index::place_lists::room::Room;
 use task_index::settle::settle_new;
+use task_types::{Creation, Kind};
 
 impl TaskTables {
     /// The plan of a change that may be made, by its kind.

@@ -3,11 +3,11 @@ ghost use Rattle.std.specs.Prelude.{IfOk};
 ghost use Rattle.farm_asks.specs.Questions.{IsSaidCall};
 
 use farm_asks::question::{Call, WorkRequest};
-use farm_record::{Creation, Report, Resolution, RunName};
 use farm_text::{Doc, SlugId, Text};
 use std::alloc::Global;
 use std::test::Fail;
-use task_defs::{Identifier, TaskQueue, read_task};
+use task_defs::read_task;
+use task_types::{Creation, Identifier, Report, Resolution, RunName, TaskQueue};
 
 /// The smallest definition, with a deadline a day after its making.
 const PLAIN: &str =

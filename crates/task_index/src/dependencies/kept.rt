@@ -7,10 +7,10 @@ ghost use Rattle.task_index.specs.Placed.{ArePlaced};
 ghost use Rattle.task_index.specs.Dependencies.{MayBeDependencies, MayBeDependenciesBut};
 
 use crate::dependencies::DependencyGraph;
-use farm_record::Creation;
 use run_states::TaskRow;
 use slug_places::places::Places;
 use std::alloc::{AllocError, Global};
+use task_types::Creation;
 
 /// The place of the first task that is ready, or none, where that can be told without a walk.
 pub(crate) fn known_ready(graph: &Option<DependencyGraph>) -> Option<Option<usize>>

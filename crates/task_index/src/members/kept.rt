@@ -5,10 +5,10 @@ ghost use Rattle.run_states.specs.Rows.{Row};
 ghost use Rattle.task_index.specs.Members.{in_group, AreMembers, MayBeMembers};
 
 use crate::members::Members;
-use farm_record::Creation;
 use farm_text::SlugId;
 use run_states::TaskRow;
 use std::alloc::{AllocError, Global};
+use task_types::Creation;
 
 /// The first task of a group.
 pub(crate) fn first_of<'a>(

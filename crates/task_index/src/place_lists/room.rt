@@ -1,7 +1,7 @@
 //! The room that a plan brings for a task that is created.
 ghost use Rattle.std.specs.Prelude.{◌≡◌, ◌≤◌, length, map, IfOk};
 ghost use Rattle.std.specs.List.{AllZip};
-ghost use Rattle.farm_record.specs.declared.change.Creation.{Creation};
+ghost use Rattle.task_types.specs.declared.change.Creation.{Creation};
 ghost use Rattle.task_index.specs.Plans.{HasRoom, HasRoomOn, lists_of};
 ghost use Rattle.task_index.specs.declared.lists.TaskList.TheVariants.{Dependants};
 ghost use Rattle.task_index.specs.PlaceLists.{AreListed};
@@ -10,11 +10,11 @@ ghost use Rattle.task_index.specs.Indexed.{IsIndexOf};
 use crate::index::Index;
 use crate::place_lists::{PlaceLists, TaskPlaces};
 use crate::room::{Spare, grown};
-use farm_record::Creation;
 use farm_text::SlugId;
 use run_states::TaskRow;
 use std::alloc::{AllocError, Global};
 use std::marker::Model;
+use task_types::Creation;
 
 /// The room that a plan brings for a task that is created.
 #[derive(Drop)]

@@ -8,11 +8,10 @@ ghost use Rattle.task_index.specs.Queues.{name_of, MayBeNoted, MayBeQueues, MayB
 
 use crate::picks::{are_picks, pending, picks};
 use crate::queues::Queues;
-use farm_record::RunName;
 use farm_text::Text;
 use run_states::TaskRow;
 use std::alloc::{AllocError, Global};
-use task_defs::TaskQueue;
+use task_types::{RunName, TaskQueue};
 
 /// Takes the memory for a task of a queue that is to come behind the others, at a place. Where memory is wanting, all that is held stays.
 pub(crate) fn note_queued(

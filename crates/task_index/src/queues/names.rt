@@ -1,11 +1,11 @@
 //! The names of queues.
 ghost use Rattle.std.specs.Prelude.{◌≡◌, ◌↔◌, IsTrue, IfOk, string_bytes};
-ghost use Rattle.task_defs.specs.Forms.{queue_name};
+ghost use Rattle.task_types.specs.Forms.{queue_name};
 ghost use Rattle.task_index.specs.Queues.{name_of, HasOneSlash};
 
 use farm_text::Text;
 use std::alloc::{AllocError, Global};
-use task_defs::TaskQueue;
+use task_types::TaskQueue;
 
 /// The name of a queue: both parts, with a slash between them.
 pub(crate) fn name_of(alloc: Global, queue: &TaskQueue) -> Result<Text, AllocError>

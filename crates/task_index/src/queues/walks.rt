@@ -1,7 +1,7 @@
 //! The runs that are claimed next in a queue, by a walk over the first tasks that wait there.
 ghost use Rattle.std.specs.Prelude.{◌≡◌, ◌<◌, [], false, IfOk, slice_get, option_and_then, option_copied};
 ghost use Rattle.std.specs.Option.{option_map_or};
-ghost use Rattle.task_defs.specs.declared.names.TaskQueue.{TaskQueue};
+ghost use Rattle.task_types.specs.declared.names.TaskQueue.{TaskQueue};
 ghost use Rattle.claim_queue.specs.Waits.{best_of};
 ghost use Rattle.claim_queue.specs.Walks.{without};
 ghost use Rattle.task_index.specs.Contents.{HaveOwnIds};
@@ -11,13 +11,12 @@ ghost use Rattle.task_index.specs.Queues.{name_of, HasOneSlash, AreLeft};
 use crate::picks::{last_name, names_last};
 use crate::queues::names::name_of;
 use claim_queue::{Firsts, Pending, Steps};
-use farm_record::RunName;
 use farm_text::Text;
 use run_states::TaskRow;
 use std::alloc::{AllocError, Global};
 use std::marker::Brand;
 use std::sync::ledger::{Blank, Ledger};
-use task_defs::TaskQueue;
+use task_types::{RunName, TaskQueue};
 
 /// The runs that are claimed next in a queue, so many, or all that wait.
 pub(crate) fn firsts(

@@ -1,8 +1,8 @@
 //! The definitions of the tasks of the rows.
 use crate::words::{definition, id};
-use farm_record::{Creation, Kind};
 use farm_text::SlugId;
 use std::alloc::Global;
+use task_types::{Creation, Kind};
 
 /// The smallest definition.
 const PLAIN: &str =

@@ -1,13 +1,13 @@
 //! What is asked of tables.
 use super::bodies;
 use crate::words::{id, id_of, is_outcome, is_run, moment, next, stands};
-use farm_record::{Creation, RunName};
 use farm_rows::TaskTables;
 use farm_text::SlugId;
 use run_states::{Run, TaskRow};
 use std::alloc::Global;
 use task_index::counts::RowCounts;
 use task_index::lists::{Page, TaskList};
+use task_types::{Creation, RunName};
 
 /// Whether the tables, or a task of theirs, are so.
 pub(super) fn are(alloc: Global, tables: &TaskTables, parts: &str) -> Option<bool> {

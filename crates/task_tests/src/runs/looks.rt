@@ -3,8 +3,8 @@ use crate::words::{is_run, moment, next, stands, truth};
 use json::Writer;
 use run_states::{Run, TaskRow};
 use std::alloc::{AllocError, Global};
-use task_defs::Requires;
 use task_statuses::{write_definition, write_status};
+use task_types::Requires;
 
 /// Whether a task is so.
 pub(super) fn is_so(alloc: Global, row: &TaskRow, word: &str, parts: &str) -> Option<bool> {

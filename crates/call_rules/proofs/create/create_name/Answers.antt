@@ -1,6 +1,6 @@
 use Rattle.std.proofs.Common.{List, ℕ, All, ◌++◌, sym, ap, ◌∙◌, subst, string_bytes}
 use Rattle.scope_sets.specs.Scopes.{IsPrintable}
-use Rattle.task_defs.specs.Choices.{priority_name}
+use Rattle.task_types.specs.Choices.{priority_name}
 use Rattle.call_rules.proofs.PolicyLemmas.{identifier_printable}
 use Rattle.call_rules.proofs.PriorityLemmas.{name_printable, five_pieces, queue_printable}
 use Rattle.call_rules.proofs.create.create_name.Goals as goal

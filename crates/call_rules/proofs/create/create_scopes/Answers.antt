@@ -1,7 +1,7 @@
 use Rattle.std.proofs.Common.{◌+◌, map, take, ap, ◌∙◌, arith, []}
 use Rattle.scope_sets.specs.Expressions.{Expression, view, one}
-use Rattle.task_defs.specs.Choices.{priorities}
-use Rattle.task_defs.specs.declared.choices.Priority.{Priority}
+use Rattle.task_types.specs.Choices.{priorities}
+use Rattle.task_types.specs.declared.choices.Priority.{Priority}
 use Rattle.call_rules.specs.Policy.{create_scope}
 use Rattle.call_rules.proofs.PolicyLemmas.{view-One, grown, all_grown}
 use Rattle.call_rules.proofs.PriorityLemmas.{down_to}

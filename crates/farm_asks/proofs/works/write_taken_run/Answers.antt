@@ -1,6 +1,6 @@
 use Rattle.std.proofs.Common.{codes, [], ◌∷◌, ◌++◌, ap, ◌∙◌}
 use Rattle.std.proofs.lemmas.Result.{on_ok_weaker}
-use Rattle.task_defs.specs.declared.task_def.TaskDef.{TaskDef}
+use Rattle.task_types.specs.declared.task_def.TaskDef.{TaskDef}
 use Rattle.task_statuses.specs.Parts.{worker}
 use Rattle.task_statuses.specs.Statuses.{definition_of}
 use Rattle.task_statuses.specs.Tokens.{tokens_of}

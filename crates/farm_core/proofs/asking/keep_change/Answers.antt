@@ -1,7 +1,7 @@
 -- Where there is no change, nothing is kept.
 use Rattle.std.proofs.Common.{◌≡◌, [], Option, None, sym, subst}
 use Rattle.std.specs.Option.{option_to_list}
-use Rattle.farm_record.specs.declared.change.Change.{Change}
+use Rattle.task_types.specs.declared.change.Change.{Change}
 use Rattle.farm_core.specs.Records.{KeepsRecords}
 use Rattle.farm_core.proofs.RecordLemmas.{KeepsRecords-none}
 use Rattle.farm_core.proofs.asking.keep_change.Goals as goal

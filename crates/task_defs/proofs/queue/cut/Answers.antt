@@ -1,4 +1,4 @@
-use Rattle.task_defs.proofs.QueueLemmas.{cut_by}
+use Rattle.task_types.proofs.QueueNameLemmas.{cut_by}
 use Rattle.task_defs.proofs.queue.cut.Goals as goal
 
 pub returns : goal.returns

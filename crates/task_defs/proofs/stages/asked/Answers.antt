@@ -1,5 +1,5 @@
 use Rattle.std.proofs.Common.{codes, IsSome}
-use Rattle.task_defs.specs.Choices.{requires_of}
+use Rattle.task_types.specs.Choices.{requires_of}
 use Rattle.task_defs.specs.Values.{IsTextOf}
 use Rattle.task_defs.proofs.FaultLemmas.{ok_one, err_one}
 use Rattle.task_defs.proofs.stages.asked.Goals as goal

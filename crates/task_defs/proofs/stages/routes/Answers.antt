@@ -1,5 +1,5 @@
 use Rattle.std.proofs.Common.{codes}
-use Rattle.task_defs.specs.Forms.{IsRoute}
+use Rattle.task_types.specs.Forms.{IsRoute}
 use Rattle.task_defs.specs.Values.{IsTextList}
 use Rattle.task_defs.proofs.FaultLemmas.{ok_one, err_one}
 use Rattle.task_defs.proofs.stages.routes.Goals as goal

@@ -1,5 +1,5 @@
 use Rattle.std.proofs.Common.{sym, ◌∙◌}
-use Rattle.task_defs.specs.Forms.{IsRoute}
+use Rattle.task_types.specs.Forms.{IsRoute}
 use Rattle.farm_text.specs.Doc.{document}
 use Rattle.task_defs.proofs.TextLemmas.{list_ill, texts_in_list}
 use Rattle.task_defs.proofs.texts.routes_in.Goals as goal

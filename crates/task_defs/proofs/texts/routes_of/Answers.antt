@@ -1,6 +1,6 @@
 use Rattle.std.proofs.Common.{refl}
 use Rattle.std.proofs.lemmas.Bool.{false≢true}
-use Rattle.task_defs.specs.Forms.{IsRoute}
+use Rattle.task_types.specs.Forms.{IsRoute}
 use Rattle.task_defs.proofs.TextLemmas.{form_fails, forms_more, items_more}
 use Rattle.task_defs.proofs.texts.routes_of.Goals as goal
 

@@ -1,5 +1,5 @@
 use Rattle.std.proofs.Common.{◌≡◌, map, take, All}
-use Rattle.task_defs.specs.Forms.{IsRoute}
+use Rattle.task_types.specs.Forms.{IsRoute}
 use Rattle.task_defs.proofs.texts.routes_of.Given as goal
 
 abbrev pub invariant-loop-text : goal.invariant-loop-text

@@ -1,5 +1,5 @@
 use Rattle.std.proofs.Common.{◌<◌, List, length, ap, sym, ◌∙◌, rules, arith}
-use Rattle.farm_record.specs.declared.change.RunName.{RunName}
+use Rattle.task_types.specs.declared.change.RunName.{RunName}
 use Rattle.task_index.specs.Picks.{pick}
 use Rattle.task_index.specs.Left.{left}
 use Rattle.task_index.proofs.PickLemmas.{picks-init, picks-step}

@@ -1,6 +1,6 @@
 use Rattle.std.proofs.Common.{◌++◌}
 use Rattle.std.proofs.lemmas.Result.{on_ok_weaker}
-use Rattle.task_defs.specs.declared.task_def.TaskDef.{TaskDef}
+use Rattle.task_types.specs.declared.task_def.TaskDef.{TaskDef}
 use Rattle.task_statuses.specs.Parts.{standing, ids, place}
 use Rattle.task_statuses.proofs.WritingLemmas.{members_then, members_of_same}
 use Rattle.task_statuses.proofs.status.write_behind_runs.Goals as goal

@@ -1,6 +1,6 @@
 use Rattle.std.proofs.Common.{codes, ◌∙◌}
 use Rattle.std.proofs.lemmas.Result.{on_ok_weaker}
-use Rattle.task_defs.specs.Forms.{queue_name}
+use Rattle.task_types.specs.Forms.{queue_name}
 use Rattle.task_statuses.proofs.WritingLemmas.{two_texts}
 use Rattle.task_statuses.proofs.status.write_place.Goals as goal
 

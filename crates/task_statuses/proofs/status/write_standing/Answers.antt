@@ -1,7 +1,7 @@
 use Rattle.std.proofs.Common.{codes, ap, ◌∙◌}
 use Rattle.std.proofs.lemmas.Result.{on_ok_weaker}
 use Rattle.run_states.specs.Rows.{row_state}
-use Rattle.task_defs.specs.declared.task_def.TaskDef.{TaskDef}
+use Rattle.task_types.specs.declared.task_def.TaskDef.{TaskDef}
 use Rattle.task_statuses.specs.Statuses.{task_state_name}
 use Rattle.task_statuses.proofs.WritingLemmas.{two_texts}
 use Rattle.task_statuses.proofs.status.write_standing.Goals as goal

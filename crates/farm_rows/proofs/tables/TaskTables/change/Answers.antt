@@ -5,7 +5,7 @@ use Rattle.run_states.specs.Rows.{Row}
 use Rattle.task_index.specs.Ready.{settled}
 use Rattle.farm_rows.specs.Deeds.{change_of, rows_after, drawn_by}
 use Rattle.run_states.specs.Later.{RowsLater}
-use Rattle.farm_record.specs.declared.change.Change.{Change}
+use Rattle.task_types.specs.declared.change.Change.{Change}
 use Rattle.task_index.specs.Contents.{Contents}
 use Rattle.task_index.specs.Changes.{applied}
 use Rattle.task_index.specs.Indexed.{IsIndexOf}

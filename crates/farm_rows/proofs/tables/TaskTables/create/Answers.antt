@@ -2,7 +2,7 @@ use Rattle.std.proofs.Common.{◌≡◌, ◌+◌, min, true, false, List, [], �
 use Rattle.std.specs.List.{list_any}
 use Rattle.run_states.specs.Rows.{Row}
 use Rattle.run_states.specs.declared.run.Run.{Run}
-use Rattle.farm_record.specs.declared.change.Creation.{Creation}
+use Rattle.task_types.specs.declared.change.Creation.{Creation}
 use Rattle.task_index.specs.Contents.{Contents}
 use Rattle.task_index.specs.Changes.{creating}
 use Rattle.task_index.specs.Dependencies.{ids_of, depends_on_these}

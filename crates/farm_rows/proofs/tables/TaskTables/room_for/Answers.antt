@@ -1,6 +1,6 @@
 use Rattle.std.proofs.Common.{List, IfOk, ap, sym, ◌∙◌, subst}
 use Rattle.run_states.specs.Rows.{Row}
-use Rattle.farm_record.specs.declared.change.Kind.TheVariants.{Create}
+use Rattle.task_types.specs.declared.change.Kind.TheVariants.{Create}
 use Rattle.task_index.specs.Contents.{Contents}
 use Rattle.task_index.specs.Plans.{Room, FindsRoom}
 use Rattle.task_index.specs.Ready.{has_ready}

@@ -1,5 +1,5 @@
 use Rattle.std.proofs.Common.{◌≡◌, ℕ, true, List, [], ◌∷◌, ◌++◌, length, rules, ap, sym, ◌∙◌, subst}
-use Rattle.task_defs.specs.declared.task_def.TaskDef.{TaskDef}
+use Rattle.task_types.specs.declared.task_def.TaskDef.{TaskDef}
 use Rattle.dep_graph.specs.declared.node.Progress.{Progress}
 use Rattle.dep_graph.specs.declared.node.Requires.{Requires}
 use Rattle.dep_graph.specs.Nodes.{Task, Adding, TaskGraph, added, moved, may_be_added}

@@ -1,5 +1,5 @@
 use Rattle.std.proofs.Common.{◌≡◌, ℕ, List, [], ◌∷◌, ◌++◌, length, ap, sym, ◌∙◌, subst}
-use Rattle.task_defs.specs.declared.task_def.TaskDef.{TaskDef}
+use Rattle.task_types.specs.declared.task_def.TaskDef.{TaskDef}
 use Rattle.task_groups.specs.Members.{TaskGroup, TaskGroups, joined}
 use Rattle.task_index.specs.Members.{AreMembers}
 use Rattle.task_index.proofs.MemberLemmas.{member-last, member-joined}

@@ -1,5 +1,5 @@
 use Rattle.std.proofs.Common.{◌≤◌, ◌<◌, List, ◌∷◌, [], ◌++◌, length, sym, subst}
-use Rattle.task_defs.specs.declared.task_def.TaskDef.{TaskDef}
+use Rattle.task_types.specs.declared.task_def.TaskDef.{TaskDef}
 use Rattle.task_index.specs.Plans.{HasRoom}
 use Rattle.task_index.specs.PlaceLists.{KeptPlaces, no_places, members_at, kept_at, AreNowAt, IsFirst}
 use Rattle.task_index.proofs.ComingLemmas.{begun}

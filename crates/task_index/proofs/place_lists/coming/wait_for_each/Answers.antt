@@ -1,7 +1,7 @@
 use Rattle.std.proofs.Common.{◌≡◌, ℕ, suc, refl, arith, List, [], ◌∷◌, ◌++◌, true, length, map, take, drop, bytes_eq, ap, sym, ◌∙◌, subst}
 use Rattle.std.specs.List.{list_any, list_all, AllZip}
 use Rattle.std.specs.Vec.Iter.{into_iter_items}
-use Rattle.task_defs.specs.declared.task_def.TaskDef.{TaskDef}
+use Rattle.task_types.specs.declared.task_def.TaskDef.{TaskDef}
 use Rattle.task_index.specs.declared.lists.TaskList.TheVariants.{Dependants}
 use Rattle.task_index.specs.Dependencies.{ids_of, place_in}
 use Rattle.task_index.specs.Plans.{HasRoomOn}

@@ -1,6 +1,6 @@
 use Rattle.std.proofs.Common.{◌≡◌, ℕ, List, Some, ap, sym, ◌∙◌, slice_set}
-use Rattle.task_defs.specs.declared.choices.Priority.{Priority}
-use Rattle.task_defs.specs.declared.task_def.TaskDef.{TaskDef}
+use Rattle.task_types.specs.declared.choices.Priority.{Priority}
+use Rattle.task_types.specs.declared.task_def.TaskDef.{TaskDef}
 use Rattle.claim_queue.specs.Waits.{Waiting, Waits}
 use Rattle.task_index.specs.Queues.{name_of, waiting_of}
 use Rattle.task_index.proofs.QueueRoomLemmas.{is-held}

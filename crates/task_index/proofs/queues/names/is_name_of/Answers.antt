@@ -1,7 +1,7 @@
 use Rattle.std.proofs.Common.{◌≡◌, true, false, ap, sym, ◌∙◌}
 use Rattle.std.proofs.lemmas.Slice.Eq.{bytes_eq-Decides}
-use Rattle.task_defs.specs.Forms.{queue_name}
-use Rattle.task_defs.proofs.QueueLemmas.{cut_by}
+use Rattle.task_types.specs.Forms.{queue_name}
+use Rattle.task_types.proofs.QueueNameLemmas.{cut_by}
 use Rattle.task_index.proofs.queues.names.is_name_of.Goals as goal
 
 pub returns-then-eq : goal.returns-then-eq

@@ -1,5 +1,5 @@
 use Rattle.std.proofs.Common.{◌≡◌, take, drop}
-use Rattle.task_defs.specs.declared.names.TaskQueue.{TaskQueue}
+use Rattle.task_types.specs.declared.names.TaskQueue.{TaskQueue}
 use Rattle.task_index.specs.Picks.{are_picks}
 use Rattle.task_index.specs.Left.{left}
 use Rattle.task_index.specs.Queues.{name_of, AreLeft}

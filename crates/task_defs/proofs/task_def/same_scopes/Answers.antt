@@ -1,5 +1,0 @@
-use Rattle.std.proofs.lemmas.Slice.Eq.{slice_eq-Decides, bytes_eq-Decides}
-use Rattle.task_defs.proofs.task_def.same_scopes.Goals as goal
-
-pub returns : goal.returns
-returns c = slice_eq-Decides bytes_eq-Decides _ _ _ c.eq.ensures

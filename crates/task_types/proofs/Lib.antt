@@ -1,0 +1,2 @@
+pub mod QueueNameLemmas
+pub mod CrossingLemmas

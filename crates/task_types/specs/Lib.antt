@@ -1,0 +1,4 @@
+pub mod Forms
+pub mod Choices
+pub mod Maps
+pub mod Codes
