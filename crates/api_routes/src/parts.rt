@@ -15,6 +15,7 @@ use farm_text::{SlugId, Text};
 use itoa::Buffer;
 use percent_encoding::percent_decode;
 use std::alloc::{AllocError, Global};
+use task_defs::queue_from_name;
 use task_types::{RunName, TaskQueue};
 
 /// A part of a path, percent-decoded.
@@ -109,7 +110,7 @@ pub(crate) fn queue_of(alloc: Global, name: &[u8]) -> Result<Option<TaskQueue>, 
         (λ q. IsIdentifier q.provisioner_id × IsIdentifier q.worker_type × (name.now ≡ queue_name q.provisioner_id q.worker_type))) }
 {
     match str::from_utf8(name) {
-        Ok(name) => TaskQueue::from_name(alloc, name),
+        Ok(name) => queue_from_name(alloc, name),
         Err(_) => Ok(None),
     }
 }

@@ -22,4 +22,5 @@ pub use laws::{
     a_full_form_says_its_definition, equal_full_forms_are_of_equal_definitions, the_fault_is_one,
     the_full_form_is_one, the_longest_definition,
 };
+pub use queue::queue_from_name;
 pub use reading::{LONGEST_DEFINITION, read_task};

@@ -76,16 +76,14 @@ fn queue_of(alloc: Global, provisioner: &str, worker: &str) -> Result<TaskQueue,
     })
 }
 
-impl TaskQueue {
-    /// The queue of this name, if it is one.
-    pub fn from_name(alloc: Global, name: &str) -> Result<Option<TaskQueue>, AllocError>
-        ensures { IfOk result (λ found. MatchOption found (¬ IsQueue name.now)
-            (λ q. IsIdentifier q.provisioner_id × IsIdentifier q.worker_type × (name.now ≡ queue_name q.provisioner_id q.worker_type))) }
-    {
-        match parts_of(name) {
-            Some((provisioner, worker)) => Ok(Some(queue_of(alloc, provisioner, worker)?)),
-            None => Ok(None),
-        }
+/// The queue of this name, if it is one.
+pub fn queue_from_name(alloc: Global, name: &str) -> Result<Option<TaskQueue>, AllocError>
+    ensures { IfOk result (λ found. MatchOption found (¬ IsQueue name.now)
+        (λ q. IsIdentifier q.provisioner_id × IsIdentifier q.worker_type × (name.now ≡ queue_name q.provisioner_id q.worker_type))) }
+{
+    match parts_of(name) {
+        Some((provisioner, worker)) => Ok(Some(queue_of(alloc, provisioner, worker)?)),
+        None => Ok(None),
     }
 }
 
