@@ -44,7 +44,7 @@ use Rattle.console_commands.specs.declared.status.Status.TheVariants.{Done, Usag
 use Rattle.farm_cli.specs.Checking.{CheckedOver, Checks, check_text, disk_text}
 use Rattle.farm_cli.specs.Disks.{BeginsFrom, IsRefusedFor, over_disk, status_of_fault}
 use Rattle.farm_cli.specs.Heard.{IsUnheard, IsHeard, ServedOver}
-use Rattle.farm_cli.specs.Serves.{IsStatusOf, NeverServed}
+use Rattle.farm_crews.specs.Serves.{IsStatusOf, NeverServed}
 use Rattle.http_wire.specs.Calls.{LinkState}
 use Rattle.farm_machine.specs.Entry.{Entry}
 use Rattle.farm_serving.specs.Connections.{Station}

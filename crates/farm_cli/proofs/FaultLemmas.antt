@@ -20,7 +20,7 @@ use Rattle.console_commands.specs.declared.status.Status.{Status}
 use Rattle.console_commands.specs.declared.status.Status.TheVariants.{Done, Usage, FarmFile, Input, Opening, Disk, Door, Read, Write, NoMemory, Wire, Damaged}
 use Rattle.farm_cli.specs.Ends.{HasOne, HasConnection, HasRisen, WentWell}
 use Rattle.console_commands.specs.Inputs.{Tells}
-use Rattle.farm_cli.specs.Serves.{CallsFor, IsFirstOf, IsStatusOf}
+use Rattle.farm_crews.specs.Serves.{CallsFor, IsFirstOf, IsStatusOf}
 use Rattle.farm_cli.specs.Ends.{EndsWith, status_of}
 
 -- the list of the messages ends so, where the bytes are known

@@ -12,13 +12,13 @@ use Rattle.farm_serving.specs.Tally.{of_all, IsTally}
 use Rattle.farm_serving.specs.declared.ended.Ended.{Ended}
 use Rattle.console_commands.specs.declared.status.Status.{Status}
 use Rattle.console_commands.specs.declared.status.Status.TheVariants.{Done, Usage, FarmFile, Input, Opening, Disk, Door, Read, Write, NoMemory, Wire, Damaged}
-use Rattle.farm_cli.specs.Crew.{IsWholeCrew, IsDoorFailed}
+use Rattle.farm_crews.specs.Crew.{IsWholeCrew, IsDoorFailed}
 use Rattle.farm_cli.specs.Faults.{WasServed, IsServed, TwinFailed, IsDoorBroken, IsLinkUnread, IsLinkUnwritten, IsLinkCut}
 use Rattle.farm_cli.specs.Heard.{workers_of, station_with, station_of, IsHeard}
 use Rattle.houses.specs.House.{Lendings}
 use Rattle.console_commands.specs.Inputs.{Tells}
 use Rattle.farm_cli.specs.Reasons.{ConsoleFailed}
-use Rattle.farm_cli.specs.Serves.{ready_text, ServesReady, ServesFarm, NeverServed}
+use Rattle.farm_crews.specs.Serves.{ready_text, ServesReady, ServesFarm, NeverServed}
 use Rattle.farm_cli.specs.Views.{Views, talk_of}
 use Rattle.farm_cli.proofs.FaultLemmas.{accepts_one, link_unread, link_unwritten, link_cut, went_well, called, quiet, told_whole}
 

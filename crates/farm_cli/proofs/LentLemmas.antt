@@ -23,10 +23,10 @@ use Rattle.console_commands.specs.declared.status.Status.TheVariants.{Disk, Door
 use Rattle.farm_cli.specs.Disks.{DiskHolds, HasFarm, LedOver, over_disk}
 use Rattle.farm_cli.specs.Heard.{workers_of, station_with, station_of, ServesLent, KeepsTheRest, IsUnheard, IsHeard, ServesDoor, ServedOver}
 use Rattle.houses.specs.House.{CanGive, after_giving, after_return, after_opened, after_closing, Doors, CanListen, after_listened, after_leaving, all_left, Lendings}
-use Rattle.farm_cli.specs.Serves.{IsLed, ServesAll}
+use Rattle.farm_crews.specs.Serves.{IsLed, ServesAll}
 use Rattle.farm_cli.specs.Views.{Views, talk_of}
 use Rattle.farm_cli.proofs.RunLemmas.{SameLent, did_same, has_opening, has_begun, has_held}
-use Rattle.farm_cli.proofs.ServesLemmas.{IsLed-none}
+use Rattle.farm_crews.proofs.ServesLemmas.{IsLed-none}
 
 -- one call after another
 pub ServesLent-from_calls : {F S C N T I D : Type 0} (views : Views F S C N T I D) (l0 l1 l2 l3 l4 l5 : Lendings F S C N T I D) (door : D) (console console' : C) (clock : T) (draws : I) (first : Worker D T I NoGate) (others : List (Worker D T I NoGate))

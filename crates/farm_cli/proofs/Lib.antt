@@ -1,5 +1,4 @@
 pub mod CompleteLemmas
-pub mod CrewLemmas
 pub mod FarmFileLemmas
 pub mod FaultLemmas
 pub mod HeardLemmas
@@ -8,4 +7,3 @@ pub mod LentLemmas
 pub mod ReasonLemmas
 pub mod RunLemmas
 pub mod RunsLemmas
-pub mod ServesLemmas

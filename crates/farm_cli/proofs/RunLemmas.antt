@@ -36,7 +36,7 @@ use Rattle.farm_asks.specs.Config.{counts_of}
 use Rattle.farm_asks.specs.declared.config.ConfigCounts.{ConfigCounts}
 use Rattle.farm_cli.specs.Disks.{BeginsFrom, DiskHolds, HasFarm, IsMissing, IsRefusedFor, LedOver, WasUnopened}
 use Rattle.farm_cli.specs.Heard.{workers_of, ServesLent, IsUnheard, IsHeard, ServedOver}
-use Rattle.farm_cli.specs.Serves.{ServesFarm, NeverServed}
+use Rattle.farm_crews.specs.Serves.{ServesFarm, NeverServed}
 use Rattle.houses.specs.House.{CanGive, after_giving, after_return, WasLent, after_opened, after_closing, CanOpenAmong, WasOpened, Doors, after_listened, Lendings}
 use Rattle.farm_cli.specs.Used.{LeavesConsole, UsedConsole}
 use Rattle.farm_cli.specs.Run.{DidOver, Obeyed, RanOverFile, RanLoad, RanRendering, RanSigning, RanCommand, Ran}

@@ -7,7 +7,7 @@ use Rattle.farm_serving.specs.Connections.{Part, Worked}
 use Rattle.farm_serving.specs.declared.worker.Worker.{Worker}
 use Rattle.console_commands.specs.declared.status.Status.TheVariants.{Wire}
 use Rattle.farm_cli.specs.Ends.{EndsWith, HasOne, HasConnection, HasRisen, WentWell}
-use Rattle.farm_cli.specs.Crew.{IsWholeCrew}
+use Rattle.farm_crews.specs.Crew.{IsWholeCrew}
 use Rattle.farm_cli.specs.Heard.{workers_of, station_with, station_of}
 use Rattle.houses.specs.House.{WasLent, CanListen, after_listened, all_left, Lendings}
 use Rattle.farm_cli.specs.Views.{Views}

@@ -17,7 +17,7 @@ use Rattle.console_commands.specs.declared.status.Status.{Status}
 use Rattle.console_commands.specs.declared.status.Status.TheVariants.{Disk, Door, NoMemory}
 use Rattle.farm_cli.specs.Disks.{LedOver, over_disk}
 use Rattle.houses.specs.House.{WasLent, Doors, CanListen, after_listened, all_left, Lendings}
-use Rattle.farm_cli.specs.Serves.{ServesFarm, NeverServed, IsLed}
+use Rattle.farm_crews.specs.Serves.{ServesFarm, NeverServed, IsLed}
 use Rattle.farm_cli.specs.Views.{Views, talk_of}
 
 -- how many workers serve: one at least

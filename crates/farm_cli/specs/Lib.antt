@@ -1,6 +1,5 @@
 pub mod Checking
 pub mod Complete
-pub mod Crew
 pub mod Disks
 pub mod Ends
 pub mod FarmFile
@@ -12,7 +11,6 @@ pub mod Notes
 pub mod Reasons
 pub mod Run
 pub mod Runs
-pub mod Serves
 pub mod Serving
 pub mod Used
 pub mod Views

@@ -5,12 +5,9 @@
 
 mod checking;
 mod commands;
-mod crew;
 mod disks;
 mod ends;
 mod farm_file;
-mod giving_back;
 mod loading;
 pub mod run;
 mod serve;
-mod serving;

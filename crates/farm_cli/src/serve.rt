@@ -3,17 +3,16 @@ ghost use Rattle.std.specs.Prelude.{◌≡◌, ◌<◌, ◌≤◌, ◌*◌, [], 
 ghost use Rattle.farm_server.specs.declared.served.TheConstants.{REQUESTS};
 ghost use Rattle.farm_cli.specs.Heard.{workers_of, ServesLent, KeepsTheRest, ServesDoor, ServedOver};
 ghost use Rattle.farm_cli.specs.Run.{DidOver};
-ghost use Rattle.farm_cli.specs.Serves.{ServesAll};
+ghost use Rattle.farm_crews.specs.Serves.{ServesAll};
 ghost use Rattle.farm_cli.specs.Views.{views_of};
 
 use crate::disks::{on_disk, open_farm};
-use crate::giving_back::{HandOf, dismiss};
-use crate::serving::{Left, Shifts, serve_object};
 use causes::Failed;
 use command_line::Service;
 use console_commands::{Ended, Status};
 use farm_asks::config::Config;
 use farm_core::Farm;
+use farm_crews::{HandOf, Left, Shifts, dismiss, serve_object};
 use farm_desk::Object;
 use farm_machine::tables::farms_tables_cross_threads;
 use farm_server::NoGate;

@@ -1,5 +1,5 @@
-use Rattle.farm_cli.proofs.ServesLemmas.{NeverServed-lack, ServesAll-never}
-use Rattle.farm_cli.proofs.serving.serve_object.Goals as goal
+use Rattle.farm_crews.proofs.ServesLemmas.{NeverServed-lack, ServesAll-never}
+use Rattle.farm_crews.proofs.serving.serve_object.Goals as goal
 
 -- workers are lacking
 pub returns-in-Err-clause-serves : goal.returns-in-Err-clause-serves

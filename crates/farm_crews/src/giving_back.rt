@@ -8,7 +8,7 @@ use farm_serving::Worker;
 use houses::House;
 
 /// The workers of a house.
-pub(crate) type HandOf<H> = Hand<<H as House>::Door, <H as House>::Time, <H as House>::Ids>;
+pub type HandOf<H> = Hand<<H as House>::Door, <H as House>::Time, <H as House>::Ids>;
 
 /// Takes the first of a row.
 fn take_first<T>(row: &mut Vec<T>) -> T
@@ -37,7 +37,7 @@ fn give_doors_back<H: House>(row: Vec<HandOf<H>>, house: &mut H)
 }
 
 /// Gives back what the house lent to workers: the clock and the draws of the first, and the doors of all, in their order.
-pub(crate) fn dismiss<H: House>(crew: Vec<HandOf<H>>, house: &mut H)
+pub fn dismiss<H: House>(crew: Vec<HandOf<H>>, house: &mut H)
     requires { 0 < vec_len crew }
     ensures lends { (first : Worker H.Door H.Time H.Ids NoGate) × (others : List (Worker H.Door H.Time H.Ids NoGate)) × (crew.items ≡ first ∷ others)
         × (H.lends house.new ≡ record (H.lends house.old) {

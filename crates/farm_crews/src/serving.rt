@@ -3,9 +3,9 @@ ghost use Rattle.std.specs.Prelude.{◌≡◌, ◌*◌, ◌<◌, ◌≤◌, ◌�
 ghost use Rattle.farm_server.specs.declared.served.TheConstants.{REQUESTS};
 ghost use Rattle.http_wire.specs.Calls.{state_of};
 ghost use Rattle.farm_serving.specs.Connections.{Station};
-ghost use Rattle.farm_cli.specs.Crew.{station_by, IsWholeCrew};
+ghost use Rattle.farm_crews.specs.Crew.{station_by, IsWholeCrew};
 ghost use Rattle.console_commands.specs.Inputs.{Tells};
-ghost use Rattle.farm_cli.specs.Serves.{ready_text, served_text, IsStatusOf, ServesReady, IsUnready, ServesAll};
+ghost use Rattle.farm_crews.specs.Serves.{ready_text, served_text, IsStatusOf, ServesReady, IsUnready, ServesAll};
 ghost use Rattle.console_commands.specs.Writing.{WritesText};
 
 use crate::crew::{Hand, gather};
@@ -25,7 +25,7 @@ use std::thread::Threads;
 
 /// How many workers serve, and how many accepts each makes.
 #[derive(Clone, Copy, Debug, PartialEq, Eq)]
-pub(crate) struct Shifts {
+pub struct Shifts {
     pub workers: usize,
     pub connections: u64,
 }
@@ -115,7 +115,7 @@ where
 }
 
 /// What workers left: the object that they served, themselves, and the status that this calls for.
-pub(crate) struct Left<O, D, C, I> {
+pub struct Left<O, D, C, I> {
     pub object: O,
     pub crew: Vec<Hand<D, C, I>>,
     pub status: Status,
@@ -174,7 +174,7 @@ where
 }
 
 /// Gathers workers for an object in a row that has room for them, of which the first is this one, and lets them serve it.
-pub(crate) fn serve_object<
+pub fn serve_object<
     R: Threads + Wait + Sync,
     O: Object<Question = Question, Answer = Asked, Law = Farm> + Send,
     L: Link,

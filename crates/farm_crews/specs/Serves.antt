@@ -13,7 +13,7 @@ use Rattle.farm_serving.specs.Serving.{Serves}
 use Rattle.farm_serving.specs.declared.ended.Ended.{Ended}
 use Rattle.console_commands.specs.declared.status.Status.{Status}
 use Rattle.console_commands.specs.declared.status.Status.TheVariants.{Done, Door, Read, Write, NoMemory, Wire}
-use Rattle.farm_cli.specs.Crew.{IsWholeCrew, IsKeptCrew, IsDoorFailed}
+use Rattle.farm_crews.specs.Crew.{IsWholeCrew, IsKeptCrew, IsDoorFailed}
 use Rattle.console_commands.specs.Inputs.{Tells}
 use Rattle.console_commands.specs.Writing.{SameReads, SameWrites, WritesText}
 

@@ -1,5 +1,5 @@
 use Rattle.std.proofs.Common.{refl}
-use Rattle.farm_cli.proofs.giving_back.dismiss.Goals as goal
+use Rattle.farm_crews.proofs.giving_back.dismiss.Goals as goal
 
 pub returns-clause-lends : goal.returns-clause-lends
 returns-clause-lends g c = (

@@ -10,13 +10,13 @@ use Rattle.farm_machine.specs.Law.{Opening as History, opened}
 use Rattle.farm_machine.specs.State.{State}
 use Rattle.farm_machine.specs.Step.{farm_rules}
 use Rattle.farm_serving.specs.Connections.{Station}
-use Rattle.farm_cli.specs.declared.crew.Lack.{Lack}
-use Rattle.farm_cli.specs.declared.crew.Lack.TheVariants as lacks
+use Rattle.farm_crews.specs.declared.crew.Lack.{Lack}
+use Rattle.farm_crews.specs.declared.crew.Lack.TheVariants as lacks
 use Rattle.console_commands.specs.declared.status.Status.{Status}
 use Rattle.console_commands.specs.declared.status.Status.TheVariants.{Done, Usage, FarmFile, Input, Opening, Disk, Door, Read, Write, NoMemory, Wire, Damaged}
-use Rattle.farm_cli.specs.Crew.{status_of_lack, IsWholeCrew, IsKeptCrew, IsDoorFailed}
-use Rattle.farm_cli.proofs.CrewLemmas.{IsKeptCrew-whole}
-use Rattle.farm_cli.specs.Serves.{ready_text, ServesReady, IsUnready, NeverServed, IsLed, ServesAll}
+use Rattle.farm_crews.specs.Crew.{status_of_lack, IsWholeCrew, IsKeptCrew, IsDoorFailed}
+use Rattle.farm_crews.proofs.CrewLemmas.{IsKeptCrew-whole}
+use Rattle.farm_crews.specs.Serves.{ready_text, ServesReady, IsUnready, NeverServed, IsLed, ServesAll}
 use Rattle.console_commands.specs.Writing.{SameReads, SameWrites, WritesText}
 
 -- a text that was not written whole was broken off

@@ -1,6 +1,6 @@
 use Rattle.std.proofs.Common.{◌≡◌, vec_capacity, All, map, length}
-use Rattle.farm_cli.specs.Crew.{station_by, IsStill, IsBeside}
-use Rattle.farm_cli.proofs.crew.add_others.Given as goal
+use Rattle.farm_crews.specs.Crew.{station_by, IsStill, IsBeside}
+use Rattle.farm_crews.proofs.crew.add_others.Given as goal
 
 -- so many workers stand beside the first, and no twin failed
 abbrev pub invariant-twins : goal.invariant-twins

@@ -1,6 +1,6 @@
 use Rattle.std.proofs.Common.{◌≡◌, ◌+◌, map, length}
 use Rattle.houses.specs.House.{all_left}
-use Rattle.farm_cli.proofs.giving_back.give_doors_back.Given as goal
+use Rattle.farm_crews.proofs.giving_back.give_doors_back.Given as goal
 
 -- so many doors are back, and the others are in the row
 abbrev pub invariant-doors : goal.invariant-doors

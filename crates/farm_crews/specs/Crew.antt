@@ -9,8 +9,8 @@ use Rattle.farm_server.specs.declared.gate.NoGate.{NoGate}
 use Rattle.farm_serving.specs.Connections.{Station, station}
 use Rattle.listeners.specs.declared.door.Listener as doors
 use Rattle.farm_serving.specs.declared.worker.Worker.{Worker}
-use Rattle.farm_cli.specs.declared.crew.Lack.{Lack}
-use Rattle.farm_cli.specs.declared.crew.Lack.TheVariants as lacks
+use Rattle.farm_crews.specs.declared.crew.Lack.{Lack}
+use Rattle.farm_crews.specs.declared.crew.Lack.TheVariants as lacks
 use Rattle.console_commands.specs.declared.status.Status.{Status}
 use Rattle.console_commands.specs.declared.status.Status.TheVariants.{Door, NoMemory}
 

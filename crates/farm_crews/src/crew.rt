@@ -1,8 +1,8 @@
 //! The workers of a run: the first has what the house lent, and the others have twins and forks of that.
 ghost use Rattle.std.specs.Prelude.{◌≡◌, ◌+◌, ◌<◌, ◌≤◌, vec_capacity, All, IfOk, IfErr, OnOk, map, [], length};
 ghost use Rattle.causes.specs.Causes.{Rose};
-ghost use Rattle.farm_cli.specs.Crew.{station_by, status_of_lack, IsStill, IsBeside, AreCrew, IsWholeCrew, IsKeptCrew, IsDoorFailed};
-ghost use Rattle.farm_cli.specs.declared.crew.Lack.TheVariants.{Door, Memory};
+ghost use Rattle.farm_crews.specs.Crew.{station_by, status_of_lack, IsStill, IsBeside, AreCrew, IsWholeCrew, IsKeptCrew, IsDoorFailed};
+ghost use Rattle.farm_crews.specs.declared.crew.Lack.TheVariants.{Door, Memory};
 
 use causes::Failed;
 use console_commands::Status;
@@ -33,7 +33,7 @@ impl Lack {
 }
 
 /// A worker of a run, whose gate does nothing.
-pub(crate) type Hand<D, C, I> = Worker<D, C, I, NoGate>;
+pub type Hand<D, C, I> = Worker<D, C, I, NoGate>;
 
 /// Another worker beside the first.
 fn beside<D: Listener, C: Clock + Drop, I: Draws + Drop>(

@@ -1,11 +1,11 @@
 use Rattle.std.proofs.Common.{◌≡◌, List, ap, map, refl, subst, rules}
 use Rattle.shared_desk.specs.Standing.{fresh_token}
 use Rattle.farm_serving.specs.Connections.{Station}
-use Rattle.farm_cli.specs.Crew.{station_by}
-use Rattle.farm_cli.specs.Serves.{IsLed, ServesAll}
-use Rattle.farm_cli.proofs.CrewLemmas.{IsKeptCrew-whole}
-use Rattle.farm_cli.proofs.ServesLemmas.{IsLed-closed, ServesAll-never, ServesAll-served, put_back}
-use Rattle.farm_cli.proofs.serving.serve_gathered.Goals as goal
+use Rattle.farm_crews.specs.Crew.{station_by}
+use Rattle.farm_crews.specs.Serves.{IsLed, ServesAll}
+use Rattle.farm_crews.proofs.CrewLemmas.{IsKeptCrew-whole}
+use Rattle.farm_crews.proofs.ServesLemmas.{IsLed-closed, ServesAll-never, ServesAll-served, put_back}
+use Rattle.farm_crews.proofs.serving.serve_gathered.Goals as goal
 
 -- the workers served, or `ready` could not be written
 pub returns-in-Ok-clause-serves : goal.returns-in-Ok-clause-serves

@@ -8,7 +8,7 @@ use Rattle.farm_text.specs.Logs.{LogGrows}
 use Rattle.farm_text.proofs.LogsLemmas.{LogGrows-none, LogGrows-then}
 use Rattle.farm_text.specs.Told.{IsNewBeside}
 use Rattle.farm_serving.specs.Connections.{Station}
-use Rattle.farm_cli.specs.Crew.{IsStill, IsBeside, AreCrew, IsWholeCrew, IsKeptCrew, IsDoorFailed}
+use Rattle.farm_crews.specs.Crew.{IsStill, IsBeside, AreCrew, IsWholeCrew, IsKeptCrew, IsDoorFailed}
 
 -- a log beside which another one is new is told no longer, or that one is new beside it still
 beside_later : {A : Type 0} (before after other : Option (List A)) → LogGrows before after [] → IsNewBeside before other → IsNewBeside after other

@@ -1,6 +1,6 @@
 use Rattle.std.proofs.Common.{inl}
 use Rattle.http_wire.specs.Calls.{state_of}
-use Rattle.farm_cli.proofs.serving.serve_ready.Goals as goal
+use Rattle.farm_crews.proofs.serving.serve_ready.Goals as goal
 
 -- `ready` was written, and the workers served
 pub returns-in-Done : goal.returns-in-Done

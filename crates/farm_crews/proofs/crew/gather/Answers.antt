@@ -1,7 +1,7 @@
 use Rattle.std.proofs.lemmas.Result.{on_ok_weaker}
-use Rattle.farm_cli.specs.Crew.{station_by}
-use Rattle.farm_cli.proofs.CrewLemmas.{IsWholeCrew-made, IsKeptCrew-made, IsDoorFailed-made, if_err}
-use Rattle.farm_cli.proofs.crew.gather.Goals as goal
+use Rattle.farm_crews.specs.Crew.{station_by}
+use Rattle.farm_crews.proofs.CrewLemmas.{IsWholeCrew-made, IsKeptCrew-made, IsDoorFailed-made, if_err}
+use Rattle.farm_crews.proofs.crew.gather.Goals as goal
 
 pub returns-clause-whole : goal.returns-clause-whole
 returns-clause-whole g c =
