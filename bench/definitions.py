@@ -84,10 +84,10 @@ def with_members(**members):
 def build(copy):
     """The program, built in a copy of the crates."""
     top = os.path.dirname(os.path.dirname(os.path.abspath(__file__)))
-    for name in ("causes", "farm_text", "scope_sets", "task_defs"):
+    for name in ("causes", "farm_text", "scope_sets", "task_types", "task_defs"):
         shutil.copytree(os.path.join(top, "crates", name), os.path.join(copy, "crates", name), ignore=shutil.ignore_patterns("out"))
     with open(os.path.join(top, "crates.txt")) as f:
-        lines = [line for line in f if line.split(":")[0] in ("causes", "farm_text", "scope_sets", "task_defs")]
+        lines = [line for line in f if line.split(":")[0] in ("causes", "farm_text", "scope_sets", "task_types", "task_defs")]
     with open(os.path.join(copy, "crates.txt"), "w") as f:
         f.write("".join(lines) + "read_costs: farm_text task_defs serde_json\n")
     crate = os.path.join(copy, "crates", "read_costs")
