@@ -167,7 +167,7 @@ pub(super) struct Talk<'a> {
 
 impl<'a> Talk<'a> {
     /// One with a farm that takes a million tasks and allows all.
-    pub fn of(lines: &'a str) -> Talk<'a> {
+    pub(super) fn of(lines: &'a str) -> Talk<'a> {
         Talk {
             scopes: ALL,
             max_tasks: 1_000_000,
