@@ -1,5 +1,6 @@
 pub mod LogsLemmas
 pub mod DocLemmas
+mod SameLemmas
 pub mod ToldLemmas
 pub mod MomentLemmas
 pub mod SlugLemmas

@@ -12,12 +12,30 @@ pub fn same_doc(a: &Doc, b: &Doc) -> bool
     ensures { IsTrue result ↔ (document a.now ≡ document b.now) }
 {
     match a {
-        Doc::Null => matches!(b, Doc::Null),
-        Doc::Bool(x) => matches!(b, Doc::Bool(y) if x == y),
-        Doc::Int(x) => matches!(b, Doc::Int(y) if x == y),
-        Doc::Text(x) => matches!(b, Doc::Text(y) if x.as_str() == y.as_str()),
-        Doc::List(xs) => matches!(b, Doc::List(ys) if same_items(xs, ys)),
-        Doc::Map(xs) => matches!(b, Doc::Map(ys) if same_members(xs, ys)),
+        Doc::Null => match b {
+            Doc::Null => true,
+            _ => false,
+        },
+        Doc::Bool(x) => match b {
+            Doc::Bool(y) => x == y,
+            _ => false,
+        },
+        Doc::Int(x) => match b {
+            Doc::Int(y) => x == y,
+            _ => false,
+        },
+        Doc::Text(x) => match b {
+            Doc::Text(y) => x.as_str() == y.as_str(),
+            _ => false,
+        },
+        Doc::List(xs) => match b {
+            Doc::List(ys) => same_items(xs, ys),
+            _ => false,
+        },
+        Doc::Map(xs) => match b {
+            Doc::Map(ys) => same_members(xs, ys),
+            _ => false,
+        },
     }
 }
 
