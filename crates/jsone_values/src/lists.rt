@@ -1,5 +1,5 @@
 //! Functions of the language that take several numbers, or join a list.
-ghost use Rattle.std.specs.Prelude.{◌≡◌, ◌<◌, ◌++◌, length, IfOk, OnOk, MatchOption, string_bytes};
+ghost use Rattle.std.specs.Prelude.{◌≡◌, ◌<◌, ◌++◌, true, false, if◌then◌else◌, length, IfOk, OnOk, MatchOption, string_bytes};
 ghost use Rattle.std.specs.Int.{int_min, int_max};
 ghost use Rattle.std.specs.List.{list_all, join_by};
 ghost use Rattle.farm_text.specs.Doc.{document, documents};
@@ -15,34 +15,45 @@ use std::alloc::{AllocError, Global};
 pub fn least_of(values: &[Doc]) -> Result<Doc, Stop>
     ensures { Meets (λ r. r ≡ picked int_min (documents values.now)) result }
 {
-    let Some((Doc::Int(first), rest)) = values.split_first() else {
-        return Err(Stop::Fault(Fault::WrongKind));
-    };
-    let mut least = *first;
-    for value in rest {
-        let Doc::Int(number) = value else {
-            return Err(Stop::Fault(Fault::WrongKind));
-        };
-        least = least.min(*number);
-    }
-    Ok(Doc::Int(least))
+    picked_of(values, false)
 }
 
 /// The greatest of one or more numbers.
 pub fn greatest_of(values: &[Doc]) -> Result<Doc, Stop>
     ensures { Meets (λ r. r ≡ picked int_max (documents values.now)) result }
 {
-    let Some((Doc::Int(first), rest)) = values.split_first() else {
+    picked_of(values, true)
+}
+
+/// The greatest of one or more numbers, or the least.
+fn picked_of(values: &[Doc], greatest: bool) -> Result<Doc, Stop>
+    ensures { Meets (λ r. r ≡ picked (if greatest then int_max else int_min) (documents values.now)) result }
+{
+    let Some((first, rest)) = values.split_first() else {
         return Err(Stop::Fault(Fault::WrongKind));
     };
-    let mut greatest = *first;
+    let Doc::Int(first) = first else {
+        return Err(Stop::Fault(Fault::WrongKind));
+    };
+    let mut number = *first;
     for value in rest {
-        let Doc::Int(number) = value else {
+        let Doc::Int(other) = value else {
             return Err(Stop::Fault(Fault::WrongKind));
         };
-        greatest = greatest.max(*number);
+        number = one_of(number, *other, greatest);
     }
-    Ok(Doc::Int(greatest))
+    Ok(Doc::Int(number))
+}
+
+/// The greater of two numbers, or the lesser.
+fn one_of(one: i64, other: i64, greater: bool) -> i64
+    ensures { result ≡ (if greater then int_max else int_min) one other }
+{
+    if greater {
+        one.max(other)
+    } else {
+        one.min(other)
+    }
 }
 
 /// The number without its sign.
@@ -120,18 +131,38 @@ fn joined(
         (λ s. string_bytes s ≡ join_by part_text separator.now (documents parts.now))) }
 {
     let mut whole = String::new(alloc);
-    let Some((first, rest)) = parts.split_first() else {
-        return Ok(Some(whole));
-    };
-    push_part(alloc, &mut whole, first)?;
-    for part in rest {
-        if whole.len() > most {
-            return Ok(None);
-        }
-        whole.push_str(separator)?;
-        push_part(alloc, &mut whole, part)?;
+    if join_to(alloc, &mut whole, parts, separator, most)? {
+        Ok(Some(whole))
+    } else {
+        Ok(None)
     }
-    Ok(Some(whole))
+}
+
+/// Puts the parts behind a text, with the separator between each two; false only where it and they are longer than so many bytes.
+fn join_to(
+    alloc: Global,
+    out: &mut String,
+    parts: &[Doc],
+    separator: &str,
+    most: usize,
+) -> Result<bool, AllocError>
+    ensures whole { IfOk result (λ fits. fits ≡ true
+        → string_bytes out.new ≡ string_bytes out.old ++ join_by part_text separator.now (documents parts.now)) }
+    ensures longer { IfOk result (λ fits. fits ≡ false
+        → most < length (string_bytes out.old ++ join_by part_text separator.now (documents parts.now))) }
+{
+    let Some((first, rest)) = parts.split_first() else {
+        return Ok(true);
+    };
+    push_part(alloc, out, first)?;
+    for part in rest {
+        if out.len() > most {
+            return Ok(false);
+        }
+        out.push_str(separator)?;
+        push_part(alloc, out, part)?;
+    }
+    Ok(true)
 }
 
 /// The texts and numbers of a list as one text, with the separator between each two; nothing only where it weighs more than so much.
