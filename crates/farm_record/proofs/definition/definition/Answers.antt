@@ -25,12 +25,12 @@ returns-then-is_same c =
     let d = document c.in-Ok.doc in
     let read = c.in-Ok-read_task in
     let same = sym c.as_bytes.ensures.bytes ∙ c.is_same.ensures.0 c.if-is_same.true in
-    is_read c.args.text.now c.args.id c.a_text_is_of_one_document.ensures d c.in-Ok.ensures.document read.def read.ensures.0 read.ensures.1 c.in-Ok-full_text.full c.in-Ok-full_text.ensures
+    is_read c.args.text.now c.args.id c.a_text_is_of_one_document.ensures d c.in-Ok.ensures.document read.def read.ensures.0 read.ensures.1 c.in-Ok-full_text_of.full c.in-Ok-full_text_of.ensures
     c.a_full_form_says_its_definition.ensures c.requires same
 
-pub returns-in-Ok-full_text : goal.returns-in-Ok-full_text
-returns-in-Ok-full_text c =
+pub returns-in-Ok-full_text_of : goal.returns-in-Ok-full_text_of
+returns-in-Ok-full_text_of c =
     let d = document c.in-Ok.doc in
     let read = c.in-Ok-read_task in
-    other_text c.args.text.now c.args.id c.a_text_is_of_one_document.ensures d c.in-Ok.ensures.document read.def read.ensures.0 read.ensures.1 c.in-Ok-full_text.full c.in-Ok-full_text.ensures
+    other_text c.args.text.now c.args.id c.a_text_is_of_one_document.ensures d c.in-Ok.ensures.document read.def read.ensures.0 read.ensures.1 c.in-Ok-full_text_of.full c.in-Ok-full_text_of.ensures
     c.the_full_form_is_one.ensures (λ same. false≢true (sym c.if-is_same.false ∙ c.is_same.ensures.1 (c.as_bytes.ensures.bytes ∙ same)))
