@@ -1,3 +1,4 @@
+pub mod CallLemmas
 pub mod EmptyLines
 pub mod HeadLemmas
 pub mod KnownLemmas

@@ -15,7 +15,7 @@ use Rattle.http1.specs.Fields.{Header, values_named}
 use Rattle.http_wire.specs.Framing.{body_limit, named_fields, body_length, is_digits, stated_length, length_unless}
 use Rattle.http_wire.specs.Front.{IsHeadAt}
 use Rattle.http_wire.specs.Message.{message_of}
-use Rattle.http_wire.specs.Reading.{IsBodyStop, Ends}
+use Rattle.http_wire.specs.Reading.{IsFillStop, IsBodyStop, Ends}
 use Rattle.http_wire.specs.Head.{head_limit, HasHead, message, HasFault, IsOpen, IsEmptyLines, fault, too_large, ended, inside}
 use Rattle.http_wire.specs.Stream.{Gives, Stops, stops, whole, with_body, is_of_stream, TakesOne}
 use Rattle.http_wire.proofs.HeadLemmas.{HasFault-append, HasHead-append}
@@ -137,6 +137,17 @@ stops_body held spans at left n before now HeadFault has e stop = absurd stop
 stops_body held spans at left n before now HeadTooLarge has e stop = absurd stop
 stops_body held spans at left n before now NoLength has e stop = absurd stop
 stops_body held spans at left n before now BodyTooLarge has e stop = absurd stop
+
+-- a piece that did not come says nothing of the stream
+pub stops_unread : (stream : Option (List ℕ)) (before now : ℕ) (wire : Wire) → IsFillStop before now wire → Stops stream wire
+stops_unread stream before now ReadFault stop = stops_outside _ ReadFault refl
+stops_unread stream before now NoMemory stop = stops_outside _ NoMemory refl
+stops_unread stream before now End stop = absurd stop
+stops_unread stream before now HeadFault stop = absurd stop
+stops_unread stream before now HeadTooLarge stop = absurd stop
+stops_unread stream before now NoLength stop = absurd stop
+stops_unread stream before now BodyTooLarge stop = absurd stop
+stops_unread stream before now EndedInside stop = absurd stop
 
 -- a stream that stayed the same gives the same message
 pub TakesOne-kept : (a b c : Option (List ℕ)) (m : Message) → Keeps a b → TakesOne b m c → TakesOne a m c
