@@ -1,5 +1,5 @@
 -- What calls that only read leave as it was.
-use Rattle.std.proofs.Common.{◌≡◌, ℕ, ◌≤◌, Result, Ok, Err, sym, ◌∙◌, subst, le_of_eq}
+use Rattle.std.proofs.Common.{◌≡◌, ℕ, ◌≤◌, Err, ◌∙◌, subst}
 use Rattle.http_wire.specs.Calls.{LinkState, CountsReads, OnlyReads}
 use Rattle.http_wire.specs.declared.message.Wire.{Wire}
 use Rattle.http_wire.specs.declared.message.Wire.TheVariants.{End, HeadFault, HeadTooLarge, NoLength, BodyTooLarge, EndedInside, ReadFault, NoMemory}

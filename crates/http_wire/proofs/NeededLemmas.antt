@@ -73,6 +73,10 @@ GrowsOpen-piece old held new seen piece so_far grown few short open_ = record {
   open_ = subst IsOpen so_far open_;
 }
 
+-- the same where no piece came
+pub GrowsOpen-none : (old held new : List ℕ) → (seen : List ℕ) × (held ≡ old ++ seen) → new ≡ held → length held < head_limit → IsOpen held → GrowsOpen old new
+GrowsOpen-none old held new so_far same short open_ = GrowsOpen-piece old held new so_far.0 [] so_far.1 (same ∙ sym (append-nil held)) (omega arith) short open_
+
 -- ---- what a stream loses
 
 -- the bytes held and those read after them are lost of a stream
