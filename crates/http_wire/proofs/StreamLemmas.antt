@@ -1,6 +1,6 @@
 -- What the reader's steps say of the stream.
-use Rattle.std.proofs.Common.{◌≡◌, ℕ, ◌<◌, ◌≤◌, Bool, true, false, List, [], ◌∷◌, ◌++◌, Option, Some, None, IfSome, length, take, drop, map, Result, Ok, Err, refl, sym, ap, ◌∙◌, subst, subst₂, arith, append_assoc, append-nil, length-append, length-take-le, take-append-drop}
-use Rattle.std.specs.Prelude.{nat_le, if◌then◌else◌, codes}
+use Rattle.std.proofs.Common.{◌≡◌, ℕ, ◌<◌, ◌≤◌, Bool, true, false, List, [], ◌∷◌, ◌++◌, Option, Some, None, IfSome, length, take, drop, map, Result, Ok, Err, refl, sym, ap, ◌∙◌, subst, subst₂, arith, le_trans, append_assoc, append-nil, length-append, length-take-le, take-append-drop}
+use Rattle.std.specs.Prelude.{All, nat_le, if◌then◌else◌, codes}
 use Rattle.std.specs.Str.Parse.{digits_value}
 use Rattle.std.specs.Bool.{MatchBool}
 use Rattle.std.specs.Io.KnownBytes.{prepend_known, Keeps, Consumes, IsAtEnd}
@@ -10,8 +10,9 @@ use Rattle.http_wire.specs.declared.message.Message.{Message}
 use Rattle.http_wire.specs.declared.head.HeadAt.{HeadAt}
 use Rattle.httparse.specs.declared.spans.HeaderSpan.{HeaderSpan}
 use Rattle.httparse.specs.Grammar.{RequestHead}
-use Rattle.httparse.specs.Spans.{header_bytes}
+use Rattle.httparse.specs.Spans.{header_bytes, IsHeaderWithin, IsSectionWithin}
 use Rattle.http1.specs.Fields.{Header, values_named}
+use Rattle.http_wire.specs.Calls.{LinkState, CountsReads, OnlyReads}
 use Rattle.http_wire.specs.Framing.{body_limit, named_fields, body_length, is_digits, stated_length, length_unless}
 use Rattle.http_wire.specs.Front.{IsHeadAt}
 use Rattle.http_wire.specs.Message.{message_of}
@@ -156,22 +157,43 @@ TakesOne-kept (Some xs) None c m kept took = absurd kept
 TakesOne-kept (Some xs) (Some ys) None m kept took = absurd took
 TakesOne-kept (Some xs) (Some ys) (Some zs) m kept took = subst (λ l. Gives l (whole m zs)) kept took
 
--- ---- the rules of a head do not say that the input has ended
+-- ---- the rules of a head refuse for three reasons, none of which says that the input has ended
 
-chosen_ends : (left : Option (List ℕ)) (wire : Wire) (digits fits : Bool) (n : ℕ)
-    → Err wire ≡ (if digits then (if fits then Ok n else Err BodyTooLarge) else Err HeadFault) → Ends left wire
-chosen_ends left wire true true n e = cc
-chosen_ends left wire true false n e = let is : BodyTooLarge ≡ wire = cc in subst (Ends left) is tt
-chosen_ends left wire false fits n e = let is : HeadFault ≡ wire = cc in subst (Ends left) is tt
+chosen_is : (P : Wire → Type 0) → P HeadFault → P BodyTooLarge → (wire : Wire) (digits fits : Bool) (n : ℕ)
+    → Err wire ≡ (if digits then (if fits then Ok n else Err BodyTooLarge) else Err HeadFault) → P wire
+chosen_is P unfit large wire true true n e = cc
+chosen_is P unfit large wire true false n e = let is : BodyTooLarge ≡ wire = cc in subst P is large
+chosen_is P unfit large wire false fits n e = let is : HeadFault ≡ wire = cc in subst P is unfit
 
-stated_ends : (left : Option (List ℕ)) (wire : Wire) (values : List (List ℕ)) → Err wire ≡ stated_length values → Ends left wire
-stated_ends left wire [] e = cc
-stated_ends left wire (v ∷ []) e = chosen_ends left wire (is_digits v) (nat_le (digits_value 10 v) body_limit) (digits_value 10 v) e
-stated_ends left wire (v ∷ w ∷ vs) e = let is : HeadFault ≡ wire = cc in subst (Ends left) is tt
+stated_is : (P : Wire → Type 0) → P HeadFault → P BodyTooLarge → (wire : Wire) (values : List (List ℕ)) → Err wire ≡ stated_length values → P wire
+stated_is P unfit large wire [] e = cc
+stated_is P unfit large wire (v ∷ []) e = chosen_is P unfit large wire (is_digits v) (nat_le (digits_value 10 v) body_limit) (digits_value 10 v) e
+stated_is P unfit large wire (v ∷ w ∷ vs) e = let is : HeadFault ≡ wire = cc in subst P is unfit
 
-rule_ends : (left : Option (List ℕ)) (wire : Wire) (codings lengths : List (List ℕ)) → Err wire ≡ length_unless codings lengths → Ends left wire
-rule_ends left wire [] lengths e = stated_ends left wire lengths e
-rule_ends left wire (c ∷ cs) lengths e = let is : NoLength ≡ wire = cc in subst (Ends left) is tt
+rule_is : (P : Wire → Type 0) → P HeadFault → P BodyTooLarge → P NoLength → (wire : Wire) (codings lengths : List (List ℕ))
+    → Err wire ≡ length_unless codings lengths → P wire
+rule_is P unfit large none wire [] lengths e = stated_is P unfit large wire lengths e
+rule_is P unfit large none wire (c ∷ cs) lengths e = let is : NoLength ≡ wire = cc in subst P is none
+
+refused_is : (P : Wire → Type 0) → P HeadFault → P BodyTooLarge → P NoLength → (wire : Wire) (fields : List Header) → Err wire ≡ body_length fields → P wire
+refused_is P unfit large none wire fields e =
+    rule_is P unfit large none wire (values_named (codes "transfer-encoding") fields) (values_named (codes "content-length") fields) e
 
 pub refused_ends : (left : Option (List ℕ)) (wire : Wire) (fields : List Header) → Err wire ≡ body_length fields → Ends left wire
-refused_ends left wire fields e = rule_ends left wire (values_named (codes "transfer-encoding") fields) (values_named (codes "content-length") fields) e
+refused_ends left wire fields e = refused_is (Ends left) tt tt tt wire fields e
+
+-- a head that the rules refuse is no read that failed
+pub OnlyReads-refused : (S T : Type 0) (before now : LinkState) (value : S) (wire : Wire) (fields : List Header) → OnlyReads {T = S} before now (Ok value)
+    → Err wire ≡ body_length fields → OnlyReads {T = T} before now (Err wire)
+OnlyReads-refused S T before now value wire fields call e = record {
+  later = call.later;
+  reads = refused_is (λ (w : Wire). CountsReads {T = T} before.read_faults now.read_faults (Err w)) call.reads call.reads call.reads wire fields e;
+  written = call.written;
+  write_faults = call.write_faults;
+}
+
+-- the fields of a head lie in it
+pub fields_inside : (buf : List ℕ) (headers : List HeaderSpan) (len count : ℕ) → IsSectionWithin buf headers len count → All (IsHeaderWithin (length buf)) (take count headers)
+fields_inside buf headers len count section k d below =
+    let field = section.headers_fit k d below in
+    ((field.0.0, le_trans field.0.1 section.len_fits), (field.1.0, le_trans field.1.1 section.len_fits))
