@@ -13,9 +13,9 @@ use Rattle.httparse.specs.Grammar.{RequestHead}
 use Rattle.httparse.specs.Spans.{header_bytes, IsHeaderWithin, IsSectionWithin}
 use Rattle.http1.specs.Fields.{Header, values_named}
 use Rattle.http_wire.specs.Calls.{LinkState, CountsReads, OnlyReads}
-use Rattle.http_wire.specs.Framing.{body_limit, named_fields, body_length, is_digits, stated_length, length_unless}
+use Rattle.http_wire.specs.Framing.{body_limit, named_fields, body_length, is_digits, length_of, stated_length, length_unless}
 use Rattle.http_wire.specs.Front.{IsHeadAt}
-use Rattle.http_wire.specs.Message.{message_of}
+use Rattle.http_wire.specs.Message.{first_of, message_of}
 use Rattle.http_wire.specs.Reading.{IsFillStop, IsBodyStop, Ends}
 use Rattle.http_wire.specs.Head.{head_limit, HasHead, message, HasFault, IsOpen, IsEmptyLines, fault, too_large, ended, inside}
 use Rattle.http_wire.specs.Stream.{Gives, Stops, stops, whole, with_body, is_of_stream, TakesOne}
@@ -197,3 +197,27 @@ pub fields_inside : (buf : List ℕ) (headers : List HeaderSpan) (len count : �
 fields_inside buf headers len count section k d below =
     let field = section.headers_fit k d below in
     ((field.0.0, le_trans field.0.1 section.len_fits), (field.1.0, le_trans field.1.1 section.len_fits))
+
+-- ---- the length of a body by the counts of its fields
+
+pub coded : (codings lengths : List (List ℕ)) (n : ℕ) → n ≡ length codings → 0 < n → Err NoLength ≡ length_unless codings lengths
+coded [] lengths n count some = absurd (omega (arith, count))
+coded (c ∷ cs) lengths n count some = refl
+
+pub repeated : (codings lengths : List (List ℕ)) (n m : ℕ) → n ≡ length codings → n ≤ 0 → m ≡ length lengths → 1 < m → Err HeadFault ≡ length_unless codings lengths
+repeated (c ∷ cs) lengths n m codings_are none count many = absurd (omega (arith, codings_are))
+repeated [] [] n m codings_are none count many = absurd (omega (arith, count))
+repeated [] (v ∷ []) n m codings_are none count many = absurd (omega (arith, count))
+repeated [] (v ∷ w ∷ vs) n m codings_are none count many = refl
+
+pub unstated : (codings lengths : List (List ℕ)) (n : ℕ) → n ≡ length codings → n ≤ 0 → None ≡ first_of lengths → Ok 0 ≡ length_unless codings lengths
+unstated (c ∷ cs) lengths n codings_are none first = absurd (omega (arith, codings_are))
+unstated [] [] n codings_are none first = refl
+unstated [] (v ∷ vs) n codings_are none first = cc
+
+pub stated : (codings lengths : List (List ℕ)) (value : List ℕ) (n m : ℕ) → n ≡ length codings → n ≤ 0 → m ≡ length lengths → m ≤ 1
+    → Some value ≡ first_of lengths → length_of value ≡ length_unless codings lengths
+stated (c ∷ cs) lengths value n m codings_are none count one first = absurd (omega (arith, codings_are))
+stated [] [] value n m codings_are none count one first = cc
+stated [] (v ∷ []) value n m codings_are none count one first = let is : value ≡ v = cc in ap length_of is
+stated [] (v ∷ w ∷ vs) value n m codings_are none count one first = absurd (omega (arith, count))
