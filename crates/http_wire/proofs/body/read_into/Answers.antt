@@ -1,7 +1,7 @@
-use Rattle.std.proofs.Common.{◌≡◌, ℕ, ◌+◌, ◌-◌, ◌≤◌, List, ◌++◌, rules, arith, length, take, slice_range, sym, ap, ◌∙◌, subst, le_refl, drop_at, length-take-le}
+use Rattle.std.proofs.Common.{◌≡◌, ℕ, ◌+◌, ◌-◌, ◌≤◌, List, ◌++◌, rules, arith, length, take, slice_range, refl, sym, ap, ◌∙◌, subst, le_of_eq, le_refl, drop_at, length-take-le}
 use Rattle.std.proofs.lemmas.Slice.{take-put_mid_below}
 use Rattle.std.specs.Io.KnownBytes.{Consumes}
-use Rattle.std.proofs.KnownBytes.{Consumes-trans}
+use Rattle.std.proofs.KnownBytes.{Consumes-nil, Consumes-trans}
 use borrow.Rule.Slice.PartMut.{put_mid, post_of}
 use lib.Seq.{take-add, take-append-le}
 use Rattle.http_wire.proofs.body.read_into.Goals as goal
@@ -36,3 +36,32 @@ loop-filled-preserved g c =
 
 pub returns-in-Err-clause-ended : goal.returns-in-Err-clause-ended
 returns-in-Err-clause-ended g c = tt
+
+pub loop-filled-init : goal.loop-filled-init
+loop-filled-init g c = record { same_length = refl; within = omega arith; bytes = Consumes-nil _; reads = refl; written = refl; write_faults = refl; untouched = λ none. refl; }
+
+pub returns-in-Ok-eq0-clause-bytes : goal.returns-in-Ok-eq0-clause-bytes
+returns-in-Ok-eq0-clause-bytes g c = tt
+
+pub returns-in-Err-clause-bytes : goal.returns-in-Err-clause-bytes
+returns-in-Err-clause-bytes g c = tt
+
+pub returns-in-Ok-eq0-clause-only_reads : goal.returns-in-Ok-eq0-clause-only_reads
+returns-in-Ok-eq0-clause-only_reads g c =
+    let old = c.loop-filled.invariant in
+    let reads = c.in-Ok-eq0.ensures.cause.kept ∙ old.reads in
+    record { later = le_of_eq (sym reads); reads = reads; written = c.in-Ok-eq0.ensures.written ∙ old.written; write_faults = c.in-Ok-eq0.ensures.write_faults ∙ old.write_faults; }
+
+pub returns-clause-stop : goal.returns-clause-stop
+returns-clause-stop g c = tt
+
+pub returns-clause-ended : goal.returns-clause-ended
+returns-clause-ended g c = tt
+
+pub returns-clause-only_reads : goal.returns-clause-only_reads
+returns-clause-only_reads g c =
+    let old = c.loop-filled.invariant in
+    record { later = le_of_eq (sym old.reads); reads = old.reads; written = old.written; write_faults = old.write_faults; }
+
+pub returns-clause-untouched : goal.returns-clause-untouched
+returns-clause-untouched g c = c.loop-filled.invariant.untouched

@@ -1,5 +1,6 @@
-use Rattle.std.proofs.Common.{◌≡◌, [], inl, refl, ◌+◌, ◌-◌, ◌≤◌, ◌++◌, min, length, take, drop, replicate, vec_len, ap, ◌∙◌, arith, take_all, length-take, length-drop}
-use Rattle.std.proofs.KnownBytes.{Consumes-nil}
+use Rattle.std.proofs.Common.{◌≡◌, [], inl, refl, ◌+◌, ◌-◌, ◌≤◌, ◌++◌, min, length, take, drop, replicate, vec_len, ap, ◌∙◌, arith, le_refl, take_all, length-take, length-drop}
+use Rattle.std.proofs.KnownBytes.{Consumes-nil, Keeps-refl}
+use Rattle.http_wire.proofs.CallLemmas.{OnlyReads-failed}
 use Rattle.http_wire.proofs.KnownLemmas.{Leaves-cleared, body_taken, body_stop}
 use Rattle.http_wire.proofs.NeededLemmas.{lacking_by}
 use Rattle.http_wire.proofs.body.take_body.Goals as goal
@@ -72,3 +73,63 @@ returns-clause-lacking g c =
     let after = length-drop have now in
     lacking_by (vec_len c.args.held.now - c.args.start) have _ c.args.size _ _ (omega (arith, c.len.ensures, c.min-have.ensures))
     (omega (arith, rest, after, c.min-have.ensures, c.deref_mut.ensures.len, c.in-Ok-resize.ensures.len)) c.in_default.ensures.lost
+
+pub returns-in-Err-clause-sizes : goal.returns-in-Err-clause-sizes
+returns-in-Err-clause-sizes g c = tt
+
+pub returns-in-Err-clause-bytes : goal.returns-in-Err-clause-bytes
+returns-in-Err-clause-bytes g c = tt
+
+pub returns-in-Err-clause-leaves : goal.returns-in-Err-clause-leaves
+returns-in-Err-clause-leaves g c = Keeps-refl _
+
+pub returns-in-Err-clause-stop : goal.returns-in-Err-clause-stop
+returns-in-Err-clause-stop g c = tt
+
+pub returns-in-Err-clause-only_reads : goal.returns-in-Err-clause-only_reads
+returns-in-Err-clause-only_reads g c = record { later = le_refl _; reads = refl; written = refl; write_faults = refl; }
+
+pub returns-in-Err-clause-untouched : goal.returns-in-Err-clause-untouched
+returns-in-Err-clause-untouched g c all = refl
+
+pub returns-in-Err-resize-clause-sizes : goal.returns-in-Err-resize-clause-sizes
+returns-in-Err-resize-clause-sizes g c = tt
+
+pub returns-in-Err-resize-clause-bytes : goal.returns-in-Err-resize-clause-bytes
+returns-in-Err-resize-clause-bytes g c = tt
+
+pub returns-in-Err-resize-clause-leaves : goal.returns-in-Err-resize-clause-leaves
+returns-in-Err-resize-clause-leaves g c = Keeps-refl _
+
+pub returns-in-Err-resize-clause-stop : goal.returns-in-Err-resize-clause-stop
+returns-in-Err-resize-clause-stop g c = tt
+
+pub returns-in-Err-resize-clause-only_reads : goal.returns-in-Err-resize-clause-only_reads
+returns-in-Err-resize-clause-only_reads g c = record { later = le_refl _; reads = refl; written = refl; write_faults = refl; }
+
+pub returns-in-Err-resize-clause-untouched : goal.returns-in-Err-resize-clause-untouched
+returns-in-Err-resize-clause-untouched g c all = refl
+
+pub returns-in-Err-read_into-clause-sizes : goal.returns-in-Err-read_into-clause-sizes
+returns-in-Err-read_into-clause-sizes g c = tt
+
+pub returns-in-Err-read_into-clause-bytes : goal.returns-in-Err-read_into-clause-bytes
+returns-in-Err-read_into-clause-bytes g c = tt
+
+pub returns-in-Err-read_into-clause-ended : goal.returns-in-Err-read_into-clause-ended
+returns-in-Err-read_into-clause-ended g c = c.in-Err-read_into.ensures.ended
+
+pub returns-in-Err-read_into-clause-only_reads : goal.returns-in-Err-read_into-clause-only_reads
+returns-in-Err-read_into-clause-only_reads g c = let now = c.in-Err-read_into.ensures.only_reads in OnlyReads-failed _ _ _ _ _ c.in-Err-read_into.wire refl refl refl now
+
+pub returns-clause-leaves : goal.returns-clause-leaves
+returns-clause-leaves g c = tt
+
+pub returns-clause-ended : goal.returns-clause-ended
+returns-clause-ended g c = tt
+
+pub returns-clause-stop : goal.returns-clause-stop
+returns-clause-stop g c = tt
+
+pub returns-clause-only_reads : goal.returns-clause-only_reads
+returns-clause-only_reads g c = let now = c.in_default.ensures.only_reads in record { later = now.later; reads = now.reads; written = now.written; write_faults = now.write_faults; }
