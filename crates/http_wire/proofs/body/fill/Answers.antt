@@ -1,4 +1,4 @@
-use Rattle.std.proofs.Common.{◌≡◌, ◌+◌, ◌++◌, length, take, replicate, sym, ap, ◌∙◌, subst, arith, take_all, append-nil, length-take, length-drop, ◌-◌, vec_len}
+use Rattle.std.proofs.Common.{◌≡◌, ◌+◌, ◌++◌, length, take, replicate, refl, sym, ap, ◌∙◌, subst, arith, le_refl, take_all, append-nil, length-take, length-drop, ◌-◌, vec_len}
 use Rattle.std.proofs.lemmas.List.{take-take}
 use Rattle.std.specs.Io.KnownBytes.{prepend_known, Keeps}
 use Rattle.http_wire.proofs.KnownLemmas.{Keeps-grown, grown_by_read}
@@ -26,3 +26,45 @@ returns-in-Ok-read-clause-end g c none =
 
 pub returns-in-Ok-read-clause-grown : goal.returns-in-Ok-read-clause-grown
 returns-in-Ok-read-clause-grown g c = (take c.in-Ok-read.count c.read.new.buf, grown g c)
+
+pub returns-in-Err-clause-count : goal.returns-in-Err-clause-count
+returns-in-Err-clause-count g c = tt
+
+pub returns-in-Err-clause-piece : goal.returns-in-Err-clause-piece
+returns-in-Err-clause-piece g c = tt
+
+pub returns-in-Err-clause-end : goal.returns-in-Err-clause-end
+returns-in-Err-clause-end g c = tt
+
+pub returns-in-Err-clause-grown : goal.returns-in-Err-clause-grown
+returns-in-Err-clause-grown g c = tt
+
+pub returns-in-Err-clause-stop : goal.returns-in-Err-clause-stop
+returns-in-Err-clause-stop g c = tt
+
+pub returns-in-Err-clause-only_reads : goal.returns-in-Err-clause-only_reads
+returns-in-Err-clause-only_reads g c = record { later = le_refl _; reads = refl; written = refl; write_faults = refl; }
+
+pub returns-in-Ok-read-clause-same : goal.returns-in-Ok-read-clause-same
+returns-in-Ok-read-clause-same g c = tt
+
+pub returns-in-Ok-read-clause-stop : goal.returns-in-Ok-read-clause-stop
+returns-in-Ok-read-clause-stop g c = tt
+
+pub returns-in-Ok-read-clause-only_reads : goal.returns-in-Ok-read-clause-only_reads
+returns-in-Ok-read-clause-only_reads g c = record { later = c.in-Ok-read.ensures.cause.later; reads = c.in-Ok-read.ensures.cause.kept; written = c.in-Ok-read.ensures.written; write_faults = c.in-Ok-read.ensures.write_faults; }
+
+pub returns-in-Err-read-clause-count : goal.returns-in-Err-read-clause-count
+returns-in-Err-read-clause-count g c = tt
+
+pub returns-in-Err-read-clause-piece : goal.returns-in-Err-read-clause-piece
+returns-in-Err-read-clause-piece g c = tt
+
+pub returns-in-Err-read-clause-end : goal.returns-in-Err-read-clause-end
+returns-in-Err-read-clause-end g c = tt
+
+pub returns-in-Err-read-clause-grown : goal.returns-in-Err-read-clause-grown
+returns-in-Err-read-clause-grown g c = tt
+
+pub returns-in-Err-read-clause-stop : goal.returns-in-Err-read-clause-stop
+returns-in-Err-read-clause-stop g c = c.in-Err-read.ensures.cause.failed
