@@ -61,3 +61,7 @@ numbered_more done all next d i left rest e is made h =
     let size : length next ≡ length done + 1 = ap length made ∙ length-append done ((d, i) ∷ []) in
     ap (λ k. next ++ numbered k left) size ∙ ap (λ x. x ++ numbered (length done + 1) left) (made ∙ ap (λ x. done ++ (d, x) ∷ []) is)
     ∙ append_assoc done ((d, integer (pos (length done))) ∷ []) (numbered (length done + 1) left) ∙ ap (λ x. done ++ numbered (length done) x) (sym e) ∙ h
+
+-- what is gathered, one part more of it, and what is left
+pub one_more : {A : Type 0} (done next one left rest all : List A) → rest ≡ one ++ left → next ≡ done ++ one → done ++ rest ≡ all → next ++ left ≡ all
+one_more done next one left rest all is made h = ap (λ l. l ++ left) made ∙ append_assoc done one left ∙ ap (λ l. done ++ l) (sym is) ∙ h

@@ -20,14 +20,29 @@ pub(crate) fn given_by(alloc: Global, operator: Operator, value: Doc) -> Result<
     ensures { Meets (IsGivenBy operator (document value)) result }
 {
     match operator {
-        Operator::Json => json_of(alloc, &value),
+        Operator::Json => {
+            let made = json_of(alloc, &value);
+            drop(value);
+            made
+        }
         Operator::Flatten => flatten_of(alloc, value),
-        Operator::FlattenDeep => deep_flatten_of(alloc, &value),
+        Operator::FlattenDeep => {
+            let made = deep_flatten_of(alloc, &value);
+            drop(value);
+            made
+        }
         Operator::Merge => merge_of(alloc, value),
-        Operator::MergeDeep => deep_merge_of(alloc, &value),
+        Operator::MergeDeep => {
+            let made = deep_merge_of(alloc, &value);
+            drop(value);
+            made
+        }
         Operator::Sort => sort_alone(alloc, value),
         Operator::Reverse => reverse_of(value),
-        _ => Err(Stop::Fault(Fault::BadOperator)),
+        _ => {
+            drop(value);
+            Err(Stop::Fault(Fault::BadOperator))
+        }
     }
 }
 
@@ -46,7 +61,10 @@ pub(crate) fn or_before(before: Doc, found: Option<Doc>) -> Doc
     ensures { document result ≡ or_before (document before) (found_in found) }
 {
     match found {
-        Some(value) => value,
+        Some(value) => {
+            drop(before);
+            value
+        }
         None => before,
     }
 }

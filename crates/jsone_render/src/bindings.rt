@@ -41,6 +41,7 @@ impl<'a> Renderer<'a> {
             return Err(here(alloc, Fault::WrongKind));
         };
         if !are_names(&bound) {
+            drop(bound);
             return Err(here(alloc, Fault::BadOperator));
         }
         let height = self.height();
@@ -72,14 +73,20 @@ impl<'a> Renderer<'a> {
             Operator::Map => self.mapped(alloc, members, key, names, value),
             Operator::Reduce => {
                 let initial = match self.operand(alloc, members, "initial") {
-                    Ok(initial) => initial,
-                    Err(fault) => return Err(fault),
+                    Ok(initial) => or_null(initial),
+                    Err(fault) => {
+                        drop(value);
+                        return Err(fault);
+                    }
                 };
-                self.reduced(alloc, members, key, names, value, or_null(initial))
+                self.reduced(alloc, members, key, names, value, initial)
             }
             Operator::Find => self.found_in(alloc, members, key, names, value),
             Operator::Sort => self.sorted_by(alloc, members, key, names, value),
-            _ => Err(here(alloc, Fault::BadOperator)),
+            _ => {
+                drop(value);
+                Err(here(alloc, Fault::BadOperator))
+            }
         }
     }
 

@@ -125,7 +125,9 @@ impl<'a> Renderer<'a> {
                 Ok(value) => value,
                 Err(fault) => return Err(fault),
             };
-            keep_if(&mut found, condition, is_true(&value))?;
+            let is_kept = is_true(&value);
+            drop(value);
+            keep_if(&mut found, condition, is_kept)?;
         }
         Ok(found)
     }

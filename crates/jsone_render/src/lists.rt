@@ -43,11 +43,16 @@ pub(crate) fn keep_at(
     ensures { OnOk result (entries_of done.new.items ≡ entries_of done.old.items ++ kept_at key.now (found_in found)) }
 {
     match found {
-        Some(value) => {
-            let name = String::from_str(alloc, key)?;
-            done.push((name, value))?;
-            Ok(())
-        }
+        Some(value) => match String::from_str(alloc, key) {
+            Ok(name) => {
+                done.push((name, value))?;
+                Ok(())
+            }
+            Err(fault) => {
+                drop(value);
+                Err(fault)
+            }
+        },
         None => Ok(()),
     }
 }

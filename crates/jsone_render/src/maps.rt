@@ -60,9 +60,13 @@ impl<'a> Renderer<'a> {
         for (key, value) in values {
             let name = match self.rendered_key(alloc, key.as_str()) {
                 Ok(name) => name,
-                Err(fault) => return Err(fault),
+                Err(fault) => {
+                    drop(value);
+                    return Err(fault);
+                }
             };
             if has_key(&map, name.as_str()) {
+                drop(value);
                 return Err(here(alloc, Fault::KeyTwice));
             }
             insert(&mut map, name, value)?;

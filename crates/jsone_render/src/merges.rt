@@ -58,7 +58,13 @@ fn deep(alloc: Global, later: &Doc, before: Option<Doc>) -> Result<Doc, AllocErr
             None => later.clone(),
         },
         Doc::Map(more) => match map_in(before) {
-            Some(members) => Ok(Doc::Map(deep_all(alloc, more, members)?)),
+            Some(mut members) => match deep_all(alloc, more, &mut members) {
+                Ok(()) => Ok(Doc::Map(members)),
+                Err(fault) => {
+                    drop(members);
+                    Err(fault)
+                }
+            },
             None => later.clone(),
         },
         _ => later.clone(),
@@ -70,18 +76,17 @@ fn deep(alloc: Global, later: &Doc, before: Option<Doc>) -> Result<Doc, AllocErr
 fn deep_all(
     alloc: Global,
     later: &BTreeMap<String, Doc>,
-    before: BTreeMap<String, Doc>,
-) -> Result<BTreeMap<String, Doc>, AllocError>
-    ensures { IfOk result (λ m. members_of (entries_of m.entries)
-        ≡ deep_all (members_of (entries_of later.now.entries)) (members_of (entries_of before.entries))) }
+    members: &mut BTreeMap<String, Doc>,
+) -> Result<(), AllocError>
+    ensures { OnOk result (members_of (entries_of members.new.entries)
+        ≡ deep_all (members_of (entries_of later.now.entries)) (members_of (entries_of members.old.entries))) }
 {
-    let mut members = before;
     for (key, value) in later.iter() {
-        let found = replaced(alloc, &mut members, key.as_str(), Doc::Null)?;
+        let found = replaced(alloc, members, key.as_str(), Doc::Null)?;
         let joined = deep(alloc, value, found)?;
-        drop(replaced(alloc, &mut members, key.as_str(), joined)?);
+        drop(replaced(alloc, members, key.as_str(), joined)?);
     }
-    Ok(members)
+    Ok(())
 }
 
 /// The members of a list that may stand there.
@@ -108,7 +113,7 @@ fn map_in(before: Option<Doc>) -> Option<BTreeMap<String, Doc>>
 }
 
 /// The value that stood at the key, which has a new one now.
-fn replaced(
+pub(crate) fn replaced(
     alloc: Global,
     members: &mut BTreeMap<String, Doc>,
     key: &str,
@@ -118,8 +123,13 @@ fn replaced(
     ensures put { OnOk result (members_of (entries_of members.new.entries)
         ≡ put key.now (document value) (members_of (entries_of members.old.entries))) }
 {
-    let name = String::from_str(alloc, key)?;
-    Ok(members.insert(name, value)?)
+    match String::from_str(alloc, key) {
+        Ok(name) => Ok(members.insert(name, value)?),
+        Err(fault) => {
+            drop(value);
+            Err(fault)
+        }
+    }
 }
 
 /// The items, and copies of further ones behind them.
@@ -146,8 +156,8 @@ pub(crate) fn deep_merge_of(alloc: Global, value: &Doc) -> Result<Doc, Stop>
             Some(more) => more,
             None => return Err(WRONG_KIND),
         };
-        match deep_all(alloc, more, map) {
-            Ok(all) => map = all,
+        match deep_all(alloc, more, &mut map) {
+            Ok(()) => {}
             Err(_) => return Err(Stop::NoMemory),
         }
     }

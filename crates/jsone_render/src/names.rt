@@ -1,6 +1,7 @@
 //! Names, which operators bind.
 ghost use Rattle.std.specs.Prelude.{◌≡◌};
 ghost use Rattle.std.specs.List.{list_all};
+ghost use Rattle.std.specs.Str.{bytes_eq};
 ghost use Rattle.farm_text.specs.Document.{members_of};
 ghost use Rattle.farm_text.specs.Doc.{entries_of};
 ghost use Rattle.jsone_expr.specs.Tokens.{is_word_byte};
@@ -17,11 +18,17 @@ fn is_word_byte(byte: u8) -> bool
     is_letter(byte) | byte.is_ascii_digit()
 }
 
+fn is(text: &[u8], word: &str) -> bool
+    ensures { result ≡ bytes_eq text.now word.now }
+{
+    text == word.as_bytes()
+}
+
 /// The words of the language that are no names.
 fn is_reserved(text: &[u8]) -> bool
     ensures { result ≡ is_reserved text.now }
 {
-    matches!(text, b"in" | b"true" | b"false" | b"null")
+    is(text, "in") || is(text, "true") || is(text, "false") || is(text, "null")
 }
 
 /// Whether all bytes stand in names. No byte ends the walk, so that the compiler judges many at a time.

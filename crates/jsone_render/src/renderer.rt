@@ -10,6 +10,7 @@ ghost use Rattle.jsone_render.specs.Outcomes.{pay, worth, price_of};
 
 use crate::binders::Names;
 use crate::faults::RenderFault;
+use crate::merges::replaced;
 use crate::paths::here;
 use crate::readings::{Reading, Readings};
 use farm_text::Doc;
@@ -63,8 +64,13 @@ impl<'a> Renderer<'a> {
             → Answers found_in (λ o. o ≡ pay self.old.cost.spent n (Some (document value))) result self.new.cost.spent }
         ensures scopes { Kept result (scopes_of self.old.context) (scopes_of self.new.context) }
     {
-        self.charge(price)?;
-        Ok(Some(value))
+        match self.charge(price) {
+            Ok(()) => Ok(Some(value)),
+            Err(fault) => {
+                drop(value);
+                Err(fault)
+            }
+        }
     }
 
     /// Pays for what an operator gives.
@@ -72,8 +78,13 @@ impl<'a> Renderer<'a> {
         ensures answers { Answers found_in (λ o. o ≡ worth self.old.cost.spent (found_in found)) result self.new.cost.spent }
         ensures scopes { Kept result (scopes_of self.old.context) (scopes_of self.new.context) }
     {
-        self.charge(price_of(&found))?;
-        Ok(found)
+        match self.charge(price_of(&found)) {
+            Ok(()) => Ok(found),
+            Err(fault) => {
+                drop(found);
+                Err(fault)
+            }
+        }
     }
 
     /// The same of what was made, if it is a value.
@@ -148,7 +159,11 @@ impl<'a> Renderer<'a> {
         let found = self.evaluate_reading(alloc, reading);
         self.release(height);
         match found {
-            Ok(value) => Ok(is_true(&value)),
+            Ok(value) => {
+                let holds = is_true(&value);
+                drop(value);
+                Ok(holds)
+            }
             Err(fault) => Err(fault),
         }
     }
@@ -206,11 +221,17 @@ impl<'a> Renderer<'a> {
         ensures cost { self.new.cost ≡ self.old.cost }
     {
         match names {
-            Names::One(a) => self.bind(alloc, a, first),
-            Names::Two(a, b) | Names::Three(a, b, _) => {
-                self.bind(alloc, a, first)?;
-                self.bind(alloc, b, second)
+            Names::One(a) => {
+                drop(second);
+                self.bind(alloc, a, first)
             }
+            Names::Two(a, b) | Names::Three(a, b, _) => match self.bind(alloc, a, first) {
+                Ok(()) => self.bind(alloc, b, second),
+                Err(fault) => {
+                    drop(second);
+                    Err(fault)
+                }
+            },
         }
     }
 
@@ -228,12 +249,17 @@ impl<'a> Renderer<'a> {
         ensures cost { self.new.cost ≡ self.old.cost }
     {
         match names {
-            Names::One(_) | Names::Two(_, _) => self.bind_two(alloc, names, first, second),
-            Names::Three(a, b, c) => {
-                self.bind(alloc, a, first)?;
-                self.bind(alloc, b, second)?;
-                self.bind(alloc, c, third)
+            Names::One(_) | Names::Two(_, _) => {
+                drop(third);
+                self.bind_two(alloc, names, first, second)
             }
+            Names::Three(_, _, c) => match self.bind_two(alloc, names, first, second) {
+                Ok(()) => self.bind(alloc, c, third),
+                Err(fault) => {
+                    drop(third);
+                    Err(fault)
+                }
+            },
         }
     }
 
@@ -268,8 +294,16 @@ fn single(alloc: Global, name: &str, value: Doc) -> Result<Doc, AllocError>
     ensures { IfOk result (λ d. document d ≡ single name.now (document value)) }
 {
     let mut map = BTreeMap::new(alloc);
-    drop(map.insert(String::from_str(alloc, name)?, value)?);
-    Ok(Doc::Map(map))
+    match replaced(alloc, &mut map, name, value) {
+        Ok(old) => {
+            drop(old);
+            Ok(Doc::Map(map))
+        }
+        Err(fault) => {
+            drop(map);
+            Err(fault)
+        }
+    }
 }
 
 /// The value of a map of one name.

@@ -5,6 +5,8 @@ ghost use Rattle.farm_text.specs.Doc.{document, documents};
 ghost use Rattle.jsone_eval.specs.Scopes.{scopes_of};
 ghost use Rattle.jsone_values.specs.Meets.{Meets};
 ghost use Rattle.jsone_render.specs.Answers.{Answers, Kept, names_in, pairs_of};
+ghost use Rattle.jsone_render.specs.Bindings.{bound_to};
+ghost use Rattle.jsone_render.specs.Expressions.{Evaluated};
 ghost use Rattle.jsone_render.specs.Sorting.{key_order, kind_rank, is_whole, is_text, are_of_one_kind, IsSorting, IsSortOf, IsSortAlone, KeysEvaluated};
 
 use crate::binders::Names;
@@ -82,7 +84,8 @@ fn values_of(alloc: Global, pairs: Vec<(Doc, Doc)>) -> Result<Vec<Doc>, AllocErr
     ensures { IfOk result (λ v. documents v.items ≡ map (λ q. q.1) (pairs_of pairs.items)) }
 {
     let mut values = Vec::with_capacity(alloc, pairs.len())?;
-    for (_, value) in pairs {
+    for (key, value) in pairs {
+        drop(key);
         values.push(value)?;
     }
     Ok(values)
@@ -126,7 +129,13 @@ fn doubled(alloc: Global, items: Vec<Doc>) -> Result<Vec<(Doc, Doc)>, AllocError
 {
     let mut pairs = Vec::with_capacity(alloc, items.len())?;
     for item in items {
-        pairs.push((item.clone()?, item))?;
+        match item.clone() {
+            Ok(key) => keep_pair(&mut pairs, key, item)?,
+            Err(_) => {
+                drop(item);
+                return Err(AllocError);
+            }
+        }
     }
     Ok(pairs)
 }
@@ -140,6 +149,23 @@ pub(crate) fn keep_pair(pairs: &mut Vec<(Doc, Doc)>, key: Doc, item: Doc) -> Res
 }
 
 impl<'a> Renderer<'a> {
+    /// What the expression gives where the name is bound to a member, which stays.
+    fn key_for(
+        &mut self,
+        alloc: Global,
+        reading: &Reading,
+        names: Names,
+        item: &Doc,
+    ) -> Result<Doc, RenderFault>
+        ensures answers { Answers document (Evaluated reading.now (scopes_of self.old.context ++ bound_to (names_in names.entry) (document item.now ∷ [])) self.old.cost.spent) result self.new.cost.spent }
+        ensures scopes { Kept result (scopes_of self.old.context) (scopes_of self.new.context) }
+    {
+        match item.clone() {
+            Ok(copy) => self.evaluate_one(alloc, reading, names, copy),
+            Err(_) => Err(RenderFault::NoMemory),
+        }
+    }
+
     /// The members with their keys, which an expression gives where the name is bound to a member.
     pub(crate) fn sort_keys(
         &mut self,
@@ -153,9 +179,12 @@ impl<'a> Renderer<'a> {
     {
         let mut pairs = Vec::with_capacity(alloc, items.len())?;
         for item in items {
-            let key = match self.evaluate_one(alloc, reading, names, item.clone()?) {
+            let key = match self.key_for(alloc, reading, names, &item) {
                 Ok(key) => key,
-                Err(fault) => return Err(fault),
+                Err(fault) => {
+                    drop(item);
+                    return Err(fault);
+                }
             };
             keep_pair(&mut pairs, key, item)?;
         }

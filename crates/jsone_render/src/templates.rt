@@ -180,7 +180,9 @@ impl<'a> Renderer<'a> {
                     Ok(value) => value,
                     Err(fault) => return Err(fault),
                 };
-                let found = match self.operand(alloc, members, branch_of(&value)) {
+                let branch = branch_of(&value);
+                drop(value);
+                let found = match self.operand(alloc, members, branch) {
                     Ok(found) => found,
                     Err(fault) => return Err(fault),
                 };
@@ -272,17 +274,24 @@ impl<'a> Renderer<'a> {
         ensures scopes { Kept result (scopes_of self.old.context) (scopes_of self.new.context) }
     {
         let span = match self.operand(alloc, members, "$fromNow") {
-            Ok(span) => span,
+            Ok(span) => or_null(span),
             Err(fault) => return Err(fault),
         };
         if has_key(members, "from") {
             let from = match self.operand(alloc, members, "from") {
-                Ok(from) => from,
-                Err(fault) => return Err(fault),
+                Ok(from) => or_null(from),
+                Err(fault) => {
+                    drop(span);
+                    return Err(fault);
+                }
             };
-            return self.finish_made(alloc, span_of(alloc, &or_null(span), Some(&or_null(from))));
+            let made = span_of(alloc, &span, Some(&from));
+            drop(from);
+            drop(span);
+            return self.finish_made(alloc, made);
         }
-        let made = span_of(alloc, &or_null(span), self.context.get("now"));
+        let made = span_of(alloc, &span, self.context.get("now"));
+        drop(span);
         self.finish_made(alloc, made)
     }
 }

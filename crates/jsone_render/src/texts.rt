@@ -86,7 +86,9 @@ impl<'a> Renderer<'a> {
             Ok(value) => value,
             Err(fault) => return Err(fault),
         };
-        match shown(alloc, &value) {
+        let made = shown(alloc, &value);
+        drop(value);
+        match made {
             Ok(text) => Ok(text),
             Err(Stop::Fault(rule)) => Err(here(alloc, rule)),
             Err(Stop::NoMemory) => Err(RenderFault::NoMemory),

@@ -16,12 +16,12 @@ deep-returns-in_ok-joined-in-Some t c =
     ∙ joined_lists (document c.args.later.now) (found_in c.args.before) (documents c.in-List.more.items) (documents c.in-Some.items.items) (documents all.field-0.items)
     (ap document c.in-List.is ∙ document-List c.in-List.more) c.in-Some.ensures all.ensures
 
-pub deep-returns-in_ok-deep_all-in-Some-map_in : goal.deep-returns-in_ok-deep_all-in-Some-map_in
-deep-returns-in_ok-deep_all-in-Some-map_in t c =
-    let all = c.in_ok-deep_all-in-Some-map_in in
-    document-Map all.field-0
-    ∙ joined_maps (document c.args.later.now) (found_in c.args.before) (members_in c.in-Map.more.entries) (members_in c.in-Some-map_in.members.entries) (members_in all.field-0.entries)
-    (ap document c.in-Map.is ∙ document-Map c.in-Map.more) c.in-Some-map_in.ensures all.ensures
+pub deep-returns-in-Ok : goal.deep-returns-in-Ok
+deep-returns-in-Ok t c =
+    let all = c.deep_all.new.members in
+    document-Map all
+    ∙ joined_maps (document c.args.later.now) (found_in c.args.before) (members_in c.in-Map.more.entries) (members_in c.in-Some-map_in.members.entries) (members_in all.entries)
+    (ap document c.in-Map.is ∙ document-Map c.in-Map.more) c.in-Some-map_in.ensures c.in-Ok.ensures
 
 pub deep-returns-in-None : goal.deep-returns-in-None
 deep-returns-in-None t c =
@@ -41,6 +41,6 @@ deep_all-loop-key-preserved t c =
     let one = c.as_str.ensures.value in
     let two = c.as_str-in-loop-key.ensures.value in
     deep_more (members_in l.key-iterator) (members_in c.next.new.self) (string_bytes c.in-Some.key.now) (document c.in-Some.value.now) (document null_doc) (document c.in_ok-joined.joined) (found_in c.in_ok-found.found)
-    ms (members_in c.replaced.new.members.entries) (members_in c.replaced-in-loop-key.new.members.entries) (deep_all (members_in c.args.later.now.entries) (members_in c.args.before.entries))
+    ms (members_in c.replaced.new.members.entries) (members_in c.replaced-in-loop-key.new.members.entries) (deep_all (members_in c.args.later.now.entries) (members_in c.args.members.now.entries))
     (ap members_in next) (c.in_ok-found.ensures.before ∙ ap (λ (b : List ℕ). member_at b ms) one) (c.in_ok-found.ensures.put ∙ ap (λ (b : List ℕ). put b (document null_doc) ms) one) c.in_ok-joined.ensures
     (c.in_ok-replaced.ensures.put ∙ ap (λ (b : List ℕ). put b (document c.in_ok-joined.joined) (members_in c.replaced.new.members.entries)) two) l.invariant

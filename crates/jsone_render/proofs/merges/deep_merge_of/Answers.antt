@@ -25,7 +25,7 @@ loop-item-preserved c =
     let items = c.deref-item-items.result.now in
     let x = c.item-item.result in
     let rest : drop l.item-index items ≡ x ∷ drop (l.item-index + 1) items = drop_more items l.item-index x c.loop-item-test.true ∙ ap (λ y. y ∷ drop (l.item-index + 1) items) (sym c.item-item.is) in
-    map_more (documents (drop l.item-index items)) (documents (drop (l.item-index + 1) items)) (document x) (members_in l.map.entries) (members_in c.in-Some.more.now.entries) (members_in c.in-Ok.all.entries) (deep_merged_onto no_members (documents items))
+    map_more (documents (drop l.item-index items)) (documents (drop (l.item-index + 1) items)) (document x) (members_in l.map.entries) (members_in c.in-Some.more.now.entries) (members_in c.deep_all.new.members.entries) (deep_merged_onto no_members (documents items))
     (ap documents rest) c.in-Some.ensures c.in-Ok.ensures l.invariant
 
 pub returns : goal.returns

@@ -5,5 +5,5 @@ use Rattle.jsone_render.specs.Answers.{pairs_of}
 use Rattle.jsone_render.proofs.sorting.values_of.Given as goal
 
 -- the pairs that are left make the whole
-abbrev pub invariant-loop-value : goal.invariant-loop-value
-invariant-loop-value l = documents l.values.items ++ map (λ q. q.1) (pairs_of (into_iter_items l.value-iterator)) ≡ map (λ q. q.1) (pairs_of l.fn.pairs.items)
+abbrev pub invariant-loop-key : goal.invariant-loop-key
+invariant-loop-key l = documents l.values.items ++ map (λ q. q.1) (pairs_of (into_iter_items l.key-iterator)) ≡ map (λ q. q.1) (pairs_of l.fn.pairs.items)

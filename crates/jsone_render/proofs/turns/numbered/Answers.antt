@@ -13,5 +13,5 @@ loop-item-preserved c =
     let l = c.loop-item in
     let next : into_iter_items l.item-iterator ≡ c.in-Some.item ∷ into_iter_items c.next.new.self = grind (arith, common_steps) in
     let size : c.len.result ≡ length (pairs_of l.turns.items) = grind (arith, common_steps) in
-    numbered_more (pairs_of l.turns.items) (numbered 0 (documents (into_iter_items c.into_iter-item-iterator.result))) (pairs_of c.keep_pair.new.pairs.items) (document c.in-Some.item) (document c.in_ok-index.index)
-    (documents (into_iter_items c.next.new.self)) (documents (into_iter_items l.item-iterator)) (ap documents next) (c.in_ok-index.ensures ∙ ap (λ (k : ℕ). whole (pos k)) size) c.in_ok-keep_pair.ensures l.invariant
+    numbered_more (pairs_of l.turns.items) (numbered 0 (documents (into_iter_items c.into_iter-item-iterator.result))) (pairs_of c.keep_pair.new.pairs.items) (document c.in-Some.item) (document c.in-Ok.index)
+    (documents (into_iter_items c.next.new.self)) (documents (into_iter_items l.item-iterator)) (ap documents next) (c.in-Ok.ensures ∙ ap (λ (k : ℕ). whole (pos k)) size) c.in_ok-keep_pair-in-Ok.ensures l.invariant

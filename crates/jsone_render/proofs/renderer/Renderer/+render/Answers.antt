@@ -411,7 +411,7 @@ alone-returns-in-Err-operand-clause-answers t c =
     let f = c.in-Err-operand.fault in
     alone_is c.args.operator If ms scopes n (Err f) p c.in-If.is
     (value_through found_in (ValueAt (codes "$if") ms scopes n) (λ s x q. Taken (MemberRenders (branch_of x) ms) s q) d m (Err f) p scopes after c.in-Ok-value_at.ensures.scopes c.in-Ok-value_at.ensures.answers
-    (fault_through found_in found_in (MemberRenders (branch_of d) ms after m) (λ x q o. o ≡ worth q x) f p p (subst (λ (b : List ℕ). Answers found_in (MemberRenders b ms after m) (Err f) p) c.branch_of.ensures c.in-Err-operand.ensures.answers)))
+    (fault_through found_in found_in (MemberRenders (branch_of d) ms after m) (λ x q o. o ≡ worth q x) f p p (subst (λ (b : List ℕ). Answers found_in (MemberRenders b ms after m) (Err f) p) c.branch_of-branch.ensures c.in-Err-operand.ensures.answers)))
 
 pub alone-returns-in-Ok-operand-clause-answers : goal.alone-returns-in-Ok-operand-clause-answers
 alone-returns-in-Ok-operand-clause-answers t c =
@@ -429,7 +429,7 @@ alone-returns-in-Ok-operand-clause-answers t c =
     alone_is c.args.operator If ms scopes n r k c.in-If.is
     (value_through found_in (ValueAt (codes "$if") ms scopes n) (λ s x q. Taken (MemberRenders (branch_of x) ms) s q) d m r k scopes after c.in-Ok-value_at.ensures.scopes c.in-Ok-value_at.ensures.answers
     (value_through found_in (MemberRenders (branch_of d) ms after m) (λ s x q o. o ≡ worth q x) found p r k after last c.in-Ok-operand.ensures.scopes
-    (subst (λ (b : List ℕ). MemberRenders b ms after m (given found p)) c.branch_of.ensures c.in-Ok-operand.ensures.answers) c.finish-in-If.ensures.answers))
+    (subst (λ (b : List ℕ). MemberRenders b ms after m (given found p)) c.branch_of-branch.ensures c.in-Ok-operand.ensures.answers) c.finish-in-If.ensures.answers))
 
 pub alone-returns-in-Ok-operand-clause-scopes : goal.alone-returns-in-Ok-operand-clause-scopes
 alone-returns-in-Ok-operand-clause-scopes t c =
@@ -839,13 +839,13 @@ from_now-returns-then-has_key-clause-answers t c =
     let r = c.finish_made.result in
     let k = c.finish_made.new.self.cost.spent in
     let from = found_in c.in-Ok-operand.from in
-    let d = document c.or_null.result in
-    let e = document c.or_null-then-has_key.result in
-    let made : Answers found_in (SpanRenders d (Some e) p) r k = made_so c.span_of.result (IsFromNowAt d (Some e)) p r k c.span_of.ensures c.finish_made.ensures.answers in
+    let d = document c.or_null-span.result in
+    let e = document c.or_null-from.result in
+    let made : Answers found_in (SpanRenders d (Some e) p) r k = made_so c.span_of-made.result (IsFromNowAt d (Some e)) p r k c.span_of-made.ensures c.finish_made.ensures.answers in
     value_through found_in (MemberRenders (codes "$fromNow") ms scopes n) (λ s x p. FromRenders ms s (or_null x) p) found m r k scopes after c.in-Ok.ensures.scopes c.in-Ok.ensures.answers
     (from_there (or_null found) ms after m r k (sym c.has_key.ensures ∙ c.if-has_key.true)
     (value_through found_in (MemberRenders (codes "from") ms after m) (λ s x q. SpanRenders (or_null found) (Some (or_null x)) q) from p r k after last c.in-Ok-operand.ensures.scopes c.in-Ok-operand.ensures.answers
-    (subst (λ x. Answers found_in (SpanRenders (or_null found) (Some x) p) r k) c.or_null-then-has_key.ensures (subst (λ x. Answers found_in (SpanRenders x (Some e) p) r k) c.or_null.ensures made))))
+    (subst (λ x. Answers found_in (SpanRenders (or_null found) (Some x) p) r k) c.or_null-from.ensures (subst (λ x. Answers found_in (SpanRenders x (Some e) p) r k) c.or_null-span.ensures made))))
 
 pub from_now-returns-then-has_key-clause-scopes : goal.from_now-returns-then-has_key-clause-scopes
 from_now-returns-then-has_key-clause-scopes t c =
@@ -861,13 +861,13 @@ from_now-returns-clause-answers t c =
     let found = found_in c.in-Ok.span in
     let r = c.finish_made-2.result in
     let k = c.finish_made-2.new.self.cost.spent in
-    let d = document c.or_null-2.result in
+    let d = document c.or_null-span.result in
     let now = bound (codes "now") after in
-    let meets : Meets (IsFromNowAt d now) c.span_of-made.result = subst (λ (x : Option Document). Meets (IsFromNowAt d x) c.span_of-made.result) c.get.ensures c.span_of-made.ensures in
-    let made : Answers found_in (SpanRenders d now m) r k = made_so c.span_of-made.result (IsFromNowAt d now) m r k meets c.finish_made-2.ensures.answers in
+    let meets : Meets (IsFromNowAt d now) c.span_of-made-2.result = subst (λ (x : Option Document). Meets (IsFromNowAt d x) c.span_of-made-2.result) c.get.ensures c.span_of-made-2.ensures in
+    let made : Answers found_in (SpanRenders d now m) r k = made_so c.span_of-made-2.result (IsFromNowAt d now) m r k meets c.finish_made-2.ensures.answers in
     value_through found_in (MemberRenders (codes "$fromNow") ms scopes n) (λ s x p. FromRenders ms s (or_null x) p) found m r k scopes after c.in-Ok.ensures.scopes c.in-Ok.ensures.answers
     (from_now_on (or_null found) ms after m r k (sym c.has_key.ensures ∙ c.if-has_key.false)
-    (subst (λ x. Answers found_in (SpanRenders x now m) r k) c.or_null-2.ensures made))
+    (subst (λ x. Answers found_in (SpanRenders x now m) r k) c.or_null-span.ensures made))
 
 pub from_now-returns-clause-scopes : goal.from_now-returns-clause-scopes
 from_now-returns-clause-scopes t c = kept_from c.finish_made-2.result (scopes_of c.args.self.now.context) (scopes_of c.operand.new.self.context) (scopes_of c.finish_made-2.new.self.context) c.in-Ok.ensures.scopes c.finish_made-2.ensures.scopes
@@ -938,7 +938,7 @@ over-returns-in-Ok-clause-answers t c =
     let k = c.reduced.new.self.cost.spent in
     over_is c.args.operator Reduce key names ms d scopes n r k c.in-Reduce.is
     (value_through found_in (MemberRenders (codes "initial") ms scopes n) (λ s x p. ReducedOver (MemberRenders key ms) names (or_null x) d s p) (found_in c.in-Ok.initial) m r k scopes after c.in-Ok.ensures.scopes c.in-Ok.ensures.answers
-    (subst (λ x. Answers found_in (ReducedOver (MemberRenders key ms) names x d after m) r k) c.or_null.ensures c.reduced.ensures.answers))
+    (subst (λ x. Answers found_in (ReducedOver (MemberRenders key ms) names x d after m) r k) c.or_null-initial.ensures c.reduced.ensures.answers))
 
 pub over-returns-in-Ok-clause-scopes : goal.over-returns-in-Ok-clause-scopes
 over-returns-in-Ok-clause-scopes t c = kept_from c.reduced.result (scopes_of c.args.self.now.context) (scopes_of c.operand.new.self.context) (scopes_of c.reduced.new.self.context) c.in-Ok.ensures.scopes c.reduced.ensures.scopes

@@ -14,8 +14,8 @@ returns-in-Ok-clause-answers c =
     let bound = c.bind_two.new.self in
     let cost : bound.cost.spent ≡ before.cost.spent = cc (c.bind_two.ensures.cost) in
     let left : c.release.new.self.cost.spent ≡ c.evaluate_reading-found.new.self.cost.spent = cc (c.release.ensures.cost) in
-    tested_so source scopes (scopes_of bound.context) before.cost.spent bound.cost.spent c.evaluate_reading-found.new.self.cost.spent c.release.new.self.cost.spent (document c.in-Ok.value) c.is_true.result
-    c.in_ok-bind_two.ensures.scopes cost left c.is_true.ensures c.in-Ok.ensures.answers
+    tested_so source scopes (scopes_of bound.context) before.cost.spent bound.cost.spent c.evaluate_reading-found.new.self.cost.spent c.release.new.self.cost.spent (document c.in-Ok.value) c.is_true-holds.result
+    c.in_ok-bind_two.ensures.scopes cost left c.is_true-holds.ensures c.in-Ok.ensures.answers
 
 pub returns-in-Ok-clause-scopes : goal.returns-in-Ok-clause-scopes
 returns-in-Ok-clause-scopes c =

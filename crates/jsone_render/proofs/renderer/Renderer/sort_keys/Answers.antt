@@ -1,11 +1,11 @@
-use Rattle.std.proofs.Common.{◌≡◌, [], ◌∷◌, ◌++◌, List, Vec, Global, Err, sym, ap, subst, ◌∙◌, arith, refl}
+use Rattle.std.proofs.Common.{◌≡◌, [], ◌∷◌, ◌++◌, List, Vec, Global, sym, ap, subst, ◌∙◌, arith, refl}
 use Rattle.std.specs.Vec.Iter.{into_iter_items}
 use Rattle.std.proofs.lemmas.Grind.{common_steps}
 use Rattle.farm_text.specs.Document.{Document}
 use Rattle.farm_text.specs.Doc.{document, documents}
 use Rattle.jsone_eval.specs.Scopes.{scopes_of}
 use Rattle.farm_text.specs.declared.doc.Doc.{Doc}
-use Rattle.jsone_render.specs.Answers.{Answers, names_in, pairs_of}
+use Rattle.jsone_render.specs.Answers.{names_in, pairs_of}
 use Rattle.jsone_render.specs.Bindings.{bound_to}
 use Rattle.jsone_render.specs.Expressions.{Evaluated}
 use Rattle.jsone_render.specs.Outcomes.{Outcome, given}
@@ -21,13 +21,12 @@ loop-item-preserved c =
     let names = names_in c.args.names in
     let scopes = scopes_of l.self.context in
     let n = l.self.cost.spent in
-    let m = c.evaluate_one.new.self.cost.spent in
+    let m = c.key_for.new.self.cost.spent in
     let key = document c.in-Ok.key in
     let whole : Outcome (List Turn) → Type 0 = KeysEvaluated source names [] (documents c.args.items.items) (scopes_of c.args.self.now.context) c.args.self.now.cost.spent in
-    let evaluated : Evaluated source (scopes ++ bound_to names (document c.in-Some.item ∷ [])) n (given key m) =
-    subst (λ (x : Document). Evaluated source (scopes ++ bound_to names (x ∷ [])) n (given key m)) c.in_ok-clone.ensures.cases c.in-Ok.ensures.answers in
+    let evaluated : Evaluated source (scopes ++ bound_to names (document c.in-Some.item ∷ [])) n (given key m) = c.in-Ok.ensures.answers in
     record {
-      leads = key_found whole source names (pairs_of l.pairs.items) (pairs_of c.keep_pair.new.pairs.items) (documents (into_iter_items l.item-iterator)) (documents (into_iter_items c.next.new.self)) (document c.in-Some.item) key scopes (scopes_of c.evaluate_one.new.self.context) n m
+      leads = key_found whole source names (pairs_of l.pairs.items) (pairs_of c.keep_pair.new.pairs.items) (documents (into_iter_items l.item-iterator)) (documents (into_iter_items c.next.new.self)) (document c.in-Some.item) key scopes (scopes_of c.key_for.new.self.context) n m
           (ap documents next) l.invariant.leads evaluated c.in_ok-keep_pair.ensures c.in-Ok.ensures.scopes;
       same = c.in-Ok.ensures.scopes ∙ l.invariant.same;
     }
@@ -40,11 +39,11 @@ returns-in-Err-clause-answers c =
     let names = names_in c.args.names in
     let scopes = scopes_of l.self.context in
     let n = l.self.cost.spent in
-    let m = c.evaluate_one.new.self.cost.spent in
+    let m = c.key_for.new.self.cost.spent in
     let whole : Outcome (List Turn) → Type 0 = KeysEvaluated source names [] (documents c.args.items.items) (scopes_of c.args.self.now.context) c.args.self.now.cost.spent in
     key_fault (λ (v : Vec (Doc × Doc) Global). pairs_of v.items) whole source names (pairs_of l.pairs.items) (documents (into_iter_items l.item-iterator)) (documents (into_iter_items c.next.new.self)) (document c.in-Some.item) scopes n m m c.in-Err.fault
     (ap documents next) l.invariant.leads
-    (subst (λ (x : Document). Answers document (Evaluated source (scopes ++ bound_to names (x ∷ [])) n) (Err c.in-Err.fault) m) c.in_ok-clone.ensures.cases c.in-Err.ensures.answers)
+    c.in-Err.ensures.answers
 
 pub returns-clause-answers : goal.returns-clause-answers
 returns-clause-answers c =

@@ -36,7 +36,7 @@ loop-condition-preserved c =
     let evaluated : Evaluated k scopes l.self.cost.spent (given d m) = subst (λ (b : List ℕ). Evaluated b scopes l.self.cost.spent (given d m)) c.as_bytes.ensures.value c.in-Ok.ensures.answers in
     record {
       leads = step whole (texts_in l.found.items) (texts_in (into_iter_items l.condition-iterator)) left (texts_in c.keep_if.new.found.items) k scopes (scopes_of c.evaluate.new.self.context) l.self.cost.spent m d (ap texts_in next) l.invariant.leads evaluated
-          (c.in_ok-keep_if.ensures ∙ ap (λ (b : Bool). texts_in l.found.items ++ (if b then k ∷ [] else [])) c.is_true.ensures) c.in-Ok.ensures.scopes;
+          (c.in_ok-keep_if.ensures ∙ ap (λ (b : Bool). texts_in l.found.items ++ (if b then k ∷ [] else [])) c.is_true-is_kept.ensures) c.in-Ok.ensures.scopes;
       same = c.in-Ok.ensures.scopes ∙ l.invariant.same;
     }
 
