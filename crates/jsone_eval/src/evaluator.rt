@@ -79,7 +79,10 @@ pub fn eval_nodes(
     while at < nodes.len() {
         match machine.step(alloc, text, context, nodes[at]) {
             Ok(()) => {}
-            Err(fault) => return Err(fault),
+            Err(fault) => {
+                drop(machine);
+                return Err(fault);
+            }
         }
         at = if machine.passes() { ends[at] } else { at + 1 };
     }

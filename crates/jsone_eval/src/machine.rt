@@ -79,6 +79,7 @@ impl Machine {
     {
         let spent = self.spent.saturating_add(weight_of(&value));
         if spent > LIMIT {
+            drop(value);
             return Err(EvalFault::TooMuchWork);
         }
         match self.values.push(value) {
@@ -114,7 +115,9 @@ impl Machine {
         ensures { (s : Setting) → Does (IsStep s (Node.Unary sign) (values_in self.old) (parts_in self.old) self.old.passed self.old.spent) result self.new }
     {
         let value = take(&mut self.values);
-        self.pay(signed(sign, &value))
+        let found = signed(sign, &value);
+        drop(value);
+        self.pay(found)
     }
 
     /// Behind the left side of an operator, which may decide: then the right side is passed over.
@@ -125,7 +128,7 @@ impl Machine {
         if !is_decided {
             return Ok(());
         }
-        take(&mut self.values);
+        drop(take(&mut self.values));
         let Some(passed) = self.passed.checked_add(1) else {
             return Err(EvalFault::NoMemory);
         };
@@ -138,7 +141,10 @@ impl Machine {
     {
         let right = take(&mut self.values);
         let left = take(&mut self.values);
-        self.pay(joined(alloc, operator, &left, &right))
+        let found = joined(alloc, operator, &left, &right);
+        drop(left);
+        drop(right);
+        self.pay(found)
     }
 
     fn group(&mut self) -> Result<(), EvalFault>
@@ -152,7 +158,9 @@ impl Machine {
         ensures { (s : Setting) → s.source ≡ text.now → Does (IsStep s (Node.Member word) (values_in self.old) (parts_in self.old) self.old.passed self.old.spent) result self.new }
     {
         let value = take(&mut self.values);
-        self.pay(member_at(text, word.span, &value))
+        let found = member_at(text, word.span, &value);
+        drop(value);
+        self.pay(found)
     }
 
     fn index(&mut self, alloc: Global) -> Result<(), EvalFault>
@@ -160,7 +168,10 @@ impl Machine {
     {
         let index = take(&mut self.values);
         let value = take(&mut self.values);
-        self.pay(index_of(alloc, &value, &index))
+        let found = index_of(alloc, &value, &index);
+        drop(value);
+        drop(index);
+        self.pay(found)
     }
 
     fn slice(&mut self, alloc: Global, from: bool, to: bool) -> Result<(), EvalFault>
@@ -169,7 +180,11 @@ impl Machine {
         let to = take_side(&mut self.values, to);
         let from = take_side(&mut self.values, from);
         let value = take(&mut self.values);
-        self.pay(slice_by(alloc, &value, from.as_ref(), to.as_ref()))
+        let found = slice_by(alloc, &value, from.as_ref(), to.as_ref());
+        drop(value);
+        drop(from);
+        drop(to);
+        self.pay(found)
     }
 
     fn begin(&mut self, alloc: Global) -> Result<(), EvalFault>
@@ -225,20 +240,24 @@ impl Machine {
         ensures { (s : Setting) → s.scopes ≡ scopes_of context.now → Does (IsStep s (Node.Call word) (values_in self.old) (parts_in self.old) self.old.passed self.old.spent) result self.new }
     {
         let part = take_gathered(alloc, &mut self.gathered);
-        self.pay_within(called(alloc, word.function, context, &part.values))
+        let found = called(alloc, word.function, context, &part.values);
+        drop(part);
+        self.pay_within(found)
     }
 
     fn close_list(&mut self, alloc: Global) -> Result<(), EvalFault>
         ensures { (s : Setting) → Does (IsStep s Node.Items (values_in self.old) (parts_in self.old) self.old.passed self.old.spent) result self.new }
     {
-        let Gathered { values, members: _ } = take_gathered(alloc, &mut self.gathered);
+        let Gathered { values, members } = take_gathered(alloc, &mut self.gathered);
+        drop(members);
         self.pay(Ok(Doc::List(values)))
     }
 
     fn close_map(&mut self, alloc: Global) -> Result<(), EvalFault>
         ensures { (s : Setting) → Does (IsStep s Node.Entries (values_in self.old) (parts_in self.old) self.old.passed self.old.spent) result self.new }
     {
-        let Gathered { values: _, members } = take_gathered(alloc, &mut self.gathered);
+        let Gathered { values, members } = take_gathered(alloc, &mut self.gathered);
+        drop(values);
         self.pay(map_of(alloc, members))
     }
 

@@ -14,5 +14,5 @@ returns c = λ s same.
     let function = c.args.word.function in
     let scopes = scopes_of c.args.context.now in
     rw same
-    (pays_for_call (λ g. IsCall function scopes g.0) c.called.result (values_in self) (parts_in self) (map part_of (reverse c.take_gathered-part.new.gathered.items)) (part_of c.take_gathered-part.result) self.passed self.spent c.pay_within.result c.pay_within.new.self
-    c.take_gathered-part.ensures.top c.take_gathered-part.ensures.below (subst (λ (ds : List Doc). MeetsWithin 1000000 (IsCall function scopes (documents ds)) c.called.result) c.deref.ensures.value c.called.ensures) c.pay_within.ensures)
+    (pays_for_call (λ g. IsCall function scopes g.0) c.called-found.result (values_in self) (parts_in self) (map part_of (reverse c.take_gathered-part.new.gathered.items)) (part_of c.take_gathered-part.result) self.passed self.spent c.pay_within.result c.pay_within.new.self
+    c.take_gathered-part.ensures.top c.take_gathered-part.ensures.below (subst (λ (ds : List Doc). MeetsWithin 1000000 (IsCall function scopes (documents ds)) c.called-found.result) c.deref.ensures.value c.called-found.ensures) c.pay_within.ensures)

@@ -15,8 +15,8 @@ returns c = λ s.
     let to = document_of_ref c.as_ref-2.result ∙ ap (option_map document) c.as_ref-2.ensures.value in
     let value = document c.take-value.result in
     let meets =
-    subst (λ (e : Option Document). Meets (λ r. r ≡ sliced value e (option_map document c.take_side-to.result)) c.slice_by.result) from
-    (subst (λ (g : Option Document). Meets (λ r. r ≡ sliced value (option_map (λ d. document d.now) c.as_ref.result) g) c.slice_by.result) to c.slice_by.ensures) in
-    pays_for_slice (λ d e g r. r ≡ sliced d e g) c.slice_by.result c.args.from c.args.to (values_in self) (reverse (documents c.take_side-to.new.values.items)) (reverse (documents c.take_side-from.new.values.items)) (reverse (documents c.take-value.new.values.items))
+    subst (λ (e : Option Document). Meets (λ r. r ≡ sliced value e (option_map document c.take_side-to.result)) c.slice_by-found.result) from
+    (subst (λ (g : Option Document). Meets (λ r. r ≡ sliced value (option_map (λ d. document d.now) c.as_ref.result) g) c.slice_by-found.result) to c.slice_by-found.ensures) in
+    pays_for_slice (λ d e g r. r ≡ sliced d e g) c.slice_by-found.result c.args.from c.args.to (values_in self) (reverse (documents c.take_side-to.new.values.items)) (reverse (documents c.take_side-from.new.values.items)) (reverse (documents c.take-value.new.values.items))
     value (option_map document c.take_side-from.result) (option_map document c.take_side-to.result) (parts_in self) self.passed self.spent c.pay.result c.pay.new.self
     c.take_side-to.ensures.top c.take_side-to.ensures.below c.take_side-from.ensures.top c.take_side-from.ensures.below c.take-value.ensures.top c.take-value.ensures.below meets c.pay.ensures
