@@ -171,9 +171,16 @@ impl<'a> Renderer<'a> {
         ensures scopes { Kept result (scopes_of self.old.context) (scopes_of self.new.context) }
     {
         let Ok(items) = into_list(value) else {
+            drop(initial);
             return Err(here(alloc, Fault::WrongKind));
         };
-        let turns = numbered(alloc, items)?;
+        let turns = match numbered(alloc, items) {
+            Ok(turns) => turns,
+            Err(_) => {
+                drop(initial);
+                return Err(RenderFault::NoMemory);
+            }
+        };
         let mut before = initial;
         for (item, index) in turns {
             let height = self.height();

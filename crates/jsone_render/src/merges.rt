@@ -67,7 +67,10 @@ fn deep(alloc: Global, later: &Doc, before: Option<Doc>) -> Result<Doc, AllocErr
             },
             None => later.clone(),
         },
-        _ => later.clone(),
+        _ => {
+            drop(before);
+            later.clone()
+        }
     }
 }
 
@@ -96,7 +99,10 @@ fn list_in(before: Option<Doc>) -> Option<Vec<Doc>>
     match before {
         Some(value) => match into_list(value) {
             Ok(items) => Some(items),
-            Err(_) => None,
+            Err(value) => {
+                drop(value);
+                None
+            }
         },
         None => None,
     }

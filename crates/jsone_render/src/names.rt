@@ -18,6 +18,7 @@ fn is_word_byte(byte: u8) -> bool
     is_letter(byte) | byte.is_ascii_digit()
 }
 
+/// Whether a text is this word.
 fn is(text: &[u8], word: &str) -> bool
     ensures { result ≡ bytes_eq text.now word.now }
 {

@@ -1058,14 +1058,14 @@ reduced-loop-item-init t c =
     let d = document c.args.value in
     let scopes = scopes_of c.args.self.now.context in
     let n = c.args.self.now.cost.spent in
-    let turns : into_iter_items c.into_iter-item-iterator.result ≡ c.in_ok-turns.turns.items = grind (arith, common_steps) in
+    let turns : into_iter_items c.into_iter-item-iterator.result ≡ c.in-Ok-numbered.turns.items = grind (arith, common_steps) in
     record {
-      leads = λ o h. reduce_list body names initial d (documents c.in-Ok.items.items) (pairs_of (into_iter_items c.into_iter-item-iterator.result)) scopes n o c.in-Ok.ensures (ap pairs_of turns ∙ c.in_ok-turns.ensures) h;
+      leads = λ o h. reduce_list body names initial d (documents c.in-Ok.items.items) (pairs_of (into_iter_items c.into_iter-item-iterator.result)) scopes n o c.in-Ok.ensures (ap pairs_of turns ∙ c.in-Ok-numbered.ensures) h;
       same = refl;
     }
 
-pub reduced-returns-in-Err-clause-answers : goal.reduced-returns-in-Err-clause-answers
-reduced-returns-in-Err-clause-answers t c =
+pub reduced-returns-in-Err-operand-clause-answers : goal.reduced-returns-in-Err-operand-clause-answers
+reduced-returns-in-Err-operand-clause-answers t c =
     let l = c.loop-item in
     let body : Meaning = MemberRenders c.args.key.now (members_in c.args.members.now.entries) in
     let names = names_in c.args.names in
@@ -1083,8 +1083,8 @@ reduced-returns-in-Err-clause-answers t c =
     let within = scopes ++ bound_to names (before ∷ both turn) in
     let inside = scopes_of c.bind_three.new.self.context in
     let cost = ap (λ (x : Cost). x.spent) c.in_ok-bind_three.ensures.cost in
-    let f = c.in-Err.fault in
-    reduce_fault whole body names before rest left turn scopes n m m f (ap pairs_of next) l.invariant.leads (body_fault body within inside n c.bind_three.new.self.cost.spent m f c.in_ok-bind_three.ensures.scopes cost c.in-Err.ensures.answers)
+    let f = c.in-Err-operand.fault in
+    reduce_fault whole body names before rest left turn scopes n m m f (ap pairs_of next) l.invariant.leads (body_fault body within inside n c.bind_three.new.self.cost.spent m f c.in_ok-bind_three.ensures.scopes cost c.in-Err-operand.ensures.answers)
 
 pub reduced-loop-item-preserved : goal.reduced-loop-item-preserved
 reduced-loop-item-preserved t c =
