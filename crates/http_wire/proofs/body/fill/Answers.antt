@@ -43,7 +43,7 @@ pub returns-in-Err-clause-stop : goal.returns-in-Err-clause-stop
 returns-in-Err-clause-stop g c = tt
 
 pub returns-in-Err-clause-only_reads : goal.returns-in-Err-clause-only_reads
-returns-in-Err-clause-only_reads g c = record { later = le_refl _; reads = refl; written = refl; write_faults = refl; }
+returns-in-Err-clause-only_reads g c = record { later = le_refl _; reads = refl; written = refl; write_faults = refl }
 
 pub returns-in-Ok-read-clause-same : goal.returns-in-Ok-read-clause-same
 returns-in-Ok-read-clause-same g c = tt
@@ -52,7 +52,7 @@ pub returns-in-Ok-read-clause-stop : goal.returns-in-Ok-read-clause-stop
 returns-in-Ok-read-clause-stop g c = tt
 
 pub returns-in-Ok-read-clause-only_reads : goal.returns-in-Ok-read-clause-only_reads
-returns-in-Ok-read-clause-only_reads g c = record { later = c.in-Ok-read.ensures.cause.later; reads = c.in-Ok-read.ensures.cause.kept; written = c.in-Ok-read.ensures.written; write_faults = c.in-Ok-read.ensures.write_faults; }
+returns-in-Ok-read-clause-only_reads g c = record { later = c.in-Ok-read.ensures.cause.later; reads = c.in-Ok-read.ensures.cause.kept; written = c.in-Ok-read.ensures.written; write_faults = c.in-Ok-read.ensures.write_faults }
 
 pub returns-in-Err-read-clause-count : goal.returns-in-Err-read-clause-count
 returns-in-Err-read-clause-count g c = tt

@@ -38,7 +38,7 @@ pub returns-in-Err-clause-ended : goal.returns-in-Err-clause-ended
 returns-in-Err-clause-ended g c = tt
 
 pub loop-filled-init : goal.loop-filled-init
-loop-filled-init g c = record { same_length = refl; within = omega arith; bytes = Consumes-nil _; reads = refl; written = refl; write_faults = refl; untouched = λ none. refl; }
+loop-filled-init g c = record { same_length = refl; within = omega arith; bytes = Consumes-nil _; reads = refl; written = refl; write_faults = refl; untouched = λ none. refl }
 
 pub returns-in-Ok-eq0-clause-bytes : goal.returns-in-Ok-eq0-clause-bytes
 returns-in-Ok-eq0-clause-bytes g c = tt
@@ -50,7 +50,7 @@ pub returns-in-Ok-eq0-clause-only_reads : goal.returns-in-Ok-eq0-clause-only_rea
 returns-in-Ok-eq0-clause-only_reads g c =
     let old = c.loop-filled.invariant in
     let reads = c.in-Ok-eq0.ensures.cause.kept ∙ old.reads in
-    record { later = le_of_eq (sym reads); reads = reads; written = c.in-Ok-eq0.ensures.written ∙ old.written; write_faults = c.in-Ok-eq0.ensures.write_faults ∙ old.write_faults; }
+    record { later = le_of_eq (sym reads); reads = reads; written = c.in-Ok-eq0.ensures.written ∙ old.written; write_faults = c.in-Ok-eq0.ensures.write_faults ∙ old.write_faults }
 
 pub returns-clause-stop : goal.returns-clause-stop
 returns-clause-stop g c = tt
@@ -61,7 +61,7 @@ returns-clause-ended g c = tt
 pub returns-clause-only_reads : goal.returns-clause-only_reads
 returns-clause-only_reads g c =
     let old = c.loop-filled.invariant in
-    record { later = le_of_eq (sym old.reads); reads = old.reads; written = old.written; write_faults = old.write_faults; }
+    record { later = le_of_eq (sym old.reads); reads = old.reads; written = old.written; write_faults = old.write_faults }
 
 pub returns-clause-untouched : goal.returns-clause-untouched
 returns-clause-untouched g c = c.loop-filled.invariant.untouched

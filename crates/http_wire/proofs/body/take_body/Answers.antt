@@ -87,7 +87,7 @@ pub returns-in-Err-clause-stop : goal.returns-in-Err-clause-stop
 returns-in-Err-clause-stop g c = tt
 
 pub returns-in-Err-clause-only_reads : goal.returns-in-Err-clause-only_reads
-returns-in-Err-clause-only_reads g c = record { later = le_refl _; reads = refl; written = refl; write_faults = refl; }
+returns-in-Err-clause-only_reads g c = record { later = le_refl _; reads = refl; written = refl; write_faults = refl }
 
 pub returns-in-Err-clause-untouched : goal.returns-in-Err-clause-untouched
 returns-in-Err-clause-untouched g c all = refl
@@ -105,7 +105,7 @@ pub returns-in-Err-resize-clause-stop : goal.returns-in-Err-resize-clause-stop
 returns-in-Err-resize-clause-stop g c = tt
 
 pub returns-in-Err-resize-clause-only_reads : goal.returns-in-Err-resize-clause-only_reads
-returns-in-Err-resize-clause-only_reads g c = record { later = le_refl _; reads = refl; written = refl; write_faults = refl; }
+returns-in-Err-resize-clause-only_reads g c = record { later = le_refl _; reads = refl; written = refl; write_faults = refl }
 
 pub returns-in-Err-resize-clause-untouched : goal.returns-in-Err-resize-clause-untouched
 returns-in-Err-resize-clause-untouched g c all = refl
@@ -132,4 +132,4 @@ pub returns-clause-stop : goal.returns-clause-stop
 returns-clause-stop g c = tt
 
 pub returns-clause-only_reads : goal.returns-clause-only_reads
-returns-clause-only_reads g c = let now = c.in_default.ensures.only_reads in record { later = now.later; reads = now.reads; written = now.written; write_faults = now.write_faults; }
+returns-clause-only_reads g c = let now = c.in_default.ensures.only_reads in record { later = now.later; reads = now.reads; written = now.written; write_faults = now.write_faults }

@@ -58,7 +58,7 @@ returns-in-Ok-eq0-clause-only_reads g c =
     let old = c.pieces.invariant in
     let now = c.in-Ok-eq0.ensures.only_reads in
     let reads = now.reads ∙ old.reads in
-    record { later = le_of_eq (sym reads); reads = reads; written = now.written ∙ old.written; write_faults = now.write_faults ∙ old.write_faults; }
+    record { later = le_of_eq (sym reads); reads = reads; written = now.written ∙ old.written; write_faults = now.write_faults ∙ old.write_faults }
 
 pub returns-in-Ok-eq0-clause-grown : goal.returns-in-Ok-eq0-clause-grown
 returns-in-Ok-eq0-clause-grown g c = GrowsOpen-none _ _ _ c.pieces.invariant.grown (c.in-Ok-eq0.ensures.end c.in-Ok-eq0.field-0-test).0 (omega (arith, c.pieces.invariant.short, c.pieces.held.ok.0)) c.pieces.invariant.neither
@@ -97,7 +97,7 @@ returns-then-len-ge-HEAD_LIMIT-clause-only_reads g c =
     let old = c.pieces.invariant in
     let now = c.in-Ok.ensures.only_reads in
     let reads = now.reads ∙ old.reads in
-    record { later = le_of_eq (sym reads); reads = reads; written = now.written ∙ old.written; write_faults = now.write_faults ∙ old.write_faults; }
+    record { later = le_of_eq (sym reads); reads = reads; written = now.written ∙ old.written; write_faults = now.write_faults ∙ old.write_faults }
 
 pub returns-then-len-ge-HEAD_LIMIT-clause-grown : goal.returns-then-len-ge-HEAD_LIMIT-clause-grown
 returns-then-len-ge-HEAD_LIMIT-clause-grown g c =

@@ -131,7 +131,7 @@ pub returns-in-Err-message_of-clause-leaves : goal.returns-in-Err-message_of-cla
 returns-in-Err-message_of-clause-leaves g c = c.in-Ok.ensures.kept
 
 pub returns-in-Err-message_of-clause-only_reads : goal.returns-in-Err-message_of-clause-only_reads
-returns-in-Err-message_of-clause-only_reads g c = let now = c.in-Ok.ensures.only_reads in record { later = now.later; reads = now.reads; written = now.written; write_faults = now.write_faults; }
+returns-in-Err-message_of-clause-only_reads g c = let now = c.in-Ok.ensures.only_reads in record { later = now.later; reads = now.reads; written = now.written; write_faults = now.write_faults }
 
 pub returns-in-Err-message_of-clause-untouched : goal.returns-in-Err-message_of-clause-untouched
 returns-in-Err-message_of-clause-untouched g c finished = (c.in-Ok.ensures.untouched finished).0
@@ -153,7 +153,7 @@ returns-in-Ok-take_body-clause-only_reads g c =
     let old = c.in-Ok.ensures.only_reads in
     let now = c.in-Ok-take_body.ensures.only_reads in
     let reads = now.reads ∙ old.reads in
-    record { later = le_of_eq (sym reads); reads = reads; written = now.written ∙ old.written; write_faults = now.write_faults ∙ old.write_faults; }
+    record { later = le_of_eq (sym reads); reads = reads; written = now.written ∙ old.written; write_faults = now.write_faults ∙ old.write_faults }
 
 pub returns-in-Err-take_body-clause-message : goal.returns-in-Err-take_body-clause-message
 returns-in-Err-take_body-clause-message g c = tt

@@ -81,7 +81,7 @@ loop-at-preserved g c =
     }
 
 pub loop-at-init : goal.loop-at-init
-loop-at-init g c = record { room = c.requires; kept = Keeps-refl _; reads = refl; written = refl; write_faults = refl; untouched = λ _. (refl, refl); grown = inl refl; }
+loop-at-init g c = record { room = c.requires; kept = Keeps-refl _; reads = refl; written = refl; write_faults = refl; untouched = λ _. (refl, refl); grown = inl refl }
 
 pub returns-in-Head-clause-head : goal.returns-in-Head-clause-head
 returns-in-Head-clause-head g c = subst (λ (held : List ℕ). IsHeadAt held c.look_at.new.spans c.in-Head.at) c.deref.ensures.value c.in-Head.ensures
@@ -98,7 +98,7 @@ returns-in-Head-clause-ended g c = tt
 pub returns-in-Head-clause-only_reads : goal.returns-in-Head-clause-only_reads
 returns-in-Head-clause-only_reads g c =
     let old = c.loop-at.invariant in
-    record { later = le_of_eq (sym old.reads); reads = old.reads; written = old.written; write_faults = old.write_faults; }
+    record { later = le_of_eq (sym old.reads); reads = old.reads; written = old.written; write_faults = old.write_faults }
 
 pub returns-in-Head-clause-untouched : goal.returns-in-Head-clause-untouched
 returns-in-Head-clause-untouched g c = c.loop-at.invariant.untouched
@@ -118,7 +118,7 @@ returns-in-Fault-clause-ended g c = tt
 pub returns-in-Fault-clause-only_reads : goal.returns-in-Fault-clause-only_reads
 returns-in-Fault-clause-only_reads g c =
     let old = c.loop-at.invariant in
-    record { later = le_of_eq (sym old.reads); reads = old.reads; written = old.written; write_faults = old.write_faults; }
+    record { later = le_of_eq (sym old.reads); reads = old.reads; written = old.written; write_faults = old.write_faults }
 
 pub returns-in-Fault-clause-untouched : goal.returns-in-Fault-clause-untouched
 returns-in-Fault-clause-untouched g c = c.loop-at.invariant.untouched
@@ -138,7 +138,7 @@ returns-in-TooLarge-clause-ended g c = tt
 pub returns-in-TooLarge-clause-only_reads : goal.returns-in-TooLarge-clause-only_reads
 returns-in-TooLarge-clause-only_reads g c =
     let old = c.loop-at.invariant in
-    record { later = le_of_eq (sym old.reads); reads = old.reads; written = old.written; write_faults = old.write_faults; }
+    record { later = le_of_eq (sym old.reads); reads = old.reads; written = old.written; write_faults = old.write_faults }
 
 pub returns-in-TooLarge-clause-untouched : goal.returns-in-TooLarge-clause-untouched
 returns-in-TooLarge-clause-untouched g c = c.loop-at.invariant.untouched
@@ -169,7 +169,7 @@ returns-in-Ok-false-clause-only_reads g c =
     let old = c.loop-at.invariant in
     let now = c.in-Ok-false.ensures.only_reads in
     let reads = now.reads ∙ old.reads in
-    record { later = le_of_eq (sym reads); reads = reads; written = now.written ∙ old.written; write_faults = now.write_faults ∙ old.write_faults; }
+    record { later = le_of_eq (sym reads); reads = reads; written = now.written ∙ old.written; write_faults = now.write_faults ∙ old.write_faults }
 
 pub returns-in-Ok-false-2-clause-head : goal.returns-in-Ok-false-2-clause-head
 returns-in-Ok-false-2-clause-head g c = tt
@@ -185,7 +185,7 @@ returns-in-Ok-false-2-clause-only_reads g c =
     let old = c.loop-at.invariant in
     let now = c.in-Ok-false.ensures.only_reads in
     let reads = now.reads ∙ old.reads in
-    record { later = le_of_eq (sym reads); reads = reads; written = now.written ∙ old.written; write_faults = now.write_faults ∙ old.write_faults; }
+    record { later = le_of_eq (sym reads); reads = reads; written = now.written ∙ old.written; write_faults = now.write_faults ∙ old.write_faults }
 
 pub returns-in-Err-clause-head : goal.returns-in-Err-clause-head
 returns-in-Err-clause-head g c = tt
