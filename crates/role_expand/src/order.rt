@@ -202,6 +202,36 @@ impl Search {
         }
         Ok(())
     }
+
+    /// Goes through all that a role leads to and that has not been met.
+    fn visit(&mut self, places: &[usize], links: &[usize], role: usize) -> Result<(), AllocError> {
+        self.enter(role)?;
+        self.run(places, links)
+    }
+
+    /// Goes through all roles in turn.
+    fn visit_all(&mut self, places: &[usize], links: &[usize]) -> Result<(), AllocError> {
+        for role in 0..self.roles {
+            self.visit(places, links, role)?;
+        }
+        Ok(())
+    }
+
+    /// Goes through the roles from the last of these to the first, and gives a rank to those that each leads to.
+    fn rank_all(
+        &mut self,
+        places: &[usize],
+        links: &[usize],
+        turn: &[usize],
+        ranks: &mut [usize],
+    ) -> Result<(), AllocError> {
+        for at in 0..turn.len() {
+            let from = self.left.len();
+            self.visit(places, links, turn[turn.len() - 1 - at])?;
+            rank_from(ranks, &self.left, from, self.roles.saturating_sub(at));
+        }
+        Ok(())
+    }
 }
 
 /// The places of the marks.
@@ -233,11 +263,13 @@ fn left_in_turn(
     roles: usize,
 ) -> Result<Vec<usize>, AllocError> {
     let mut search = Search::new(alloc, places, links, roles)?;
-    for role in 0..roles {
-        search.enter(role)?;
-        search.run(places, links)?;
+    match search.visit_all(places, links) {
+        Ok(()) => Ok(search.left),
+        Err(error) => {
+            drop(search);
+            Err(error)
+        }
     }
-    Ok(search.left)
 }
 
 /// Gives the rank to the roles that stand from a place on.
@@ -249,6 +281,22 @@ fn rank_from(ranks: &mut [usize], roles: &[usize], from: usize, rank: usize)
     }
 }
 
+/// The ranks by a search that begins with the last of these roles.
+fn ranks_by(
+    alloc: Global,
+    places: &[usize],
+    links: &[usize],
+    roles: usize,
+    turn: &[usize],
+) -> Result<Vec<usize>, AllocError> {
+    let mut ranks = vec![in alloc; 0; roles]?;
+    let mut search = Search::new(alloc, places, links, roles)?;
+    let ranked = search.rank_all(places, links, turn, &mut ranks);
+    drop(search);
+    ranked?;
+    Ok(ranks)
+}
+
 /// A rank for each role, the same for roles that lie on one cycle: along an edge it stays or falls.
 pub(crate) fn rank_roles(
     alloc: Global,
@@ -257,15 +305,7 @@ pub(crate) fn rank_roles(
     roles: usize,
 ) -> Result<Vec<usize>, AllocError> {
     let places = places_of(alloc, marks)?;
-    let left = left_in_turn(alloc, &places, links, roles)?;
+    let turn = left_in_turn(alloc, &places, links, roles)?;
     let places = turned(alloc, &places, roles)?;
-    let mut search = Search::new(alloc, &places, links, roles)?;
-    let mut ranks = vec![in alloc; 0; roles]?;
-    for at in 0..left.len() {
-        let from = search.left.len();
-        search.enter(left[left.len() - 1 - at])?;
-        search.run(&places, links)?;
-        rank_from(&mut ranks, &search.left, from, roles.saturating_sub(at));
-    }
-    Ok(ranks)
+    ranks_by(alloc, &places, links, roles, &turn)
 }
