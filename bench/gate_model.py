@@ -26,13 +26,13 @@ TIMES = {
     "plain_text": 0.6, "disk_journal": 1.4, "jsone_eval": 2.4, "command_line": 4.0, "shared_desk": 1.8, "claim_queue": 2.7, "run_states": 2.5,
     "farm_record": 2.3, "jsone_render": 9.1, "call_rules": 2.0, "task_statuses": 1.3, "hook_book": 0.8, "listeners": 1.3, "random_ids": 0.6,
     "farm_rows": 5.0, "load_requests": 0.9, "houses": 2.4, "hook_fire": 1.0, "farm_asks": 3.3, "console_commands": 2.1, "farm_machine": 6.8,
-    "farm_files": 5.4, "api_routes": 3.2, "farm_core": 3.4, "farm_server": 1.9, "farm_serving": 1.8, "farm_laws": 0.8, "farm_bulk": 2.2, "farm_crews": 2.0, "farm_cli": 4.2,
+    "farm_files": 5.4, "api_routes": 3.2, "farm_core": 3.4, "farm_server": 1.9, "farm_serving": 1.8, "farm_laws": 0.8, "farm_bulk": 2.2, "farm_crews": 1.9, "farm_cli": 4.7,
     "task_index": 7.6, "farm": 4.4, "test_calls": 0.4,
 }
 TESTS = {
     "wire_tests": 3.1, "farm_desk": 0.7, "parsing_tests": 1.2, "disk_tests": 2.5, "desk_tests": 1.7, "expression_tests": 3.6, "history": 0.4,
     "queue_tests": 5.3, "sign_tests": 4.4, "rendering_tests": 2.1, "scope_tests": 2.0, "text_tests": 2.4, "task_tests": 6.7, "file_tests": 2.4,
-    "machine_tests": 4.0, "farm_tests": 9.0, "cli_tests": 8.0,
+    "machine_tests": 5.0, "farm_tests": 10.9, "cli_tests": 8.0,
 }
 # An edit over what its crate's seed, a proof of the crate, has left.
 EDIT = 0.3
