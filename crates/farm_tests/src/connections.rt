@@ -6,6 +6,7 @@ ghost use Rattle.farm_machine.specs.Law.{opened};
 ghost use Rattle.farm_machine.specs.Step.{farm_rules};
 ghost use Rattle.farm_server.specs.declared.served.TheConstants.{REQUESTS};
 
+use crate::configs::config_of;
 use farm_asks::question::{Call, Caller, Question};
 use farm_asks::reply::Asked;
 use farm_core::Bare;
@@ -16,7 +17,6 @@ use farm_text::{ListClock, ListDraws, Moment, SlugId};
 use http_wire::{Joined, MemoryLink, MemorySink, MemorySource, Wire};
 use std::alloc::{AllocError, Global};
 use std::test::Fail;
-use test_calls::config_of;
 
 mod answers;
 mod chains;

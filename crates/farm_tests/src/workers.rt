@@ -4,6 +4,7 @@ ghost use Rattle.farm_server.specs.declared.served.TheConstants.{REQUESTS};
 ghost use Rattle.shared_desk.specs.Standing.{fresh_token};
 ghost use Rattle.farm_machine.specs.State.{State};
 
+use crate::configs::config_of;
 use farm_core::{Bare, bare_farms_cross_threads};
 use farm_server::{Gate, NoGate};
 use farm_serving::{Ended, Worker, serve};
@@ -15,7 +16,6 @@ use std::alloc::{AllocError, Global};
 use std::sync::Wait;
 use std::test::Fail;
 use std::thread::Threads;
-use test_calls::config_of;
 
 const PING: &[u8] = b"GET /api/queue/v1/ping HTTP/1.1\r\n\r\n";
 

@@ -1,7 +1,7 @@
 //! Tasks that are made and asked for over connections in memory, with replies worked out by hand.
 use super::rows::{Talk, all_answered};
 use super::*;
-use test_calls::granting;
+use crate::configs::granting;
 
 /// 2024-01-01T00:00:00.000Z.
 pub(super) const CREATED: u64 = 1_704_067_200_000;

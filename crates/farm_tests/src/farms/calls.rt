@@ -1,10 +1,12 @@
 //! Questions about one task, by words, and a farm that is open to all.
+use crate::configs::config_of;
+use crate::machine::calls::call_of;
+use crate::machine::moment;
 use farm_asks::config::Config;
 use farm_asks::question::{Caller, Question};
 use farm_text::SlugId;
 use std::alloc::Global;
 use std::test::Fail;
-use test_calls::{call_of, config_of, moment};
 
 /// A farm that is open to all, with claims of twenty minutes.
 const OPEN: &str = "[[role]]\nid = \"anonymous\"\nscopes = [\"*\"]\n";

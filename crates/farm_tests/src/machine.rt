@@ -4,6 +4,8 @@ ghost use Rattle.farm_text.specs.declared.moment.TheConstants.{LAST_TOLD_MOMENT 
 ghost use Rattle.task_index.specs.Due.{is_due};
 ghost use Rattle.farm_asks.specs.Questions.{IsSaidCall};
 
+use crate::configs::config_of;
+use crate::machine::calls::call_of;
 use farm_asks::config::Config;
 use farm_asks::question::{Call, Caller, Question};
 use farm_asks::reply::Reply;
@@ -12,7 +14,26 @@ use farm_machine::tables::{Tables, due, tick};
 use farm_text::{LAST_TOLD_MOMENT, Moment, SlugId};
 use std::alloc::{AllocError, Global};
 use std::test::Fail;
-use test_calls::{call_of, config_of, moment};
+
+pub(crate) mod calls;
+
+/// 2024-01-01T00:00:00.000Z, when the first task is made.
+const CREATED: u64 = 1_704_067_200_000;
+
+/// The moment so many milliseconds after that, or the first of all, where nothing is said.
+pub(crate) fn moment(after: &str) -> Result<Moment, Fail>
+    ensures { IfOk result (λ moment. moment ≤ last_told) }
+{
+    if after.is_empty() {
+        return Ok(Moment::FIRST);
+    }
+    let after: u64 = after.parse().ok().ok_or("a number")?;
+    let millis = CREATED.checked_add(after).ok_or("a moment")?;
+    match Moment::from_millis(millis) {
+        Some(moment) if moment.millis() <= LAST_TOLD_MOMENT => Ok(moment),
+        _ => Err(Fail::from("no clock tells that moment")),
+    }
+}
 
 /// Resolves what is due at this moment, or at the last one, where that is later.
 fn reach(tables: &mut Tables, at: Moment) -> Result<(), Fail>

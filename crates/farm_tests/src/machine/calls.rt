@@ -69,7 +69,7 @@ fn reclaim(id: SlugId, run: &str) -> Result<Call, Fail>
 }
 
 /// The call of these words, of which the first says what is called: about the task that is written `AAAAAAAAQACAAAAAAAAAAA`, or nothing.
-pub fn call_of(alloc: Global, words: &str) -> Result<Call, Fail>
+pub(crate) fn call_of(alloc: Global, words: &str) -> Result<Call, Fail>
     ensures { IfOk result IsSaidCall }
 {
     let id = SlugId::read(b"AAAAAAAAQACAAAAAAAAAAA").ok_or("a slugid")?;

@@ -5,7 +5,7 @@ use std::alloc::Global;
 use std::test::Fail;
 
 /// The configuration that a farm file says: an empty one has no roles, clients and hooks.
-pub fn config_of(alloc: Global, file: &str) -> Result<Config, Fail> {
+pub(crate) fn config_of(alloc: Global, file: &str) -> Result<Config, Fail> {
     match read_farm(alloc, file.as_bytes()) {
         Ok(config) => Ok(config),
         Err(_) => Err(Fail::from("the file has a fault")),
@@ -13,7 +13,7 @@ pub fn config_of(alloc: Global, file: &str) -> Result<Config, Fail> {
 }
 
 /// The configuration of a farm that takes so many tasks, where whoever gives no credentials has these scopes, a list of TOML.
-pub fn granting(alloc: Global, scopes: &str, max_tasks: u32) -> Result<Config, Fail> {
+pub(crate) fn granting(alloc: Global, scopes: &str, max_tasks: u32) -> Result<Config, Fail> {
     let file = format!(in alloc;
         "[farm]\nmax_tasks = {max_tasks}\n[[role]]\nid = \"anonymous\"\nscopes = {scopes}\n"
     )?;
