@@ -18,7 +18,7 @@ import sys
 # `rattle build` of each library and of each crate's tests, with what the compiler takes, in minutes of a processor: in a run from nothing on 1 December 2026, late,
 # on a machine of 2.5 GHz (role_expand 5.2), until minute 55 with nothing beside it. Of what changed since, or came behind that minute (task_index, farm_rows,
 # farm_machine, farm_files, farm_asks, command_line, farm_text, farm_cli, farm, cli_tests, farm_tests), what the next run took, by how much slower that was at the
-# same minutes; of what changed on 2 December (task_types, http_wire, the crates of templates, farm_crews, machine_tests), what the run of that day took, by how
+# same minutes; of what changed on 2 December (task_types, http_wire, the crates of templates, farm_crews), what the run of that day took, by how
 # much slower the crates beside it were. A crate that is not here takes a few seconds.
 TIMES = {
     "scope_sets": 1.6, "dep_graph": 2.7, "jsone_expr": 3.3, "farm_text": 5.2, "role_expand": 5.5, "octets": 0.4, "causes": 0.4, "route_table": 1.3,
@@ -27,12 +27,12 @@ TIMES = {
     "farm_record": 2.3, "jsone_render": 9.1, "call_rules": 2.0, "task_statuses": 1.3, "hook_book": 0.8, "listeners": 1.3, "random_ids": 0.6,
     "farm_rows": 5.0, "load_requests": 0.9, "houses": 2.4, "hook_fire": 1.0, "farm_asks": 3.3, "console_commands": 2.1, "farm_machine": 6.8,
     "farm_files": 5.4, "api_routes": 3.2, "farm_core": 3.4, "farm_server": 1.9, "farm_serving": 1.8, "farm_laws": 0.8, "farm_bulk": 2.2, "farm_crews": 1.9, "farm_cli": 4.7,
-    "task_index": 7.6, "farm": 4.4, "test_calls": 0.4,
+    "task_index": 7.6, "farm": 4.4,
 }
 TESTS = {
     "wire_tests": 3.1, "farm_desk": 0.7, "parsing_tests": 1.2, "disk_tests": 2.5, "desk_tests": 1.7, "expression_tests": 3.6, "history": 0.4,
     "queue_tests": 5.3, "sign_tests": 4.4, "rendering_tests": 2.1, "scope_tests": 2.0, "text_tests": 2.4, "task_tests": 6.7, "file_tests": 2.4,
-    "machine_tests": 5.0, "farm_tests": 10.9, "cli_tests": 8.0,
+    "farm_tests": 12.4, "cli_tests": 8.0,
 }
 # An edit over what its crate's seed, a proof of the crate, has left.
 EDIT = 0.3
