@@ -5,9 +5,9 @@
 
 Run it at the top of the repository. It spreads the checks as the kit's `rt ci` does: one a processor, as many as memory holds by the kit's own estimate, each
 once the crates below are proved, first those with the longest chain of others behind them; edits where no proof waits for memory. What each check takes is
-TIMES, in minutes of a processor of a slow machine; SLOW (1 if left out) is how slow a machine is beside it: 0.61 for the fastest so far. FREE (24.8
+TIMES, in minutes of a processor of a slow machine; SLOW (1 if left out) is how slow a machine is beside it: 0.57 for the fastest so far. FREE (24.8
 if left out) is the free memory at the start, in GB: so much has a machine of 24 GiB. It proves nothing, and takes a second. What it says is reckoned,
-not measured: 62.4 of the run that it was made from, whose end was reckoned from minute 55 on, too.
+not measured: 62.4 of the run that it was made from, whose end was reckoned from minute 55 on, too; 34 at 0.57 of its times, of a run that took 33.6.
 """
 import glob
 import importlib.machinery
