@@ -39,34 +39,42 @@ def processor(pid):
     return sum(int(open("/proc/%d/task/%s/schedstat" % (pid, thread)).read().split()[0]) for thread in os.listdir("/proc/%d/task" % pid))
 
 
-def read_until(stream, word, count):
-    """Reads replies until so many of them hold the word."""
-    seen, end = 0, b""
-    while seen < count:
-        part = os.read(stream.fileno(), 1 << 16)
-        if not part:
-            sys.exit("%d replies came, of %d" % (seen, count))
-        end += part
-        seen += end.count(word)
-        end = end[max(end.rfind(word) + len(word), len(end) - len(word) + 1):] if word in end else end[-len(word) + 1:]
+def reply(stream):
+    """The next reply: its status and its body."""
+    head = stream.readline()
+    if not head:
+        sys.exit("answer ended before a reply")
+    status, length = int(head.split()[1]), 0
+    while True:
+        line = stream.readline().strip()
+        if not line:
+            return status, stream.read(length)
+        name, value = line.split(b":", 1)
+        if name.lower() == b"content-length":
+            length = int(value)
+
+
+def ask(answer, message):
+    """Sends a message, and reads its reply."""
+    answer.stdin.write(message)
+    answer.stdin.flush()
+    return reply(answer.stdout)
 
 
 def used(folder, count):
     """Seconds of a processor of one claim, where so many tasks are pending."""
     shutil.copy(os.path.join(folder, "%d.disk" % count), os.path.join(folder, "farm.disk"))
     answer = subprocess.Popen([PROGRAM, "answer", "farm.toml", "--disk", "farm.disk"], cwd=folder, stdin=subprocess.PIPE, stdout=subprocess.PIPE)
-    answer.stdin.write(peers.PING)
-    answer.stdin.flush()
-    read_until(answer.stdout, b"HTTP/1.1 200", 1)
+    ask(answer, peers.PING)
     before = processor(answer.pid)
     for _ in range(CLAIMS):
-        answer.stdin.write(peers.claim())
-        answer.stdin.flush()
-        read_until(answer.stdout, b'"takenUntil"', 1)
+        status, body = ask(answer, peers.claim())
+        if status != 200 or b'"takenUntil"' not in body:
+            sys.exit("a claim was answered with %d: %s" % (status, body[:300].decode()))
     after = processor(answer.pid)
     answer.stdin.close()
-    answer.stdout.read()
-    answer.wait()
+    if answer.wait() != 0:
+        sys.exit("answer ended with %d" % answer.returncode)
     return (after - before) / 1e9 / CLAIMS
 
 
